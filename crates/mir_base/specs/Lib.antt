@@ -1,0 +1,3 @@
+pub mod IntKind
+pub mod Trace
+pub mod formers

@@ -1,0 +1,119 @@
+ghost use Rattle.std.specs.Prelude.{◌≡◌, ◌+◌, ◌<◌, [], ◌∷◌, ◌++◌, ◌↔◌, length, slice_get, IsTrue, IfOk, MatchOption, OnOk, OnErr};
+ghost use Rattle.std.specs.Option.{option_copied};
+ghost use Rattle.std.specs.Slice.Iter.{iter_rest};
+
+use crate::NoMemory;
+use std::alloc::Global;
+use std::marker::Model;
+use std::slice::Iter;
+
+/// A `Vec` that contracts see as the list of its elements: two of them are equal where their elements
+/// are, wherever they lie and however much room they have.
+#[derive(Debug, Drop)]
+pub struct List<T> {
+    elements: Vec<T>,
+}
+
+impl<T> Model for List<T> {
+    ghost use Rattle.std.specs.Prelude.{List as Listed};
+    ghost use Rattle.std.specs.Coded.{coded_list};
+
+    ghost Value = { Listed T };
+
+    ghost coded = { coded_list T.code };
+
+    ghost view = { λ list. list.elements.items };
+}
+
+impl<T> List<T> {
+    /// A list without elements. It takes no memory.
+    pub fn new(alloc: Global) -> List<T>
+        ensures { result ≡ [] }
+    {
+        List {
+            elements: Vec::new(alloc),
+        }
+    }
+
+    /// The elements of a `Vec`, without taking memory.
+    pub fn from_vec(elements: Vec<T>) -> List<T>
+        ensures { result ≡ elements.items }
+    {
+        List { elements }
+    }
+
+    /// The elements as a `Vec`, without taking memory.
+    pub fn into_vec(self) -> Vec<T>
+        ensures { result.items ≡ self }
+    {
+        let List { elements } = self;
+        elements
+    }
+
+    pub fn as_slice(&self) -> &[T]
+        ensures { result.now ≡ self.now }
+    {
+        self.elements.as_slice()
+    }
+
+    pub fn len(&self) -> usize
+        ensures { result ≡ length self.now }
+    {
+        self.elements.len()
+    }
+
+    pub fn is_empty(&self) -> bool
+        ensures { IsTrue result ↔ (self.now ≡ []) }
+    {
+        self.elements.is_empty()
+    }
+
+    /// The element at an index from 0, and `None` past the end.
+    pub fn get(&self, index: usize) -> Option<&T>
+        ensures { option_copied result ≡ slice_get self.now index }
+    {
+        self.elements.get(index)
+    }
+
+    /// The elements in order.
+    pub fn iter(&self) -> Iter<'_, T>
+        ensures { iter_rest result ≡ self.now }
+    {
+        self.elements.as_slice().iter()
+    }
+
+    /// Takes the last element away; `None` comes where there is none.
+    pub fn pop(&mut self) -> Option<T>
+        ensures { MatchOption result ((self.old ≡ []) × (self.new ≡ [])) (λ last. self.old ≡ self.new ++ last ∷ []) }
+    {
+        self.elements.pop()
+    }
+}
+
+impl<T: Drop> List<T> {
+    /// Makes the element the last one. Where memory is wanted the list is as it was, and the element is
+    /// dropped.
+    pub fn push(&mut self, element: T) -> Result<(), NoMemory>
+        ensures pushed { OnOk result (self.new ≡ self.old ++ element ∷ []) }
+        ensures refused { OnErr result (self.new ≡ self.old) }
+    {
+        self.elements.push(element)?;
+        Ok(())
+    }
+}
+
+impl<T> From<Vec<T>> for List<T> {
+    ghost from_gives = { λ elements list. list ≡ elements.items };
+
+    fn from(elements: Vec<T>) -> List<T> {
+        List::from_vec(elements)
+    }
+}
+
+impl<T> From<List<T>> for Vec<T> {
+    ghost from_gives = { λ list elements. elements.items ≡ list };
+
+    fn from(list: List<T>) -> Vec<T> {
+        list.into_vec()
+    }
+}

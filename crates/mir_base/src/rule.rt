@@ -1,0 +1,35 @@
+use crate::Pos;
+
+/// The typing rules, by the numbers under which a refusal names them to a user.
+#[derive(Clone, Copy, Debug, PartialEq, Eq, PartialOrd, Ord, Hash)]
+pub enum Rule {
+    T01,
+    T02,
+    T03,
+    T04,
+    T05,
+    T06,
+    T07,
+    T08,
+    T09,
+    T10,
+    T11,
+    T12,
+    T13,
+    T14,
+    T15,
+    T16,
+    T17,
+    T18,
+    T19,
+    T20,
+}
+
+/// Why a program is not typed.
+#[derive(Clone, Copy, Debug, PartialEq, Eq)]
+pub enum RuleError {
+    /// The program breaks a rule at a place.
+    Broken { rule: Rule, at: Pos },
+    /// Memory was wanted and could not be had.
+    Memory,
+}
