@@ -1,3 +1,4 @@
 pub mod IntKind
+pub mod Lending
 pub mod Trace
 pub mod formers

@@ -1,11 +1,18 @@
-ghost use Rattle.std.specs.Prelude.{◌≡◌, ◌+◌, ◌<◌, [], ◌∷◌, ◌++◌, ◌↔◌, length, slice_get, IsTrue, IfOk, MatchOption, OnOk, OnErr};
+ghost use Rattle.std.specs.Prelude.{◌≡◌, ◌<◌, ◌≤◌, ◌^◌, [], ◌∷◌, ◌++◌, ◌↔◌, length, take, slice_get, slice_set, IsTrue, MatchOption, OnOk, OnErr, Some};
 ghost use Rattle.std.specs.Option.{option_copied};
+ghost use Rattle.std.specs.Borrow.{sem};
+ghost use Rattle.std.specs.Iterator.Adapters.{IterYieldsInOrder};
+ghost use Rattle.std.specs.Iterator.Runs.{EveryRun, ItemsAre};
 ghost use Rattle.std.specs.Slice.Iter.{iter_rest};
+ghost use Rattle.std.specs.Vec.Iter.{into_iter_items, into_iter_len, into_iter_steps};
+ghost use Rattle.std.specs.declared.alloc.Global.{Global as heap};
+ghost use Rattle.mir_base.specs.Lending.{LendsElement};
 
 use crate::NoMemory;
 use std::alloc::Global;
 use std::marker::Model;
 use std::slice::Iter;
+use std::vec::IntoIter;
 
 /// A `Vec` that contracts see as the list of its elements: two of them are equal where their elements
 /// are, wherever they lie and however much room they have.
@@ -75,9 +82,20 @@ impl<T> List<T> {
         self.elements.get(index)
     }
 
+    /// The element at an index from 0, to be changed in its place.
+    pub fn element_mut(&mut self, index: usize) -> &mut T
+        requires { index < length self.old }
+        ensures* writes_back { sem 𝓛 (LendsElement T.row self.entry index result) }
+        ensures value { slice_get self.old index ≡ Some result.now }
+    {
+        &mut self.elements[index]
+    }
+
     /// The elements in order.
     pub fn iter(&self) -> Iter<'_, T>
-        ensures { iter_rest result ≡ self.now }
+        ensures rest { iter_rest result ≡ self.now }
+        ensures bound { length (iter_rest result) < 2 ^ 64 }
+        ensures runs { IterYieldsInOrder T }
     {
         self.elements.as_slice().iter()
     }
@@ -91,6 +109,21 @@ impl<T> List<T> {
 }
 
 impl<T: Drop> List<T> {
+    /// Puts an element in the place of the one at an index from 0, which is dropped.
+    pub fn set(&mut self, index: usize, element: T)
+        requires { index < length self.old }
+        ensures { self.new ≡ slice_set self.old index element }
+    {
+        self.elements[index] = element;
+    }
+
+    /// Keeps the first `count` elements, or all where there are no more, and drops the others.
+    pub fn truncate(&mut self, count: usize)
+        ensures { self.new ≡ take count self.old }
+    {
+        self.elements.truncate(count);
+    }
+
     /// Makes the element the last one. Where memory is wanted the list is as it was, and the element is
     /// dropped.
     pub fn push(&mut self, element: T) -> Result<(), NoMemory>
@@ -99,6 +132,30 @@ impl<T: Drop> List<T> {
     {
         self.elements.push(element)?;
         Ok(())
+    }
+}
+
+impl<'a, T> IntoIterator for &'a List<T> {
+    type Item = &'a T;
+
+    type IntoIter = Iter<'a, T>;
+
+    ghost into_iter_gives = { λ list it. (iter_rest it ≡ list.now) × (length (iter_rest it) < 2 ^ 64) × IterYieldsInOrder T };
+
+    fn into_iter(self) -> Iter<'a, T> {
+        self.iter()
+    }
+}
+
+impl<T: Drop> IntoIterator for List<T> {
+    type Item = T;
+
+    type IntoIter = IntoIter<T>;
+
+    ghost into_iter_gives = { λ list it. (into_iter_items it ≡ list) × (into_iter_len it ≡ length list) × (into_iter_len it < 2 ^ 64) × EveryRun (into_iter_steps {X = T} {Z = heap}) (λ run. ItemsAre run (into_iter_items run.from)) };
+
+    fn into_iter(self) -> IntoIter<T> {
+        self.into_vec().into_iter()
     }
 }
 
