@@ -1,4 +1,5 @@
 pub mod IntKind
 pub mod Lending
+pub mod Lines
 pub mod Trace
 pub mod formers
