@@ -38,6 +38,44 @@ pub enum FirstStmt {
     Inner(FirstBlock),
 }
 
+/// A word or a mark that stands for itself in a program.
+#[derive(Clone, Copy, Debug)]
+pub enum Fixed {
+    Struct,
+    I32,
+    Impl,
+    DropTrait,
+    For,
+    Fn,
+    DropMethod,
+    Mut,
+    SelfWord,
+    Let,
+    Print,
+    OpenBrace,
+    CloseBrace,
+    OpenParenthesis,
+    CloseParenthesis,
+    Semicolon,
+    Equals,
+    Ampersand,
+}
+
+/// A word of a program.
+#[derive(Debug, Drop)]
+pub enum Token {
+    /// One that stands for itself.
+    Reads(Fixed),
+    /// A name that is given to an item or a variable.
+    Gives(Name),
+    /// A struct that a constructor names.
+    NamesStruct(Name),
+    /// A function that a call names.
+    NamesFunction(Name),
+    /// A number.
+    Counts(i32),
+}
+
 /// The identifiers that name nothing of a program's own: the keywords (The Rust Reference, "Keywords",
 /// with those of every edition), and the names of the built-in types, traits and functions.
 pub const RESERVED_WORDS: [&str; 68] = [

@@ -7,4 +7,4 @@
 
 mod first;
 
-pub use first::{First, FirstBlock, FirstItem, FirstStmt, RESERVED_WORDS};
+pub use first::{First, FirstBlock, FirstItem, FirstStmt, Fixed, RESERVED_WORDS, Token};

@@ -5,7 +5,9 @@ use Rattle.std.specs.List.{list_any, list_all}
 use Rattle.mir_base.specs.declared.trace.End.{End}
 use Rattle.mir_base.specs.Lines.{line}
 use Rattle.src_meaning.specs.First.Meaning.{same_name, is_struct, is_function, item_name, body_of, run_of, end_of, text_of_run}
-use Rattle.src_meaning.specs.First.Spelling.{Token, Reads, Gives, NamesStruct, NamesFunction, Counts, Spelled, program_tokens}
+use Rattle.src_meaning.specs.declared.first.Token.{Token}
+use Rattle.src_meaning.specs.declared.first.Token.TheVariants.{Reads, Gives, NamesStruct, NamesFunction, Counts}
+use Rattle.src_meaning.specs.First.Spelling.{Spelled, program_tokens}
 use Rattle.src_meaning.specs.First.Tree.{Statement, Let, Call, Print, Inner, Block, done, next, Item, Plain, Dropping, Function, Program}
 
 -- no two names are the same

@@ -1,0 +1,3 @@
+//! The private reader and runner of the first programs.
+
+mod lexer;

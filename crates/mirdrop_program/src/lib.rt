@@ -1,0 +1,4 @@
+//! The program.
+#![tactic(auto)]
+
+mod first;
