@@ -1,2 +1,4 @@
 pub mod Words
 pub mod Scanning
+pub mod Patterns
+pub mod Bodies

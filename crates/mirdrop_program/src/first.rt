@@ -1,3 +1,4 @@
 //! The private reader and runner of the first programs.
 
 mod lexer;
+mod parser;

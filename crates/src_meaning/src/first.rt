@@ -39,7 +39,7 @@ pub enum FirstStmt {
 }
 
 /// A word or a mark that stands for itself in a program.
-#[derive(Clone, Copy, Debug)]
+#[derive(Clone, Copy, Debug, PartialEq, Eq)]
 pub enum Fixed {
     Struct,
     I32,
