@@ -1,2 +1,5 @@
 pub mod Words
 pub mod Scanning
+pub mod Sound
+pub mod Roles
+pub mod Complete
