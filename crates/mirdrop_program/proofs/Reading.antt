@@ -1,4 +1,7 @@
-pub mod Words
-pub mod Scanning
-pub mod Patterns
 pub mod Bodies
+pub mod Complete
+pub mod Patterns
+pub mod Roles
+pub mod Scanning
+pub mod Sound
+pub mod Words
