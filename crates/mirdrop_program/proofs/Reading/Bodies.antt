@@ -1,5 +1,6 @@
 -- How reading a body goes on after each step.
 use Rattle.std.proofs.Common.{◌≡◌, ℕ, zero, suc, ◌+◌, ◌<◌, ◌≤◌, Bool, true, false, Option, Some, None, List, [], ◌∷◌, ◌++◌, length, drop, refl, ap, sym, ◌∙◌, arith, drop-drop, nat_lt}
+use Rattle.std.proofs.lemmas.Bool.{lt-ltb, le-ltb}
 use Rattle.src_meaning.specs.First.Tree.{Statement, Inner, Block, block_of, the_block}
 use Rattle.src_meaning.specs.declared.first.FirstBlock.{FirstBlock}
 use Rattle.src_meaning.specs.declared.first.Token.{Token}
@@ -52,8 +53,30 @@ module _ (tokens : List Token) (at : ℕ) (inner : List Statement) (outer : List
 
   pub opens_at : (after : OpenBlocks) → step_of (drop at tokens) ≡ Opens → length outer < 31 → IsOpen after [] (inner ∷ outer)
       → body_of 0 (drop at tokens) inner outer ≡ body_of 0 (drop (at + 1) tokens) (statements_of after.inner) (blocks_of after.outer)
-  opens_at after e room is = opens inner outer (drop at tokens) e (ltb-of_lt room) ∙ rw (is.inner_is, is.outer_is, drop-drop) refl
+  opens_at after e room is = opens inner outer (drop at tokens) e (lt-ltb _ _ room) ∙ rw (is.inner_is, is.outer_is, drop-drop) refl
 
-  pub leaves_at : (after : OpenBlocks) → step_of (drop at tokens) ≡ Closes → left inner outer None after
-      → body_of 0 (drop at tokens) inner outer ≡ body_of 0 (drop (at + 1) tokens) (statements_of after.inner) (blocks_of after.outer)
-  leaves_at after e h = ?
+  pub too_deep_at : step_of (drop at tokens) ≡ Opens → 31 ≤ length outer → body_of 0 (drop at tokens) inner outer ≡ None
+  too_deep_at e full = too_deep inner outer (drop at tokens) e (le-ltb _ _ full)
+
+  pub wrong_at : step_of (drop at tokens) ≡ Wrong → body_of 0 (drop at tokens) inner outer ≡ None
+  wrong_at e = wrong inner outer (drop at tokens) e
+
+-- closing a block
+pub leaves_at : (tokens : List Token) (at : ℕ) (inner : List Statement) (outer : List (List Statement)) (after : OpenBlocks)
+    → step_of (drop at tokens) ≡ Closes → left inner outer None after
+    → body_of 0 (drop at tokens) inner outer ≡ body_of 0 (drop (at + 1) tokens) (statements_of after.inner) (blocks_of after.outer)
+leaves_at tokens at inner [] after e h = absurd h
+leaves_at tokens at inner (around ∷ outer) after e h =
+    closes_inner inner around outer (drop at tokens) e ∙ rw (h.inner_is, h.outer_is, drop-drop) refl
+
+pub ends_at : (tokens : List Token) (at : ℕ) (inner : List Statement) (outer : List (List Statement)) (after : OpenBlocks) (block : FirstBlock)
+    → step_of (drop at tokens) ≡ Closes → left inner outer (Some block) after
+    → body_of 0 (drop at tokens) inner outer ≡ Some (the_block block, drop (at + 1) tokens)
+ends_at tokens at inner [] after block e h = closes_body inner (drop at tokens) e ∙ rw (h, drop-drop) refl
+ends_at tokens at inner (around ∷ outer) after block e h = absurd h
+
+-- what closing a block around another leaves
+pub leaving : (inner around : List Statement) (outers : List (List Statement)) (after : OpenBlocks)
+    → outers ≡ around ∷ blocks_of after.outer → statements_of after.inner ≡ around ++ Inner (block_of inner) ∷ []
+    → left inner outers None after
+leaving inner around outers after e h = rw e (record { inner_is = h; outer_is = refl })

@@ -1,6 +1,6 @@
-ghost use Rattle.std.specs.Prelude.{◌≡◌, ◌↔◌, ◌<◌, ◌≤◌, [], ◌∷◌, ◌++◌, IsTrue, OnOk, IfOk, MatchOption, OnSome, IfSome, slice_get, length};
+ghost use Rattle.std.specs.Prelude.{◌≡◌, ◌↔◌, ◌<◌, ◌≤◌, [], ◌∷◌, ◌++◌, IsTrue, OnOk, IfOk, MatchOption, OnSome, IfSome, slice_get, length, drop};
 ghost use Rattle.std.specs.Option.{option_copied};
-ghost use Rattle.src_meaning.specs.First.Tree.{the_statement};
+ghost use Rattle.src_meaning.specs.First.Tree.{the_statement, Inner, block_of};
 ghost use Rattle.mirdrop_program.specs.First.Parsing.{Fits, BeginsWith, token_name, token_number, step_of, Takes, IsStep, step_size, statements_of, blocks_of, IsOpen, HasLeft, body_of, body_read};
 
 use mir_base::{List, Name, NoMemory};
@@ -165,6 +165,12 @@ fn next_step(alloc: Global, tokens: &[Token]) -> Result<Step, NoMemory>
     if begins(tokens, &CLOSE) { Ok(Step::Close) } else { Ok(Step::Wrong) }
 }
 
+fn inner_block(stmts: List<FirstStmt>) -> FirstStmt
+    ensures { the_statement result ≡ Inner (block_of (statements_of stmts)) }
+{
+    FirstStmt::Inner(FirstBlock { stmts })
+}
+
 /// The blocks of a body that are open: the statements so far of the innermost, and of those around it, the
 /// outermost first.
 #[derive(Drop)]
@@ -198,11 +204,19 @@ impl OpenBlocks {
             }
             Some(around) => {
                 let stmts = mem::replace(&mut self.inner, around);
-                self.inner.push(FirstStmt::Inner(FirstBlock { stmts }))?;
+                self.inner.push(inner_block(stmts))?;
                 Ok(None)
             }
         }
     }
+}
+
+/// The tokens from an index on.
+fn tokens_from(tokens: &[Token], at: usize) -> &[Token]
+    requires { at ≤ length tokens.now }
+    ensures { result.now ≡ drop at tokens.now }
+{
+    &tokens[at..]
 }
 
 /// A body that was read, and how many tokens it has after its opening brace.
@@ -226,7 +240,7 @@ pub fn body(alloc: Global, tokens: &[Token]) -> Result<Option<ReadBody>, NoMemor
     };
     let mut at = 0;
     while at < tokens.len() {
-        match next_step(alloc, &tokens[at..])? {
+        match next_step(alloc, tokens_from(tokens, at))? {
             Step::Take(stmt, size) => {
                 blocks.push(stmt)?;
                 at += size;
