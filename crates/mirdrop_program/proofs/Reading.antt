@@ -1,4 +1,5 @@
 pub mod Bodies
+pub mod Items
 pub mod Complete
 pub mod Patterns
 pub mod Roles

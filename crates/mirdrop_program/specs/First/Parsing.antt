@@ -6,11 +6,13 @@ use Rattle.src_meaning.specs.declared.first.FirstStmt.{FirstStmt}
 use Rattle.src_meaning.specs.declared.first.FirstBlock.{FirstBlock}
 use Rattle.src_meaning.specs.declared.first.Token.{Token}
 use Rattle.src_meaning.specs.declared.first.Token.TheVariants.{Reads, Gives, NamesStruct, NamesFunction, Counts}
-use Rattle.src_meaning.specs.First.Tree.{Statement, Let, Call, Print, Inner, Block, block_of, Item, Plain, Dropping, Function, Program, the_statement, the_block}
+use Rattle.src_meaning.specs.First.Meaning.{same_name}
+use Rattle.src_meaning.specs.First.Tree.{Statement, Let, Call, Print, Inner, Block, block_of, Item, Plain, Dropping, Function, Program, the_statement, the_block, the_item}
 use Rattle.mirdrop_program.specs.declared.first.parser.Slot.{Slot}
 use Rattle.mirdrop_program.specs.declared.first.parser.Step.{Step as ReadStep}
 use Rattle.mirdrop_program.specs.declared.first.parser.OpenBlocks.{OpenBlocks}
 use Rattle.mirdrop_program.specs.declared.first.parser.ReadBody.{ReadBody}
+use Rattle.mirdrop_program.specs.declared.first.parser.ReadItem.{ReadItem}
 
 -- a token is of the kind that a slot of a pattern asks for
 abbrev pub Fits : Slot → Token → Type 0
@@ -116,3 +118,69 @@ body_of zero (t ∷ ts) inner outer = after_step (λ skip. body_of skip ts) ts i
 abbrev pub body_read : Option ReadBody → List Token → Body
 body_read None tokens = None
 body_read (Some read) tokens = Some (the_block read.block, drop read.size tokens)
+
+-- what an item begins with
+pub data Head : Type 0 where
+  FunctionHead : (name : List ℕ) → Head
+  StructHead : (name : List ℕ) → Head
+  NoHead : Head
+
+abbrev pub head_of : List Token → Head
+head_of (Reads Fixed.Fn ∷ Gives f ∷ Reads Fixed.OpenParenthesis ∷ Reads Fixed.CloseParenthesis ∷ Reads Fixed.OpenBrace ∷ rest) = FunctionHead f
+head_of (Reads Fixed.Struct ∷ Gives s ∷ Reads Fixed.OpenParenthesis ∷ Reads Fixed.I32 ∷ Reads Fixed.CloseParenthesis ∷ Reads Fixed.Semicolon ∷ rest) = StructHead s
+head_of _ = NoHead
+
+abbrev pub drop_head_of : List Token → Option (List ℕ)
+drop_head_of (Reads Fixed.Impl ∷ Reads Fixed.DropTrait ∷ Reads Fixed.For ∷ Gives s ∷ Reads Fixed.OpenBrace ∷ Reads Fixed.Fn ∷ Reads Fixed.DropMethod ∷ Reads Fixed.OpenParenthesis ∷ Reads Fixed.Ampersand ∷ Reads Fixed.Mut ∷ Reads Fixed.SelfWord ∷ Reads Fixed.CloseParenthesis ∷ Reads Fixed.OpenBrace ∷ rest) = Some s
+drop_head_of _ = None
+
+abbrev pub ItemAnd : Type 0
+ItemAnd = Option (Item × List Token)
+
+abbrev pub function_after : List ℕ → Body → ItemAnd
+function_after name None = None
+function_after name (Some read) = Some (Function name read.0, read.1)
+
+abbrev pub begins_with_close : List Token → Bool
+begins_with_close (Reads Fixed.CloseBrace ∷ rest) = true
+begins_with_close _ = false
+
+-- the brace that closes an impl
+abbrev pub closed_by_brace : Item → List Token → ItemAnd
+closed_by_brace item tokens = if begins_with_close tokens then Some (item, drop 1 tokens) else None
+
+abbrev pub dropping_after : List ℕ → Body → ItemAnd
+dropping_after name None = None
+dropping_after name (Some read) = closed_by_brace (Dropping name read.0) read.1
+
+abbrev pub drop_or_plain : List ℕ → List Token → Option (List ℕ) → ItemAnd
+drop_or_plain name rest None = Some (Plain name, rest)
+drop_or_plain name rest (Some dropped) = if same_name dropped name then dropping_after name (body_of 0 (drop 13 rest) [] []) else None
+
+abbrev pub struct_after : List ℕ → List Token → ItemAnd
+struct_after name rest = drop_or_plain name rest (drop_head_of rest)
+
+abbrev pub item_after : List Token → Head → ItemAnd
+item_after tokens (FunctionHead name) = function_after name (body_of 0 (drop 5 tokens) [] [])
+item_after tokens (StructHead name) = struct_after name (drop 6 tokens)
+item_after tokens NoHead = None
+
+abbrev pub item_of : List Token → ItemAnd
+item_of tokens = item_after tokens (head_of tokens)
+
+abbrev pub item_read : Option ReadItem → List Token → ItemAnd
+item_read None tokens = None
+item_read (Some read) tokens = Some (the_item read.item, drop read.size tokens)
+
+abbrev pub items_after : (Program → List Token → Option Program) → Program → ItemAnd → Option Program
+items_after go items None = None
+items_after go items (Some read) = go (items ++ read.0 ∷ []) read.1
+
+-- at most so many items, after those that were read
+abbrev pub items_of : ℕ → Program → List Token → Option Program
+items_of zero items tokens = None
+items_of (suc most) items [] = Some items
+items_of (suc most) items (t ∷ ts) = items_after (items_of most) items (item_of (t ∷ ts))
+
+abbrev pub program_of : List Token → Option Program
+program_of tokens = items_of (suc (length tokens)) [] tokens

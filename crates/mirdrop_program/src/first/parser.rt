@@ -1,10 +1,10 @@
-ghost use Rattle.std.specs.Prelude.{◌≡◌, ◌↔◌, ◌<◌, ◌≤◌, [], ◌∷◌, ◌++◌, IsTrue, OnOk, IfOk, MatchOption, OnSome, IfSome, slice_get, length, drop};
+ghost use Rattle.std.specs.Prelude.{◌≡◌, ◌↔◌, ◌<◌, ◌≤◌, [], ◌∷◌, ◌++◌, IsTrue, OnOk, IfOk, MatchOption, OnSome, IfSome, slice_get, length, drop, Some, option_map};
 ghost use Rattle.std.specs.Option.{option_copied};
-ghost use Rattle.src_meaning.specs.First.Tree.{the_statement, Inner, block_of};
-ghost use Rattle.mirdrop_program.specs.First.Parsing.{Fits, BeginsWith, token_name, token_number, step_of, Takes, IsStep, step_size, statements_of, blocks_of, IsOpen, HasLeft, body_of, body_read};
+ghost use Rattle.src_meaning.specs.First.Tree.{the_statement, the_program, Inner, block_of};
+ghost use Rattle.mirdrop_program.specs.First.Parsing.{Fits, BeginsWith, token_name, token_number, step_of, Takes, IsStep, step_size, statements_of, blocks_of, IsOpen, HasLeft, body_of, body_read, head_of, drop_head_of, FunctionHead, StructHead, function_after, dropping_after, struct_after, item_of, item_read, program_of, begins_with_close};
 
 use mir_base::{List, Name, NoMemory};
-use src_meaning::{FirstBlock, FirstStmt, Fixed, Token};
+use src_meaning::{First, FirstBlock, FirstItem, FirstStmt, Fixed, Token};
 use std::alloc::Global;
 use std::mem;
 
@@ -262,4 +262,183 @@ pub fn body(alloc: Global, tokens: &[Token]) -> Result<Option<ReadBody>, NoMemor
         }
     }
     Ok(None)
+}
+
+const FUNCTION_HEAD: [Slot; 5] = [
+    Slot::Word(Fixed::Fn),
+    Slot::Given,
+    Slot::Word(Fixed::OpenParenthesis),
+    Slot::Word(Fixed::CloseParenthesis),
+    Slot::Word(Fixed::OpenBrace),
+];
+
+const STRUCT: [Slot; 6] = [
+    Slot::Word(Fixed::Struct),
+    Slot::Given,
+    Slot::Word(Fixed::OpenParenthesis),
+    Slot::Word(Fixed::I32),
+    Slot::Word(Fixed::CloseParenthesis),
+    Slot::Word(Fixed::Semicolon),
+];
+
+const DROP_HEAD: [Slot; 13] = [
+    Slot::Word(Fixed::Impl),
+    Slot::Word(Fixed::DropTrait),
+    Slot::Word(Fixed::For),
+    Slot::Given,
+    Slot::Word(Fixed::OpenBrace),
+    Slot::Word(Fixed::Fn),
+    Slot::Word(Fixed::DropMethod),
+    Slot::Word(Fixed::OpenParenthesis),
+    Slot::Word(Fixed::Ampersand),
+    Slot::Word(Fixed::Mut),
+    Slot::Word(Fixed::SelfWord),
+    Slot::Word(Fixed::CloseParenthesis),
+    Slot::Word(Fixed::OpenBrace),
+];
+
+/// The name of the function that tokens begin with, up to its opening brace.
+fn function_head(alloc: Global, tokens: &[Token]) -> Result<Option<Name>, NoMemory>
+    ensures read { IfOk result (λ r. MatchOption r (¬ BeginsWith FUNCTION_HEAD tokens.now) (λ name. head_of tokens.now ≡ FunctionHead name)) }
+    ensures long { IfOk result (λ r. OnSome r (5 ≤ length tokens.now)) }
+{
+    if !begins(tokens, &FUNCTION_HEAD) {
+        return Ok(None);
+    }
+    match name_at(tokens, 1) {
+        Some(name) => Ok(Some(name.copy(alloc)?)),
+        None => Ok(None),
+    }
+}
+
+/// The name of the struct that tokens begin with.
+fn struct_head(alloc: Global, tokens: &[Token]) -> Result<Option<Name>, NoMemory>
+    ensures read { IfOk result (λ r. MatchOption r (¬ BeginsWith STRUCT tokens.now) (λ name. head_of tokens.now ≡ StructHead name)) }
+    ensures long { IfOk result (λ r. OnSome r (6 ≤ length tokens.now)) }
+{
+    if !begins(tokens, &STRUCT) {
+        return Ok(None);
+    }
+    match name_at(tokens, 1) {
+        Some(name) => Ok(Some(name.copy(alloc)?)),
+        None => Ok(None),
+    }
+}
+
+/// The type of the `Drop` impl that tokens begin with, up to the opening brace of its body.
+fn drop_head(alloc: Global, tokens: &[Token]) -> Result<Option<Name>, NoMemory>
+    ensures read { IfOk result (λ r. r ≡ drop_head_of tokens.now) }
+    ensures long { IfOk result (λ r. OnSome r (13 ≤ length tokens.now)) }
+{
+    if !begins(tokens, &DROP_HEAD) {
+        return Ok(None);
+    }
+    match name_at(tokens, 3) {
+        Some(name) => Ok(Some(name.copy(alloc)?)),
+        None => Ok(None),
+    }
+}
+
+/// An item that was read, and how many tokens it has.
+#[derive(Drop)]
+pub struct ReadItem {
+    pub item: FirstItem,
+    pub size: usize,
+}
+
+/// The body of a function, after its head, which has five tokens.
+fn function_item(alloc: Global, name: Name, tokens: &[Token]) -> Result<Option<ReadItem>, NoMemory>
+    requires { 5 ≤ length tokens.now }
+    ensures read { IfOk result (λ r. item_read r tokens.now ≡ function_after name (body_of 0 (drop 5 tokens.now) [] [])) }
+    ensures within { IfOk result (λ r. IfSome r (λ i. (0 < i.size) × (i.size ≤ length tokens.now))) }
+{
+    match body(alloc, tokens_from(tokens, 5))? {
+        Some(read) => Ok(Some(ReadItem {
+            item: FirstItem::Function(name, read.block),
+            size: 5 + read.size,
+        })),
+        None => Ok(None),
+    }
+}
+
+fn closes(tokens: &[Token]) -> bool
+    ensures value { result ≡ begins_with_close tokens.now }
+    ensures long { IsTrue result → 1 ≤ length tokens.now }
+{
+    begins(tokens, &CLOSE)
+}
+
+/// The `Drop` impl of a struct, after the struct and the impl's head, which have 19 tokens.
+fn dropping_item(alloc: Global, name: Name, tokens: &[Token]) -> Result<Option<ReadItem>, NoMemory>
+    requires { 19 ≤ length tokens.now }
+    ensures read { IfOk result (λ r. item_read r tokens.now ≡ dropping_after name (body_of 0 (drop 19 tokens.now) [] [])) }
+    ensures within { IfOk result (λ r. IfSome r (λ i. (0 < i.size) × (i.size ≤ length tokens.now))) }
+{
+    match body(alloc, tokens_from(tokens, 19))? {
+        Some(read) => {
+            let size = 19 + read.size;
+            if closes(tokens_from(tokens, size)) {
+                Ok(Some(ReadItem {
+                    item: FirstItem::Dropping(name, read.block),
+                    size: size + 1,
+                }))
+            } else {
+                Ok(None)
+            }
+        }
+        None => Ok(None),
+    }
+}
+
+/// A struct, of whose own six tokens the name was read, with the `Drop` impl that follows it, if one does.
+fn struct_item(alloc: Global, name: Name, tokens: &[Token]) -> Result<Option<ReadItem>, NoMemory>
+    requires { 6 ≤ length tokens.now }
+    ensures read { IfOk result (λ r. item_read r tokens.now ≡ struct_after name (drop 6 tokens.now)) }
+    ensures within { IfOk result (λ r. IfSome r (λ i. (0 < i.size) × (i.size ≤ length tokens.now))) }
+{
+    match drop_head(alloc, tokens_from(tokens, 6))? {
+        Some(dropped) => {
+            if dropped == name {
+                dropping_item(alloc, name, tokens)
+            } else {
+                Ok(None)
+            }
+        }
+        None => Ok(Some(ReadItem {
+            item: FirstItem::Plain(name),
+            size: 6,
+        })),
+    }
+}
+
+/// The item that tokens begin with.
+fn item(alloc: Global, tokens: &[Token]) -> Result<Option<ReadItem>, NoMemory>
+    ensures read { IfOk result (λ r. item_read r tokens.now ≡ item_of tokens.now) }
+    ensures within { IfOk result (λ r. IfSome r (λ i. (0 < i.size) × (i.size ≤ length tokens.now))) }
+{
+    if let Some(name) = function_head(alloc, tokens)? {
+        return function_item(alloc, name, tokens);
+    }
+    match struct_head(alloc, tokens)? {
+        Some(name) => struct_item(alloc, name, tokens),
+        None => Ok(None),
+    }
+}
+
+/// The program that tokens are, or `None` where they are no first program.
+pub fn program(alloc: Global, tokens: &[Token]) -> Result<Option<First>, NoMemory>
+    ensures { IfOk result (λ r. option_map the_program r ≡ program_of tokens.now) }
+{
+    let mut items = List::new(alloc);
+    let mut at = 0;
+    while at < tokens.len() {
+        match item(alloc, tokens_from(tokens, at))? {
+            Some(read) => {
+                items.push(read.item)?;
+                at += read.size;
+            }
+            None => return Ok(None),
+        }
+    }
+    Ok(Some(First { items }))
 }
