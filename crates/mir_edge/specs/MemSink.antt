@@ -1,5 +1,5 @@
 -- A sink over memory.
-use Rattle.std.specs.Prelude.{ℕ, ◌-◌, ◌<◌, ◌⊎◌, List, ◌++◌, min, length, take, Contains}
+use Rattle.std.specs.Prelude.{ℕ, ◌-◌, ◌<◌, ◌⊎◌, List, ◌++◌, min, take, Contains}
 use Rattle.mir_edge.specs.Faults.{one_more}
 
 -- the bytes that were taken, for how many more there is room, how many a call takes at most, the

@@ -1,5 +1,5 @@
 -- What reads do to the bytes that a source has left, where it tells them.
-use Rattle.std.specs.Prelude.{◌≡◌, ◌↔◌, ℕ, ◌+◌, ◌<◌, ◌≤◌, List, [], ◌++◌, length, take, drop, Option, Some, Result, MatchResult}
+use Rattle.std.specs.Prelude.{◌≡◌, ◌↔◌, ℕ, ◌≤◌, List, [], ◌++◌, length, take, drop, Option, Some, Result, MatchResult}
 use Rattle.mir_edge.specs.Told.{WhereTold}
 
 -- the first n bytes left are at the front of the piece, and the others are left

@@ -77,9 +77,10 @@ pub fn read_all<S: Source>(
 {
     let mut bytes = Vec::new(alloc);
     let mut piece = [0u8; PIECE];
-    while bytes.len() <= limit {
+    'reading: while bytes.len() <= limit {
         let wanted = PIECE.min(limit + 1 - bytes.len());
-        if read_more(source, &mut piece[..wanted], &mut bytes)? == 0 {
+        let given = read_more(source, &mut piece[..wanted], &mut bytes)?;
+        if given == 0 {
             return Ok(List::from_vec(bytes));
         }
     }
