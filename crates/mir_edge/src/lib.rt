@@ -9,6 +9,8 @@ mod mem_source;
 mod sink;
 mod source;
 mod std_edge;
+#[cfg(test)]
+mod tests;
 
 pub use fault::Fault;
 pub use mem_sink::MemSink;

@@ -96,13 +96,11 @@ impl Sink for MemSink {
         let is_failing = is_listed(self.failing.as_slice(), self.calls);
         self.calls = self.calls.saturating_add(1);
         let count = self.piece.min(from.len());
-        if is_failing
-            || self.room < count
-            || self.bytes.extend_from_slice(&from[..count]).is_err()
-        {
+        if is_failing || self.room < count {
             self.faults = self.faults.saturating_add(1);
             return Err(Fault);
         }
+        self.bytes.extend_from_slice(&from[..count]).unwrap();
         self.room -= count;
         Ok(count)
     }
