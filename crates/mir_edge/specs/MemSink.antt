@@ -3,7 +3,7 @@ use Rattle.std.specs.Prelude.{ℕ, ◌-◌, ◌<◌, ◌⊎◌, List, ◌++◌, 
 use Rattle.mir_edge.specs.Faults.{one_more}
 
 -- the bytes that were taken, for how many more there is room, how many a call takes at most, the
--- numbers of the calls that fail, how many calls there were, and the count of faults
+-- numbers of the calls that fail, counted from 0, how many calls there were, and the count of faults
 pub record MemSinkState : Type 0 where
   pub taken : List ℕ
   pub room : ℕ
@@ -23,7 +23,11 @@ Refuses sink offered = Contains sink.failing sink.calls ⊎ (sink.room < count_t
 -- the sink after a call that took the first n bytes of a piece
 abbrev pub after_taking : ℕ → List ℕ → MemSinkState → MemSinkState
 after_taking n piece sink =
-    record sink { taken = sink.taken ++ take n piece; room = sink.room - n; calls = one_more sink.calls }
+    record sink {
+      taken = sink.taken ++ take n piece;
+      room = sink.room - n;
+      calls = one_more sink.calls;
+    }
 
 -- the sink after a call that failed
 abbrev pub after_failing : MemSinkState → MemSinkState

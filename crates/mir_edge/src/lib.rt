@@ -1,6 +1,7 @@
-//! Where bytes come in and go out: [`Source`] and [`Sink`], which say what they have left or have taken
-//! and count their faults; reading all of a source and writing a whole text; a source and a sink in
-//! memory that fail where they are told to; and std's readers and writers as sources and sinks.
+//! Where bytes come in and go out: [`Source`] and [`Sink`], which tell what they have left or have
+//! taken and count their faults; reading all of a source and writing a whole text; a source and a
+//! sink in memory that fail where they are told to; and std's readers and writers as sources and
+//! sinks.
 #![tactic(auto)]
 
 mod fault;

@@ -9,13 +9,13 @@ use mir_base::{List, NoMemory};
 use std::alloc::Global;
 use std::marker::Model;
 
-/// A sink over memory, for tests: it takes bytes in pieces, as far as there is room, and fails the calls
-/// that it is told to fail.
+/// A sink over memory, for tests: it takes bytes in pieces, as far as there is room, and fails the
+/// calls that it is told to fail.
 ///
-/// Contracts see it as a `MemSinkState`: the bytes that it took, for how many more there is room, how many
-/// a call takes at most, the numbers of the calls that fail, how many calls there were, and the count of
-/// faults. Calls and faults are counted up to the greatest `u64` and stay there; a call past it is no
-/// listed one, since the listed numbers are `u32`.
+/// Contracts see it as a `MemSinkState`: the bytes that it took, for how many more there is room, how
+/// many a call takes at most, the numbers of the calls that fail, how many calls there were, and the
+/// count of faults. Calls and faults are counted up to the greatest `u64` and stay there. A call past
+/// that number is no listed one, since the listed numbers are `u32`.
 #[derive(Debug, Drop)]
 pub struct MemSink {
     bytes: Vec<u8>,
@@ -32,17 +32,32 @@ impl Model for MemSink {
 
     ghost Value = { MemSinkState };
 
-    ghost view = { λ sink. record { taken = sink.bytes.items; room = sink.room; piece = sink.piece; failing = sink.failing; calls = sink.calls; faults = sink.faults } };
+    ghost view = { λ sink. record {
+      taken = sink.bytes.items;
+      room = sink.room;
+      piece = sink.piece;
+      failing = sink.failing;
+      calls = sink.calls;
+      faults = sink.faults;
+    } };
 
-    ghost invariant = { λ sink. (vec_len sink.bytes + sink.room ≤ vec_capacity sink.bytes) × (0 < sink.piece) };
+    ghost invariant = { λ sink.
+        (vec_len sink.bytes + sink.room ≤ vec_capacity sink.bytes) × (0 < sink.piece) };
 }
 
 impl MemSink {
-    /// A sink that has taken nothing and has no room yet, takes at most `piece` bytes per call, and fails
-    /// the calls whose numbers, counted from 0, are listed.
+    /// A sink that has taken nothing and has no room yet, takes at most `piece` bytes per call, which
+    /// is at least 1, and fails the calls whose numbers, counted from 0, are listed.
     pub fn new(alloc: Global, piece: usize, failing: List<u32>) -> MemSink
         requires { 0 < piece }
-        ensures { result ≡ record { taken = []; room = 0; piece = piece; failing = failing; calls = 0; faults = 0 } }
+        ensures { result ≡ record {
+          taken = [];
+          room = 0;
+          piece = piece;
+          failing = failing;
+          calls = 0;
+          faults = 0;
+        } }
     {
         MemSink {
             bytes: Vec::new(alloc),
@@ -61,7 +76,8 @@ impl MemSink {
         self.bytes.as_slice()
     }
 
-    /// Makes room for `n` bytes, where there is less. Each byte that is taken lowers the room by one.
+    /// Makes room for `n` bytes, where there is less. Each byte that is taken lowers the room by
+    /// one, and a write for which there is too little room fails.
     pub fn reserve(&mut self, n: usize) -> Result<(), NoMemory>
         ensures ok { OnOk result (self.new ≡ record self.old { room = max self.old.room n }) }
         ensures refused { OnErr result (self.new ≡ self.old) }

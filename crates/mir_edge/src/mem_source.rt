@@ -7,13 +7,13 @@ use crate::{Fault, Source};
 use mir_base::List;
 use std::marker::Model;
 
-/// A source over bytes in memory, for tests: it gives them in pieces, and fails the calls that it is told
-/// to fail.
+/// A source over bytes in memory, for tests: it gives them in pieces, and fails the calls that it is
+/// told to fail.
 ///
-/// Contracts see it as a `MemSourceState`: the bytes that are left, how many a call gives at most, the
-/// numbers of the calls that fail, how many calls there were, and the count of faults. Calls and faults
-/// are counted up to the greatest `u64` and stay there; a call past it is no listed one, since the listed
-/// numbers are `u32`.
+/// Contracts see it as a `MemSourceState`: the bytes that are left, how many a call gives at most,
+/// the numbers of the calls that fail, how many calls there were, and the count of faults. Calls and
+/// faults are counted up to the greatest `u64` and stay there. A call past that number is no listed
+/// one, since the listed numbers are `u32`.
 #[derive(Debug, Drop)]
 pub struct MemSource {
     bytes: List<u8>,
@@ -30,17 +30,29 @@ impl Model for MemSource {
 
     ghost Value = { MemSourceState };
 
-    ghost view = { λ source. record { unread = drop source.at source.bytes; piece = source.piece; failing = source.failing; calls = source.calls; faults = source.faults } };
+    ghost view = { λ source. record {
+      unread = drop source.at source.bytes;
+      piece = source.piece;
+      failing = source.failing;
+      calls = source.calls;
+      faults = source.faults;
+    } };
 
     ghost invariant = { λ source. (source.at ≤ length source.bytes) × (0 < source.piece) };
 }
 
 impl MemSource {
-    /// A source that has these bytes left, gives at most `piece` of them per call, and fails the calls
-    /// whose numbers, counted from 0, are listed.
+    /// A source that has these bytes left, gives at most `piece` of them per call, which is at least
+    /// 1, and fails the calls whose numbers, counted from 0, are listed.
     pub fn new(bytes: List<u8>, piece: usize, failing: List<u32>) -> MemSource
         requires { 0 < piece }
-        ensures { result ≡ record { unread = bytes; piece = piece; failing = failing; calls = 0; faults = 0 } }
+        ensures { result ≡ record {
+          unread = bytes;
+          piece = piece;
+          failing = failing;
+          calls = 0;
+          faults = 0;
+        } }
     {
         MemSource {
             bytes,

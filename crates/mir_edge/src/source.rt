@@ -10,17 +10,17 @@ use thiserror::Error;
 
 /// Where bytes come from.
 ///
-/// Contracts see two things of it: the bytes that are left, where it tells them, and a count of faults.
-/// The count is a `u64`. Where it stands at the greatest `u64` it cannot be seen to rise, and counts as
-/// risen.
+/// Contracts see two things of it: the bytes that are left, where it tells them, and a count of
+/// faults. The count is a `u64`. Where it stands at the greatest `u64` it cannot be seen to rise, and
+/// counts as risen.
 pub trait Source {
     ghost left: { Self → Option (List ℕ) };
 
     ghost faults: { Self → ℕ };
 
-    /// Moves bytes to the front of `into`, which is not empty, and answers how many. 0 is the end: where
-    /// the source tells its bytes, it comes exactly where none is left. [`Fault`] comes only where the
-    /// count of faults rose in the call, and then no byte was taken.
+    /// Moves bytes to the front of `into`, which is not empty, and answers how many. 0 is the end:
+    /// where the source tells its bytes, it comes exactly where none is left. [`Fault`] comes only
+    /// where the count of faults rose in the call, and then no byte was taken.
     fn read(&mut self, into: &mut [u8]) -> Result<usize, Fault>
         requires { 0 < length into.old }
         ensures within { IfOk result (λ n. n ≤ length into.new) }
@@ -56,24 +56,28 @@ pub fn read_all<S: Source>(
 
     // At any source.
     ensures counts { S.faults source.old ≤ S.faults source.new }
-    ensures read_fault { IsErrOf result ReadAllError.ReadFault → HasRisen (S.faults source.old) (S.faults source.new) }
+    ensures read_fault { IsErrOf result ReadAllError.ReadFault →
+        HasRisen (S.faults source.old) (S.faults source.new) }
     ensures within { IfOk result (λ list. length list ≤ limit) }
 
     // Where the source tells its bytes.
     ensures whole { IfOk result (λ list. WhereTold (S.left source.old) (λ bytes. list ≡ bytes)) }
-    ensures none_left { OnOk result (WhereTold (S.left source.old) (λ _. S.left source.new ≡ Some [])) }
+    ensures none_left { OnOk result (WhereTold (S.left source.old) (λ _.
+        S.left source.new ≡ Some [])) }
     ensures too_long { IsErrOf result ReadAllError.TooLong → WhereTold (S.left source.old) (λ bytes.
         (limit < length bytes) × (S.left source.new ≡ Some (drop (limit + 1) bytes))) }
-    ensures after_fault { IsErrOf result ReadAllError.ReadFault → WhereTold (S.left source.old) (λ bytes.
-        LeavesRest limit bytes (S.left source.new)) }
+    ensures after_fault { IsErrOf result ReadAllError.ReadFault →
+        WhereTold (S.left source.old) (λ bytes. LeavesRest limit bytes (S.left source.new)) }
     ensures after_refusal { OnErr result (WhereTold (S.left source.old) (λ bytes.
         LeavesRest (limit + 1) bytes (S.left source.new))) }
 
-    // Where the source also counts no fault.
+    // Where the source tells its bytes, counts no fault, and memory is not wanted.
     ensures fits { WhereTold (S.left source.old) (λ bytes. length bytes ≤ limit →
-        HasRisen (S.faults source.old) (S.faults source.new) ⊎ IsErrOf result ReadAllError.Memory ⊎ IsOk result) }
+        IsOk result ⊎ IsErrOf result ReadAllError.Memory
+        ⊎ HasRisen (S.faults source.old) (S.faults source.new)) }
     ensures exceeds { WhereTold (S.left source.old) (λ bytes. limit < length bytes →
-        HasRisen (S.faults source.old) (S.faults source.new) ⊎ IsErrOf result ReadAllError.Memory ⊎ IsErrOf result ReadAllError.TooLong) }
+        IsErrOf result ReadAllError.TooLong ⊎ IsErrOf result ReadAllError.Memory
+        ⊎ HasRisen (S.faults source.old) (S.faults source.new)) }
 {
     let mut bytes = Vec::new(alloc);
     let mut piece = [0u8; PIECE];
@@ -98,12 +102,17 @@ fn read_more<S: Source>(
 ) -> Result<usize, ReadAllError>
     requires { 0 < length piece.old }
     ensures counts { S.faults source.old ≤ S.faults source.new }
-    ensures read_fault { IsErrOf result ReadAllError.ReadFault → HasRisen (S.faults source.old) (S.faults source.new) }
+    ensures read_fault { IsErrOf result ReadAllError.ReadFault →
+        HasRisen (S.faults source.old) (S.faults source.new) }
     ensures not_too_long { result ≢ Err ReadAllError.TooLong }
-    ensures grown { IfOk result (λ n. (n ≤ length piece.old) × (vec_len bytes.new ≡ vec_len bytes.old + n)) }
-    ensures ok { IfOk result (λ n. WhereTold (S.left source.old) (λ left. AppendsFirst left (S.left source.new) bytes.old.items bytes.new.items n)) }
-    ensures after_fault { IsErrOf result ReadAllError.ReadFault → WhereTold (S.left source.old) (λ left. S.left source.new ≡ Some left) }
-    ensures after_refusal { OnErr result (WhereTold (S.left source.old) (λ left. LeavesRest (length piece.old) left (S.left source.new))) }
+    ensures grown { IfOk result (λ n.
+        (n ≤ length piece.old) × (vec_len bytes.new ≡ vec_len bytes.old + n)) }
+    ensures ok { IfOk result (λ n. WhereTold (S.left source.old) (λ left.
+        AppendsFirst left (S.left source.new) bytes.old.items bytes.new.items n)) }
+    ensures after_fault { IsErrOf result ReadAllError.ReadFault →
+        WhereTold (S.left source.old) (λ left. S.left source.new ≡ Some left) }
+    ensures after_refusal { OnErr result (WhereTold (S.left source.old) (λ left.
+        LeavesRest (length piece.old) left (S.left source.new))) }
 {
     let given = source.read(piece)?;
     bytes.extend_from_slice(&piece[..given])?;

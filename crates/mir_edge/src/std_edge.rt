@@ -7,11 +7,11 @@ ghost use Rattle.mir_edge.specs.StdEdge.{reader_of, writer_of, faults_of_source,
 use crate::{Fault, Sink, Source};
 use std::io::{Read, Write};
 
-/// A std reader as a source. It tells the bytes that are left where the reader does, as one over memory;
-/// standard input and files tell nothing.
+/// A std reader as a source. It tells the bytes that are left where the reader does, as one over
+/// memory; standard input and files tell nothing.
 ///
-/// Each error of the reader is a fault, `Interrupted` among them: such a read is not tried again. The
-/// count of faults stops at the greatest `u64`.
+/// Each error of the reader is a fault, `Interrupted` among them: such a read is not tried again.
+/// The count of faults stops at the greatest `u64`.
 #[derive(Drop)]
 pub struct StdSource<R> {
     reader: R,
@@ -39,12 +39,15 @@ impl<R: Read> Source for StdSource<R> {
         // As at any source.
         ensures within { IfOk result (λ n. n ≤ length into.new) }
         ensures counts { faults_of_source self.old ≤ faults_of_source self.new }
-        ensures fault { OnErr result (HasRisen (faults_of_source self.old) (faults_of_source self.new)) }
-        ensures bytes { IsRead (R.remaining (reader_of self.old)) (R.remaining (reader_of self.new)) into.new result }
+        ensures fault { OnErr result
+            (HasRisen (faults_of_source self.old) (faults_of_source self.new)) }
+        ensures bytes { IsRead (R.remaining (reader_of self.old)) (R.remaining (reader_of self.new))
+            into.new result }
 
         // Each error is counted once, and nothing else is.
         ensures given { OnOk result (faults_of_source self.new ≡ faults_of_source self.old) }
-        ensures failed { OnErr result (faults_of_source self.new ≡ one_more (faults_of_source self.old)) }
+        ensures failed { OnErr result
+            (faults_of_source self.new ≡ one_more (faults_of_source self.old)) }
     {
         match self.reader.read(into) {
             Ok(count) => Ok(count),
@@ -59,9 +62,9 @@ impl<R: Read> Source for StdSource<R> {
 /// A std writer as a sink. It tells the bytes that it has taken where the writer does, as one over
 /// memory; standard output and files tell nothing.
 ///
-/// Each error of the writer is a fault, `Interrupted` among them, and so is a write that takes no byte of
-/// a piece that is not empty. The count of faults stops at the greatest `u64`. Nothing is flushed: give it
-/// a writer without a buffer of its own, as `io::writer` over standard output is.
+/// Each error of the writer is a fault, `Interrupted` among them, and so is a write that takes no
+/// byte of a piece that is not empty. The count of faults stops at the greatest `u64`. Nothing is
+/// flushed: give it a writer without a buffer of its own, as `io::writer` over standard output is.
 #[derive(Drop)]
 pub struct StdSink<W> {
     writer: W,
@@ -88,12 +91,15 @@ impl<W: Write> Sink for StdSink<W> {
         ensures within { IfOk result (λ n. n ≤ length from.now) }
         ensures some { IfOk result (λ n. 0 < length from.now → 0 < n) }
         ensures counts { faults_of_sink self.old ≤ faults_of_sink self.new }
-        ensures fault { OnErr result (HasRisen (faults_of_sink self.old) (faults_of_sink self.new)) }
-        ensures bytes { IsWrite (W.contents (writer_of self.old)) (W.contents (writer_of self.new)) from.now result }
+        ensures fault { OnErr result
+            (HasRisen (faults_of_sink self.old) (faults_of_sink self.new)) }
+        ensures bytes { IsWrite (W.contents (writer_of self.old)) (W.contents (writer_of self.new))
+            from.now result }
 
         // Each error is counted once, and nothing else is.
         ensures taken { OnOk result (faults_of_sink self.new ≡ faults_of_sink self.old) }
-        ensures failed { OnErr result (faults_of_sink self.new ≡ one_more (faults_of_sink self.old)) }
+        ensures failed { OnErr result
+            (faults_of_sink self.new ≡ one_more (faults_of_sink self.old)) }
     {
         match self.writer.write(from) {
             Ok(count) if count > 0 || from.is_empty() => Ok(count),

@@ -1,3 +1,5 @@
+ghost use Rattle.std.specs.Prelude.{◌<◌, ◌^◌};
+
 use crate::{
     Fault, MemSink, MemSource, ReadAllError, Sink, Source, StdSink, StdSource, WriteFault,
     read_all, write_whole,
@@ -27,8 +29,8 @@ fn answer<S: Source>(alloc: Global, source: &mut S, limit: usize) -> Result<Vec<
 #[test]
 fn all_of_a_source(rt: HostRuntime) -> Result<(), Fail> {
     let alloc = rt.alloc();
-    // How many bytes come in one call, which calls fail, the limit, and what is left after `TooLong` or
-    // the fault, read to its end.
+    // How many bytes come in one call, which calls fail, the limit, the answer, and what is left
+    // then, read to its end.
     let rows: [(usize, &[u32], usize, Result<&[u8], ReadAllError>, &[u8]); 8] = [
         (5, &[], 5, Ok(b"hello"), b""),
         (2, &[], 5, Ok(b"hello"), b""),
