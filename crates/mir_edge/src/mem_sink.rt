@@ -1,4 +1,4 @@
-ghost use Rattle.std.specs.Prelude.{◌≡◌, ◌↔◌, [], ◌<◌, ◌≤◌, length, max, Some, IfOk, OnOk, OnErr, IsErr};
+ghost use Rattle.std.specs.Prelude.{◌≡◌, ◌↔◌, [], ◌<◌, ◌≤◌, length, max, Some, IfOk, OnOk, OnErr, IsOk, IsErr};
 ghost use Rattle.mir_edge.specs.Faults.{HasRisen};
 ghost use Rattle.mir_edge.specs.MemSink.{count_taken, Refuses, after_taking, after_failing};
 ghost use Rattle.mir_edge.specs.Sink.{IsWrite};
@@ -76,10 +76,12 @@ impl MemSink {
         self.bytes.as_slice()
     }
 
-    /// Makes room for `n` bytes, where there is less. Each byte that is taken lowers the room by
-    /// one, and a write for which there is too little room fails.
+    /// Makes room for `n` bytes, where there is less; [`NoMemory`] comes only then, and the sink is as
+    /// it was. Each byte that is taken lowers the room by one, and a write for which there is too
+    /// little room fails.
     pub fn reserve(&mut self, n: usize) -> Result<(), NoMemory>
         ensures ok { OnOk result (self.new ≡ record self.old { room = max self.old.room n }) }
+        ensures enough { n ≤ self.old.room → IsOk result }
         ensures refused { OnErr result (self.new ≡ self.old) }
     {
         if self.room < n {
