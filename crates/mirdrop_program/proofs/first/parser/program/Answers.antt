@@ -1,0 +1,33 @@
+use Rattle.std.proofs.Common.{◌≡◌, ◌∙◌, ◌<◌, ◌≤◌, ◌+◌, length, drop, arith, sym, ap, refl, length-drop, drop-drop}
+use Rattle.std.specs.Prelude.{map}
+use Rattle.std.proofs.Math.ListN.{drop_of_length-le}
+use Rattle.std.proofs.lemmas.List.{map-append}
+use Rattle.src_meaning.specs.First.Tree.{the_item}
+use Rattle.mirdrop_program.specs.First.Parsing.{items_of}
+use Rattle.mirdrop_program.proofs.Reading.Items.{one_more, no_more, no_item}
+use Rattle.mirdrop_program.proofs.first.parser.program.Goals as goal
+
+pub loop-at-preserved : goal.loop-at-preserved
+loop-at-preserved c =
+    let k = c.loop-at in
+    let rest = drop k.at c.args.tokens.now in
+    let within = rw (c.in-Some.is, c.tokens_from.ensures) at c.in_ok-read.ensures.within in
+    let read = rw (c.in-Some.is, c.tokens_from.ensures) at c.in_ok-read.ensures.read in
+    let some : 0 < length rest = rw length-drop (omega arith) in
+    let more = one_more rest _ (map the_item k.items) (the_item c.in-Some.read.item) k.invariant.so_far.0 some k.invariant.so_far.1 read ? in
+    ?
+
+pub returns-in-None : goal.returns-in-None
+returns-in-None c =
+    let k = c.loop-at in
+    let rest = drop k.at c.args.tokens.now in
+    let read = rw (c.in-None.is, c.tokens_from.ensures) at c.in_ok-read.ensures.read in
+    let some : 0 < length rest = rw length-drop (omega arith) in
+    sym (k.invariant.so_far.2 ∙ no_item rest (map the_item k.items) k.invariant.so_far.0 some read)
+
+pub returns : goal.returns
+returns c =
+    let k = c.loop-at in
+    let over : length c.args.tokens.now ≤ k.at = omega arith in
+    let below = rw (drop_of_length-le c.args.tokens.now over) at k.invariant.so_far.1 in
+    sym (k.invariant.so_far.2 ∙ rw (drop_of_length-le c.args.tokens.now over) (no_more (map the_item k.items) k.invariant.so_far.0 below))
