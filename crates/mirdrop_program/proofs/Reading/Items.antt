@@ -1,5 +1,5 @@
 -- How reading an item goes on after its head.
-use Rattle.std.proofs.Common.{◌≡◌, ℕ, zero, suc, ◌+◌, ◌<◌, ◌≤◌, Bool, true, false, Option, Some, None, List, [], ◌∷◌, ◌++◌, length, drop, refl, ap, sym, ◌∙◌, arith, drop-drop}
+use Rattle.std.proofs.Common.{◌≡◌, ℕ, zero, suc, ◌+◌, ◌<◌, ◌≤◌, Bool, true, false, Option, Some, None, List, [], ◌∷◌, ◌++◌, length, drop, refl, ap, sym, ◌∙◌, arith, drop-drop, length-drop, subst}
 use Rattle.src_meaning.specs.declared.first.Fixed.{Fixed}
 use Rattle.src_meaning.specs.declared.first.Token.{Token}
 use Rattle.src_meaning.specs.declared.first.Token.TheVariants.{Reads, Gives}
@@ -43,3 +43,17 @@ pub no_item : (tokens : List Token) (items : Program) (most : ℕ) → 0 < lengt
 no_item [] items most some e = absurd (omega arith)
 no_item (t ∷ ts) items zero some e = refl
 no_item (t ∷ ts) items (suc most) some e = rw (← e) refl
+
+-- one more item at a place of the tokens, as the loop has it
+pub goes_on_at : (tokens : List Token) (at size most : ℕ) (items after : Program) (item : Item) → at < length tokens
+    → (0 < size) × (size ≤ length (drop at tokens)) → length (drop at tokens) < most
+    → Some (item, drop size (drop at tokens)) ≡ item_of (drop at tokens) → after ≡ items ++ item ∷ []
+    → program_of tokens ≡ items_of most items (drop at tokens)
+    → (fewer : ℕ) × (length (drop (at + size) tokens) < fewer) × (program_of tokens ≡ items_of fewer after (drop (at + size) tokens))
+goes_on_at tokens at size most items after item within fits below e is so_far =
+    let some : 0 < length (drop at tokens) = omega (arith, length-drop at tokens) in
+    let shorter : length (drop size (drop at tokens)) < length (drop at tokens) = omega (arith, length-drop size (drop at tokens), fits.0, fits.1) in
+    let more = one_more (drop at tokens) (drop size (drop at tokens)) items item most some below e shorter in
+    let same : drop size (drop at tokens) ≡ drop (at + size) tokens = drop-drop size at tokens in
+    (more.0, subst (λ (ts : List Token). length ts < more.0) same more.1,
+        so_far ∙ (more.2 ∙ (ap (λ (ts : List Token). items_of more.0 (items ++ item ∷ []) ts) same ∙ ap (λ (xs : Program). items_of more.0 xs (drop (at + size) tokens)) (sym is))))
