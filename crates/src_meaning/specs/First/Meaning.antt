@@ -57,6 +57,9 @@ pub record World : Type 0 where
 abbrev pub telling : Event → World → World
 telling e w = record w { trace = w.trace ++ e ∷ [] }
 
+abbrev pub with_ticks : ℕ → World → World
+with_ticks n w = record w { ticks = n }
+
 -- a run goes on, or it is out of ticks
 pub data Outcome : Type 0 where
   Goes : (w : World) → Outcome
@@ -69,7 +72,7 @@ and_then (Stops w) more = Stops w
 -- one tick is spent, or there is none
 abbrev pub ticking : World → ℕ → (World → Outcome) → Outcome
 ticking w zero more = Stops w
-ticking w (suc n) more = more (record w { ticks = n })
+ticking w (suc n) more = more (with_ticks n w)
 
 -- an entry of a scope: a value of a struct without a `Drop` body, or one with it, by its type and number
 pub data Entry : Type 0 where
