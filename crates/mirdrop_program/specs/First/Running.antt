@@ -1,8 +1,12 @@
 -- How the machine runs a first program: a list of tasks, the next one first, that are left to do.
 use Rattle.std.specs.Prelude.{◌≡◌, ℕ, zero, suc, ◌+◌, ◌*◌, Bool, true, false, List, [], ◌∷◌, ◌++◌, length, map, reverse, Option, Some, None, slice_get, position}
-use Rattle.src_meaning.specs.First.Meaning.{World, Outcome, Goes, Stops, and_then, ticking, telling, Entry, Unnumbered, Numbered, Scoped, Within, Over, Enters, entering, leave, run_statements, run_block, drop_entries, at_item, body_of}
-use Rattle.src_meaning.specs.First.Tree.{Statement, Let, Call, Print, Inner, Block, done, next, Item, Program, block_of, the_statement}
+use Rattle.src_meaning.specs.First.Meaning.{World, Outcome, Goes, Stops, and_then, ticking, telling, with_ticks, Entry, Unnumbered, Numbered, Scoped, Within, Over, Enters, entering, leave, run_statements, run_block, drop_entries, at_item, body_of, call, make, drop_value, is_function, is_struct, with_serial}
+use Rattle.src_meaning.specs.First.Tree.{Statement, Let, Call, Print, Inner, Block, done, next, Item, Program, block_of, the_statement, the_item}
 use Rattle.mir_base.specs.declared.trace.Event.{Event}
+use Rattle.mirdrop_program.specs.declared.first.machine.Entry.{Entry as RunEntry}
+use Rattle.mirdrop_program.specs.declared.first.machine.Task.{Task as RunTask}
+use Rattle.mirdrop_program.specs.declared.first.machine.World.{World as RunWorld}
+use Rattle.mirdrop_program.specs.declared.first.machine.Machine.{Machine}
 
 -- Entering a body with as many bodies nested in it as there are ticks, which are always enough.
 abbrev pub enters : Program → Enters
@@ -19,3 +23,87 @@ finish p [] w = Goes w
 finish p (Statements left scope ∷ tasks) w = and_then (leave p (enters p) (run_statements p (enters p) left scope w)) (finish p tasks)
 finish p (Drops scope ∷ tasks) w = and_then (drop_entries p (enters p) scope w) (finish p tasks)
 finish p (Ends body ∷ tasks) w = finish p tasks (telling (Event.Return body) w)
+
+-- What the Rust values of the machine are.
+
+abbrev pub the_world : RunWorld → World
+the_world w = record { ticks = w.ticks; serial = w.serial; trace = w.trace }
+
+abbrev pub told : Event → World → World
+told = telling
+
+-- one tick was spent
+abbrev pub ticked : World → World → Type 0
+ticked before after = (before.ticks ≡ suc after.ticks) × (after ≡ with_ticks after.ticks before)
+
+abbrev pub the_entry : RunEntry → Entry
+the_entry RunEntry.Unnumbered = Unnumbered
+the_entry (RunEntry.Numbered adt serial) = Numbered adt serial
+
+-- a scope that the machine holds with its oldest entry first
+abbrev pub scope_of : List RunEntry → List Entry
+scope_of entries = reverse (map the_entry entries)
+
+abbrev pub the_task : RunTask → Task
+the_task (RunTask.Statements stmts scope) = Statements (block_of (map the_statement stmts.now)) (scope_of scope)
+the_task (RunTask.Drops scope) = Drops (scope_of scope)
+the_task (RunTask.Ends body) = Ends body
+
+-- the tasks that the machine holds, with the next one last
+abbrev pub tasks_of : List RunTask → List Task
+tasks_of tasks = reverse (map the_task tasks)
+
+abbrev pub program_of : Machine → Program
+program_of m = map the_item m.items.now
+
+-- what a run comes to
+abbrev pub outcome_of : Machine → Outcome
+outcome_of m = finish (program_of m) (tasks_of m.tasks) (the_world m.world)
+
+-- a task was left to do, and nothing else changed
+pub record Pushed (task : Task) (before after : Machine) : Type 0 where
+  pub tasks : tasks_of after.tasks ≡ task ∷ tasks_of before.tasks
+  pub world : after.world ≡ before.world
+  pub items : after.items.now ≡ before.items.now
+
+-- an event was told, and nothing else changed
+pub record Tells (event : Event) (before after : Machine) : Type 0 where
+  pub tasks : tasks_of after.tasks ≡ tasks_of before.tasks
+  pub world : the_world after.world ≡ telling event (the_world before.world)
+  pub items : after.items.now ≡ before.items.now
+
+-- a machine did a part of a run, and the rest is left to it; or it is out of ticks
+pub record Leaves (whole : Outcome) (before after : Machine) (went : Bool) : Type 0 where
+  pub goes : went ≡ true → whole ≡ outcome_of after
+  pub stops : went ≡ false → whole ≡ Stops (the_world after.world)
+  pub items : after.items.now ≡ before.items.now
+
+abbrev pub HasEntered : Event → ℕ → Machine → Machine → Bool → Type 0
+HasEntered event item before after went =
+    Leaves
+    (and_then (enters (program_of before) event item (at_item done body_of (slice_get (program_of before) item)) (the_world before.world)) (finish (program_of before) (tasks_of before.tasks)))
+    before after went
+
+-- what is left to do after a part of a run
+abbrev pub rest_of : Machine → World → Outcome
+rest_of m = finish (program_of m) (tasks_of m.tasks)
+
+abbrev pub HasCalled : List ℕ → Machine → Machine → Bool → Type 0
+HasCalled name before after went =
+    Leaves (and_then (call (program_of before) (enters (program_of before)) (position (is_function name) (program_of before)) (the_world before.world)) (rest_of before)) before after went
+
+abbrev pub HasDropped : Entry → Machine → Machine → Bool → Type 0
+HasDropped entry before after went =
+    Leaves (and_then (drop_value (program_of before) (enters (program_of before)) entry (the_world before.world)) (rest_of before)) before after went
+
+-- a serial number was drawn and told
+pub record HasDrawn (adt : ℕ) (before after : Machine) (serial : ℕ) : Type 0 where
+  pub drawn : serial ≡ before.world.serial
+  pub tasks : tasks_of after.tasks ≡ tasks_of before.tasks
+  pub world : the_world after.world ≡ telling (Event.Make adt serial) (with_serial (suc serial) (the_world before.world))
+  pub items : after.items.now ≡ before.items.now
+
+pub record HasMade (name : List ℕ) (before : Machine) (scope : List Entry) (after : Machine) (after_scope : List Entry) : Type 0 where
+  pub made : make (program_of before) (enters (program_of before)) (position (is_struct name) (program_of before)) scope (the_world before.world) ≡ Within after_scope (the_world after.world)
+  pub tasks : tasks_of after.tasks ≡ tasks_of before.tasks
+  pub items : after.items.now ≡ before.items.now

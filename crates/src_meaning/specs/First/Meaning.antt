@@ -60,6 +60,9 @@ telling e w = record w { trace = w.trace ++ e ∷ [] }
 abbrev pub with_ticks : ℕ → World → World
 with_ticks n w = record w { ticks = n }
 
+abbrev pub with_serial : ℕ → World → World
+with_serial n w = record w { serial = n }
+
 -- a run goes on, or it is out of ticks
 pub data Outcome : Type 0 where
   Goes : (w : World) → Outcome
@@ -116,7 +119,7 @@ module _ (p : Program) (enter : Enters) where
   abbrev pub made : Bool → ℕ → List Entry → World → Scoped
   made false adt entries w = Within (Unnumbered ∷ entries) w
   made true adt entries w =
-      Within (Numbered adt w.serial ∷ entries) (telling (Event.Make adt w.serial) (record w { serial = suc w.serial }))
+      Within (Numbered adt w.serial ∷ entries) (telling (Event.Make adt w.serial) (with_serial (suc w.serial) w))
 
   abbrev pub make : Option ℕ → List Entry → World → Scoped
   make None entries w = Within entries w

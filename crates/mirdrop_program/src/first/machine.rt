@@ -1,0 +1,233 @@
+ghost use Rattle.std.specs.Prelude.{◌≡◌, [], OnOk, IfOk, false, map, MatchBool, position, slice_get};
+ghost use Rattle.src_meaning.specs.First.Meaning.{is_struct, is_function, has_drop_body, body_of, at_item};
+ghost use Rattle.src_meaning.specs.First.Tree.{the_item, the_statement, block_of, done};
+ghost use Rattle.mirdrop_program.specs.First.Running.{the_world, told, ticked, HasEntered, Pushed, Statements, the_task, program_of, Tells, HasCalled, HasDropped, HasDrawn, HasMade, the_entry, scope_of};
+
+use mir_base::{End, Event, List, Name, NoMemory};
+use src_meaning::{FirstBlock, FirstItem, FirstStmt};
+use std::alloc::Global;
+
+/// What a run has at hand: the ticks that are left, the next serial number, and the events so far.
+#[derive(Drop)]
+pub struct World {
+    pub ticks: u64,
+    pub serial: u64,
+    pub trace: List<Event>,
+}
+
+/// An entry of a scope.
+#[derive(Clone, Copy)]
+pub enum Entry {
+    /// A value of a struct without a `Drop` body.
+    Unnumbered,
+    /// A value of a struct with one: the number of its item, and its serial number.
+    Numbered(u32, u64),
+}
+
+/// What is left to do.
+#[derive(Drop)]
+pub enum Task<'a> {
+    /// The statements that are left of a block, with its scope, the oldest entry first.
+    Statements(&'a [FirstStmt], List<Entry>),
+    /// The entries that are left of a scope that is being left.
+    Drops(List<Entry>),
+    /// The last line of a body.
+    Ends(u32),
+}
+
+impl World {
+    fn tell(&mut self, event: Event) -> Result<(), NoMemory>
+        ensures { OnOk result (the_world self.new ≡ told event (the_world self.old)) }
+    {
+        self.trace.push(event)
+    }
+
+    /// Spends a tick; false where there is none.
+    fn tick(&mut self) -> bool
+        ensures { MatchBool result (ticked (the_world self.old) (the_world self.new)) ((self.old.ticks ≡ 0) × (self.new ≡ self.old)) }
+    {
+        if self.ticks == 0 {
+            return false;
+        }
+        self.ticks -= 1;
+        true
+    }
+}
+
+fn has_a_drop_body(item: &FirstItem) -> bool
+    ensures { result ≡ has_drop_body (the_item item.now) }
+{
+    match item {
+        FirstItem::Dropping(_, _) => true,
+        FirstItem::Plain(_) | FirstItem::Function(_, _) => false,
+    }
+}
+
+fn is_struct_named(item: &FirstItem, name: &Name) -> bool
+    ensures { result ≡ is_struct name.now (the_item item.now) }
+{
+    match item {
+        FirstItem::Plain(own) | FirstItem::Dropping(own, _) => own == name,
+        FirstItem::Function(_, _) => false,
+    }
+}
+
+fn is_function_named(item: &FirstItem, name: &Name) -> bool
+    ensures { result ≡ is_function name.now (the_item item.now) }
+{
+    match item {
+        FirstItem::Function(own, _) => own == name,
+        FirstItem::Plain(_) | FirstItem::Dropping(_, _) => false,
+    }
+}
+
+fn struct_number(items: &[FirstItem], name: &Name) -> Option<usize>
+    ensures { result ≡ position (λ item. is_struct name.now (the_item item)) items.now }
+{
+    items.iter().position(|item| is_struct_named(item, name))
+}
+
+fn function_number(items: &[FirstItem], name: &Name) -> Option<usize>
+    ensures { result ≡ position (λ item. is_function name.now (the_item item)) items.now }
+{
+    items.iter().position(|item| is_function_named(item, name))
+}
+
+/// The statements of an item's body; a struct without a `Drop` body has none.
+fn body_stmts(item: &FirstItem) -> &[FirstStmt]
+    ensures { block_of (map the_statement result.now) ≡ body_of (the_item item.now) }
+{
+    match item {
+        FirstItem::Plain(_) => &[],
+        FirstItem::Dropping(_, block) | FirstItem::Function(_, block) => block.stmts.as_slice(),
+    }
+}
+
+/// The statements of the body of the item with this number; there are none past the end.
+fn stmts_at(items: &[FirstItem], number: usize) -> &[FirstStmt]
+    ensures { block_of (map the_statement result.now) ≡ at_item done body_of (slice_get (map the_item items.now) number) }
+{
+    match items.get(number) {
+        Some(item) => body_stmts(item),
+        None => &[],
+    }
+}
+
+fn drops_at(items: &[FirstItem], number: usize) -> bool
+    ensures { result ≡ at_item false has_drop_body (slice_get (map the_item items.now) number) }
+{
+    match items.get(number) {
+        Some(item) => has_a_drop_body(item),
+        None => false,
+    }
+}
+
+/// A count of items is far below 2^32.
+fn item_number(index: usize) -> Result<u32, NoMemory>
+    ensures { IfOk result (λ number. number ≡ index) }
+{
+    match u32::try_from(index) {
+        Ok(number) => Ok(number),
+        Err(_) => Err(NoMemory),
+    }
+}
+
+/// A run: what is left to do, the next task last, and what the run has at hand.
+#[derive(Drop)]
+pub struct Machine<'a> {
+    pub items: &'a [FirstItem],
+    pub tasks: List<Task<'a>>,
+    pub world: World,
+}
+
+impl<'a> Machine<'a> {
+    fn push(&mut self, task: Task<'a>) -> Result<(), NoMemory>
+        ensures { OnOk result (Pushed (the_task task.entry) self.old self.new) }
+    {
+        self.tasks.push(task)
+    }
+
+    fn push_body(&mut self, alloc: Global, item: u32) -> Result<(), NoMemory>
+        ensures { OnOk result (Pushed (Statements (at_item done body_of (slice_get (program_of self.old) item)) []) self.old self.new) }
+    {
+        let stmts = stmts_at(self.items, item as usize);
+        self.push(Task::Statements(stmts, List::new(alloc)))
+    }
+
+    fn tell(&mut self, event: Event) -> Result<(), NoMemory>
+        ensures { OnOk result (Tells event self.old self.new) }
+    {
+        self.world.tell(event)
+    }
+
+    /// Enters the body of an item: spends a tick, tells of it, and leaves the body to do. False where there
+    /// is no tick.
+    fn enter(&mut self, alloc: Global, event: Event, item: u32) -> Result<bool, NoMemory>
+        ensures { IfOk result (HasEntered event item self.old self.new) }
+    {
+        if !self.world.tick() {
+            return Ok(false);
+        }
+        self.tell(event)?;
+        self.push(Task::Ends(item))?;
+        self.push_body(alloc, item)?;
+        Ok(true)
+    }
+
+    /// Calls the function with this name, if there is one.
+    fn call(&mut self, alloc: Global, name: &Name) -> Result<bool, NoMemory>
+        ensures { IfOk result (HasCalled name.now self.old self.new) }
+    {
+        match function_number(self.items, name) {
+            Some(index) => {
+                let item = item_number(index)?;
+                self.enter(alloc, Event::Call(item), item)
+            }
+            None => Ok(true),
+        }
+    }
+
+    /// Drops a value.
+    fn drop_entry(&mut self, alloc: Global, entry: Entry) -> Result<bool, NoMemory>
+        ensures { IfOk result (HasDropped (the_entry entry) self.old self.new) }
+    {
+        match entry {
+            Entry::Unnumbered => Ok(true),
+            Entry::Numbered(adt, serial) => self.enter(alloc, Event::Dropped { adt, serial }, adt),
+        }
+    }
+
+    /// Draws the next serial number, for a value of the struct with this number.
+    fn draw_serial(&mut self, adt: u32) -> Result<u64, NoMemory>
+        ensures { IfOk result (HasDrawn adt self.old self.new) }
+    {
+        let serial = self.world.serial;
+        match serial.checked_add(1) {
+            Some(next) => {
+                self.world.serial = next;
+                self.tell(Event::Make { adt, serial })?;
+                Ok(serial)
+            }
+            None => Err(NoMemory),
+        }
+    }
+
+    /// Makes a value of the struct with this name, as the youngest entry of a scope.
+    fn make(&mut self, name: &Name, mut scope: List<Entry>) -> Result<List<Entry>, NoMemory>
+        ensures { IfOk result (λ after. HasMade name.now self.old (scope_of scope) self.new (scope_of after)) }
+    {
+        match struct_number(self.items, name) {
+            Some(index) => {
+                let adt = item_number(index)?;
+                if drops_at(self.items, index) {
+                    let serial = self.draw_serial(adt)?;
+                    scope.push(Entry::Numbered(adt, serial))?;
+                } else {
+                    scope.push(Entry::Unnumbered)?;
+                }
+                Ok(scope)
+            }
+            None => Ok(scope),
+        }
+    }
+}
