@@ -1,7 +1,7 @@
 -- What the parser reads is spelled by the tokens, and does not nest too deep.
 use Rattle.std.proofs.Common.{◌≡◌, ℕ, zero, suc, ◌+◌, ◌<◌, ◌≤◌, Bool, true, false, if◌then◌else◌, Option, Some, None, List, [], ◌∷◌, ◌++◌, length, drop, refl, ap, sym, subst, ◌∙◌, arith, max, append_assoc, append-nil, nat_lt, nat_le}
 use Rattle.std.specs.Cmp.Lexicographic.{same_text}
-use Rattle.std.proofs.lemmas.Bool.{ltb-true, le-leb}
+use Rattle.std.proofs.lemmas.Bool.{ltb-true, le-leb, and_from}
 use Rattle.std.proofs.lemmas.List.Folds.{list_all-append}
 use Rattle.src_meaning.specs.declared.first.Fixed.{Fixed}
 use Rattle.src_meaning.specs.declared.first.Token.{Token}
@@ -9,9 +9,9 @@ use Rattle.src_meaning.specs.declared.first.Token.TheVariants.{Reads, Gives, Nam
 use Rattle.src_meaning.specs.First.Form.{statement_depth, statements_depth}
 use Rattle.src_meaning.specs.First.Meaning.{same_name}
 use Rattle.src_meaning.specs.First.Spelling.{statement_tokens, statements_tokens, struct_tokens, drop_head_tokens, function_head_tokens, item_tokens, program_tokens}
-use Rattle.src_meaning.specs.First.Tree.{Statement, Let, Call, Print, Inner, Block, block_of, Item, Plain, Dropping, Function, Program}
-use Rattle.mirdrop_program.specs.First.Parsing.{Step, Takes, Opens, Closes, Wrong, step_of, Body, GoesOn, after_close, after_step, body_of, Head, FunctionHead, StructHead, NoHead, head_of, drop_head_of, ItemAnd, function_after, begins_with_close, closed_by_brace, dropping_after, drop_or_plain, item_after, item_of, items_after, items_of, program_of}
-use Rattle.mirdrop_program.proofs.Reading.Depth.{item_nests, program_nests, both}
+use Rattle.src_meaning.specs.First.Tree.{Statement, Inner, Block, block_of, Item, Dropping, Program}
+use Rattle.mirdrop_program.specs.First.Parsing.{Step, Takes, Opens, Closes, Wrong, step_of, Body, GoesOn, after_close, after_step, body_of, Head, FunctionHead, StructHead, NoHead, head_of, drop_head_of, ItemAnd, function_after, begins_with_close, dropping_after, drop_or_plain, item_after, item_of, items_after, items_of, program_of}
+use Rattle.mirdrop_program.proofs.Reading.Depth.{item_nests, program_nests}
 
 -- Steps.
 
@@ -152,6 +152,7 @@ abbrev BodyIs : List Token → Body → Type 0
 BodyIs tokens None = Unit {0}
 BodyIs tokens (Some read) = IsBody tokens read.0 read.1
 
+-- what was read of tokens is a body, if any was
 body_from : (tokens : List Token) (read : Body) → body_of 0 tokens [] [] ≡ read → BodyIs tokens read
 body_from tokens None h = tt
 body_from tokens (Some read) h = reads_body tokens 0 [] [] read.0 read.1 (omega arith) h
@@ -262,7 +263,7 @@ program_tokens-append (i ∷ p) item =
 
 -- one more item that nests
 program_nests-append : (p : Program) (item : Item) → program_nests p ≡ true → item_nests item ≡ true → program_nests (p ++ item ∷ []) ≡ true
-program_nests-append p item nests nest = list_all-append item_nests p (item ∷ []) ∙ both _ _ nests (both _ _ nest refl)
+program_nests-append p item nests nest = list_all-append item_nests p (item ∷ []) ∙ and_from _ _ nests (and_from _ _ nest refl)
 
 -- the tokens are those of a program that nests, if one was read
 abbrev ProgramIs : List Token → Option Program → Type 0

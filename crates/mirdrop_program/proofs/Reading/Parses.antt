@@ -1,16 +1,15 @@
 -- The parser reads each program, if it does not nest too deep, from its tokens.
-use Rattle.std.proofs.Common.{◌≡◌, ℕ, zero, suc, ◌+◌, ◌<◌, ◌≤◌, Bool, true, false, Option, Some, None, List, [], ◌∷◌, ◌++◌, length, refl, ap, sym, ◌∙◌, arith, max, append_assoc, append-nil, length-append, nat_le}
-use Rattle.std.proofs.lemmas.Bool.{lt-ltb, leb-true}
+use Rattle.std.proofs.Common.{◌≡◌, ℕ, suc, ◌+◌, ◌<◌, ◌≤◌, true, Some, None, List, [], ◌∷◌, ◌++◌, length, refl, ap, sym, ◌∙◌, arith, append_assoc, append-nil, length-append, nat_le}
+use Rattle.std.proofs.lemmas.Bool.{lt-ltb, leb-true, and_parts}
 use Rattle.std.proofs.lemmas.Cmp.{nat_list_eq_equiv}
 use Rattle.src_meaning.specs.declared.first.Fixed.{Fixed}
 use Rattle.src_meaning.specs.declared.first.Token.{Token}
 use Rattle.src_meaning.specs.declared.first.Token.TheVariants.{Reads}
 use Rattle.src_meaning.specs.First.Form.{statement_depth, statements_depth}
-use Rattle.src_meaning.specs.First.Meaning.{same_name}
 use Rattle.src_meaning.specs.First.Spelling.{statement_tokens, statements_tokens, item_tokens, program_tokens}
 use Rattle.src_meaning.specs.First.Tree.{Statement, Let, Call, Print, Inner, Block, done, next, block_of, Item, Plain, Dropping, Function, Program}
 use Rattle.mirdrop_program.specs.First.Parsing.{body_of, drop_head_of, item_of, items_of, program_of}
-use Rattle.mirdrop_program.proofs.Reading.Depth.{item_nests, program_nests, and_left, and_right}
+use Rattle.mirdrop_program.proofs.Reading.Depth.{item_nests, program_nests}
 use Rattle.mirdrop_program.proofs.Reading.Items.{one_more, no_more}
 
 -- Bodies.
@@ -72,8 +71,11 @@ reads_item : (item : Item) (rest : List Token) → item_nests item ≡ true → 
     → item_of (item_tokens item ++ rest) ≡ Some (item, rest)
 reads_item (Plain name) rest nests none = rw none refl
 reads_item (Dropping name b) rest nests none =
-    rw (nat_list_eq_equiv.refl name, append_assoc (statements_tokens b ++ Reads Fixed.CloseBrace ∷ []) (Reads Fixed.CloseBrace ∷ []) rest,
-        reads_body b (Reads Fixed.CloseBrace ∷ rest) (nests_inside _ nests)) refl
+    rw (
+      nat_list_eq_equiv.refl name,
+      append_assoc (statements_tokens b ++ Reads Fixed.CloseBrace ∷ []) (Reads Fixed.CloseBrace ∷ []) rest,
+      reads_body b (Reads Fixed.CloseBrace ∷ rest) (nests_inside _ nests),
+    ) refl
 reads_item (Function name b) rest nests none = rw (reads_body b rest (nests_inside _ nests)) refl
 
 -- no program begins with a `Drop` body
@@ -98,10 +100,10 @@ reads_items [] most items below nests = no_more items most below ∙ ap (λ p. S
 reads_items (item ∷ p) most items below nests =
     let rest = program_tokens p in
     let shorter : length rest < length (item_tokens item ++ rest) = omega (arith, length-append (item_tokens item) rest, some_token item) in
-    let read = reads_item item rest (and_left _ _ nests) (no_drop_first p) in
+    let read = reads_item item rest (and_parts (item_nests item) _ nests).0 (no_drop_first p) in
     let more = one_more (item_tokens item ++ rest) rest items item most (omega arith) below (sym read) shorter in
     more.2
-    ∙ reads_items p more.0 (items ++ item ∷ []) more.1 (and_right _ _ nests)
+    ∙ reads_items p more.0 (items ++ item ∷ []) more.1 (and_parts (item_nests item) _ nests).1
     ∙ ap (λ p. Some p) (append_assoc items (item ∷ []) p)
 
 -- a program is read from its tokens
