@@ -1,6 +1,9 @@
 pub mod Bodies
 pub mod Items
 pub mod Complete
+pub mod Depth
+pub mod Parsed
+pub mod Parses
 pub mod Patterns
 pub mod Roles
 pub mod Scanning
