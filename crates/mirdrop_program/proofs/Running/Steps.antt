@@ -1,13 +1,15 @@
 -- One step of the machine leaves what is left of the run.
-use Rattle.std.proofs.Common.{◌≡◌, ℕ, zero, suc, Bool, true, false, Option, Some, None, List, [], ◌∷◌, ◌++◌, refl, ap, sym, ◌∙◌, arith}
+use Rattle.std.proofs.Common.{◌≡◌, ℕ, zero, suc, Bool, true, false, not, cond, ℤ, ◌+◌, length, Option, Some, None, List, [], ◌∷◌, ◌++◌, refl, ap, sym, ◌∙◌, arith}
 use Rattle.std.specs.Prelude.{map, reverse, slice_get, position}
-use Rattle.std.proofs.lemmas.List.{reverse-append, map-append}
+use Rattle.std.specs.List.{prefix_len}
+use Rattle.std.specs.Prelude.{Result, Ok, Err, IfOk}
+use Rattle.std.proofs.lemmas.List.{length-map}
 use Rattle.mir_base.specs.declared.trace.Event.{Event}
-use Rattle.src_meaning.specs.First.Meaning.{World, Outcome, Goes, Stops, and_then, ticking, with_ticks, telling, Entry, Unnumbered, Numbered, Scoped, Within, Over, in_scope, scope_after, leave, run_statement, run_statements, run_block, at_item, body_of}
+use Rattle.src_meaning.specs.First.Meaning.{World, Outcome, Goes, Stops, and_then, ticking, with_ticks, telling, Entry, Unnumbered, Numbered, Scoped, Within, Over, in_scope, scope_after, leave, run_statement, run_statements, run_block, at_item, body_of, is_function, is_struct, has_drop_body, call, Enters}
 use Rattle.src_meaning.specs.First.Tree.{Statement, Let, Call, Print, Inner, Block, done, next, Item, Program, the_item}
 use Rattle.mirdrop_program.specs.declared.first.machine.Task.{Task as RunTask}
 use Rattle.mirdrop_program.specs.declared.first.machine.Machine.{Machine}
-use Rattle.mirdrop_program.specs.First.Running.{Task, Statements, Drops, Ends, finish, enters, ticked, tasks_of, the_task, the_world, program_of, outcome_of, Pushed, Tells, Leaves, HasEntered}
+use Rattle.mirdrop_program.specs.First.Running.{Task, Statements, Drops, Ends, finish, enters, ticked, tasks_of, the_task, the_world, program_of, outcome_of, Pushed, Tells, Leaves, HasEntered, HasCalled, HasDrawn, HasMadeOf, HasMade, HasRun, HasRunLet, rest_of}
 use Rattle.mirdrop_program.proofs.Running.Steady.{enters_is}
 
 pub and_then_assoc : (o : Outcome) (f g : World → Outcome) → and_then (and_then o f) g ≡ and_then o (λ w. and_then (f w) g)
@@ -53,4 +55,99 @@ module _ (event : Event) (item : ℕ) (m0 m1 m2 m3 m4 : Machine) where
             ∙ sym (same_finish (program_of m4) (program_of m0) _ _ _ _ (ap (map the_item) items4) tasks4 refl);
         stops = λ e. cc;
         items = items4;
+      }
+
+prefix_len-map : {A B : Type 0} (f : A → B) (test : B → Bool) (xs : List A) → prefix_len test (map f xs) ≡ prefix_len (λ x. test (f x)) xs
+prefix_len-map f test [] = refl
+prefix_len-map f test (x ∷ xs) = ap (λ n. cond (test (f x)) (1 + n) 0) (prefix_len-map f test xs)
+
+position-map : {A B : Type 0} (f : A → B) (test : B → Bool) (xs : List A) → position test (map f xs) ≡ position (λ x. test (f x)) xs
+position-map f test xs = rw (prefix_len-map f (λ x. not (test x)) xs, length-map) refl
+
+-- nothing is done
+pub no_change : (m : Machine) → Leaves (and_then (Goes (the_world m.world)) (rest_of m)) m m true
+no_change m = record { goes = λ _. refl; stops = λ e. cc; items = refl }
+
+-- a function that is called, by its place among the items
+pub calls : (name : List ℕ) (f : ℕ) (m0 m1 : Machine) (went : Bool)
+    → Some f ≡ position (λ item. is_function name (the_item item)) m0.items.now → HasEntered (Event.Call f) f m0 m1 went → HasCalled name m0 m1 went
+calls name f m0 m1 went found h = rw (position-map the_item (is_function name) m0.items.now, ← found) h
+
+pub calls_none : (name : List ℕ) (m : Machine) → None ≡ position (λ item. is_function name (the_item item)) m.items.now → HasCalled name m m true
+calls_none name m found = rw (position-map the_item (is_function name) m.items.now, ← found) (no_change m)
+
+pub if_ok_more : {T E : Type 0} (r : Result T E) (P Q : T → Type 0) → ((v : T) → P v → Q v) → IfOk r P → IfOk r Q
+if_ok_more (Ok v) P Q more h = more v h
+if_ok_more (Err e) P Q more h = h
+
+-- a value that is made, by the place of its struct among the items
+pub makes : (name : List ℕ) (adt : ℕ) (m0 m1 : Machine) (scope after : List Entry) → Some adt ≡ position (λ item. is_struct name (the_item item)) m0.items.now
+    → HasMadeOf adt m0 scope m1 after → HasMade name m0 scope m1 after
+makes name adt m0 m1 scope after found h = record {
+  made = rw (position-map the_item (is_struct name) m0.items.now, ← found) h.made;
+  tasks = h.tasks;
+  items = h.items;
+}
+
+pub makes_none : (name : List ℕ) (m : Machine) (scope : List Entry) → None ≡ position (λ item. is_struct name (the_item item)) m.items.now → HasMade name m scope m scope
+makes_none name m scope found = record {
+  made = rw (position-map the_item (is_struct name) m.items.now, ← found) refl;
+  tasks = refl;
+  items = refl;
+}
+
+-- leaving a scope after something that changes no entry of it
+leave-in_scope : (p : Program) (e : Enters) (entries : List Entry) (o : Outcome) (f : List Entry → World → Scoped)
+    → leave p e (in_scope (scope_after entries o) f) ≡ and_then o (λ w. leave p e (f entries w))
+leave-in_scope p e entries (Goes w) f = refl
+leave-in_scope p e entries (Stops w) f = refl
+
+module _ (b : Block) (scope : List Entry) (m0 m1 m2 : Machine) where
+  pub lets : (s : List ℕ) (after : List Entry) → HasMade s m0 scope m1 after → Pushed (Statements b after) m1 m2 → HasRunLet s b scope m0 m2 true
+  lets s after made pushed =
+      let items : m2.items.now ≡ m0.items.now = pushed.items ∙ made.items in
+      record {
+        goes = λ _. rw made.made (sym (same_finish (program_of m2) (program_of m0) _ _ _ _ (ap (map the_item) items) (pushed.tasks ∙ ap (λ ts. Statements b after ∷ ts) made.tasks) (ap the_world pushed.world)));
+        stops = λ e. cc;
+        items = items;
+      }
+
+  pub prints : (n : ℤ) → Tells (Event.Printed n) m0 m1 → Pushed (Statements b scope) m1 m2 → HasRun (next (Print n) b) scope m0 m2 true
+  prints n tells pushed =
+      let items : m2.items.now ≡ m0.items.now = pushed.items ∙ tells.items in
+      record {
+        goes = λ _. sym (same_finish (program_of m2) (program_of m0) _ _ _ _ (ap (map the_item) items) (pushed.tasks ∙ ap (λ ts. Statements b scope ∷ ts) tells.tasks) (ap the_world pushed.world ∙ tells.world));
+        stops = λ e. cc;
+        items = items;
+      }
+
+  pub enters_inner : (inner : Block) → Pushed (Statements b scope) m0 m1 → Pushed (Statements inner []) m1 m2 → HasRun (next (Inner inner) b) scope m0 m2 true
+  enters_inner inner first second =
+      let items : m2.items.now ≡ m0.items.now = second.items ∙ first.items in
+      let p = program_of m0 in
+      let w = the_world m0.world in
+      record {
+        goes = λ _.
+            ap (λ o. and_then o (finish p (tasks_of m0.tasks))) (leave-in_scope p (enters p) scope (leave p (enters p) (run_statements p (enters p) inner [] w)) (run_statements p (enters p) b))
+            ∙ (and_then_assoc (leave p (enters p) (run_statements p (enters p) inner [] w)) _ (finish p (tasks_of m0.tasks))
+                ∙ sym (same_finish (program_of m2) p _ _ _ _ (ap (map the_item) items) (second.tasks ∙ ap (λ ts. Statements inner [] ∷ ts) first.tasks) (ap the_world (second.world ∙ first.world))));
+        stops = λ e. cc;
+        items = items;
+      }
+
+  pub calls_then : (f : List ℕ) (went : Bool) → Pushed (Statements b scope) m0 m1 → HasCalled f m1 m2 went → HasRun (next (Call f) b) scope m0 m2 went
+  calls_then f went first called =
+      let p = program_of m0 in
+      let w = the_world m0.world in
+      let same : program_of m1 ≡ p = ap (map the_item) first.items in
+      let world : the_world m1.world ≡ w = ap the_world first.world in
+      let whole : finish p (Statements (next (Call f) b) scope ∷ tasks_of m0.tasks) w
+          ≡ and_then (call (program_of m1) (enters (program_of m1)) (position (is_function f) (program_of m1)) (the_world m1.world)) (rest_of m1) =
+          ap (λ o. and_then o (finish p (tasks_of m0.tasks))) (leave-in_scope p (enters p) scope (call p (enters p) (position (is_function f) p) w) (run_statements p (enters p) b))
+          ∙ (and_then_assoc (call p (enters p) (position (is_function f) p) w) _ (finish p (tasks_of m0.tasks))
+              ∙ rw (same, world, first.tasks) refl) in
+      record {
+        goes = λ e. whole ∙ called.goes e;
+        stops = λ e. whole ∙ called.stops e;
+        items = called.items ∙ first.items;
       }

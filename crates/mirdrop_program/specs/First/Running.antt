@@ -1,6 +1,6 @@
 -- How the machine runs a first program: a list of tasks, the next one first, that are left to do.
 use Rattle.std.specs.Prelude.{◌≡◌, ℕ, zero, suc, ◌+◌, ◌*◌, Bool, true, false, List, [], ◌∷◌, ◌++◌, length, map, reverse, Option, Some, None, slice_get, position}
-use Rattle.src_meaning.specs.First.Meaning.{World, Outcome, Goes, Stops, and_then, ticking, telling, with_ticks, Entry, Unnumbered, Numbered, Scoped, Within, Over, Enters, entering, leave, run_statements, run_block, drop_entries, at_item, body_of, call, make, drop_value, is_function, is_struct, with_serial}
+use Rattle.src_meaning.specs.First.Meaning.{World, Outcome, Goes, Stops, and_then, ticking, telling, with_ticks, Entry, Unnumbered, Numbered, Scoped, Within, Over, in_scope, Enters, entering, leave, run_statements, run_block, drop_entries, at_item, body_of, call, made, make, has_drop_body, drop_value, is_function, is_struct, with_serial}
 use Rattle.src_meaning.specs.First.Tree.{Statement, Let, Call, Print, Inner, Block, done, next, Item, Program, block_of, the_statement, the_item}
 use Rattle.mir_base.specs.declared.trace.Event.{Event}
 use Rattle.mirdrop_program.specs.declared.first.machine.Entry.{Entry as RunEntry}
@@ -103,7 +103,31 @@ pub record HasDrawn (adt : ℕ) (before after : Machine) (serial : ℕ) : Type 0
   pub world : the_world after.world ≡ telling (Event.Make adt serial) (with_serial (suc serial) (the_world before.world))
   pub items : after.items.now ≡ before.items.now
 
+-- a value of a struct was made, as the youngest entry of a scope
+pub record HasMadeOf (adt : ℕ) (before : Machine) (scope : List Entry) (after : Machine) (after_scope : List Entry) : Type 0 where
+  pub made : made (program_of before) (enters (program_of before)) (at_item false has_drop_body (slice_get (program_of before) adt)) adt scope (the_world before.world) ≡ Within after_scope (the_world after.world)
+  pub tasks : tasks_of after.tasks ≡ tasks_of before.tasks
+  pub items : after.items.now ≡ before.items.now
+
 pub record HasMade (name : List ℕ) (before : Machine) (scope : List Entry) (after : Machine) (after_scope : List Entry) : Type 0 where
   pub made : make (program_of before) (enters (program_of before)) (position (is_struct name) (program_of before)) scope (the_world before.world) ≡ Within after_scope (the_world after.world)
   pub tasks : tasks_of after.tasks ≡ tasks_of before.tasks
   pub items : after.items.now ≡ before.items.now
+
+-- a task was begun, and what is left of it and all else is left to do
+abbrev pub HasPerformed : Task → Machine → Machine → Bool → Type 0
+HasPerformed task before after went =
+    Leaves (finish (program_of before) (task ∷ tasks_of before.tasks) (the_world before.world)) before after went
+
+abbrev pub HasRun : Block → List Entry → Machine → Machine → Bool → Type 0
+HasRun left scope = HasPerformed (Statements left scope)
+
+-- a `let` that makes a value of this struct, and what is left of its block
+abbrev pub HasRunLet : List ℕ → Block → List Entry → Machine → Machine → Bool → Type 0
+HasRunLet made left scope before after went =
+    let p = program_of before in
+    let value = make p (enters p) (position (is_struct made) p) scope (the_world before.world) in
+    Leaves (and_then (leave p (enters p) (in_scope value (run_statements p (enters p) left))) (rest_of before)) before after went
+
+abbrev pub HasLeftScope : List Entry → Machine → Machine → Bool → Type 0
+HasLeftScope scope = HasPerformed (Drops scope)

@@ -1,7 +1,7 @@
 ghost use Rattle.std.specs.Prelude.{◌≡◌, [], OnOk, IfOk, false, map, MatchBool, position, slice_get};
 ghost use Rattle.src_meaning.specs.First.Meaning.{is_struct, is_function, has_drop_body, body_of, at_item};
-ghost use Rattle.src_meaning.specs.First.Tree.{the_item, the_statement, block_of, done};
-ghost use Rattle.mirdrop_program.specs.First.Running.{the_world, told, ticked, HasEntered, Pushed, Statements, the_task, program_of, Tells, HasCalled, HasDropped, HasDrawn, HasMade, the_entry, scope_of};
+ghost use Rattle.src_meaning.specs.First.Tree.{the_item, the_statement, block_of, done, next};
+ghost use Rattle.mirdrop_program.specs.First.Running.{the_world, told, ticked, HasEntered, Pushed, Statements, the_task, program_of, Tells, HasCalled, HasDropped, HasDrawn, HasMadeOf, HasMade, HasRun, HasRunLet, HasLeftScope, HasPerformed, the_entry, scope_of};
 
 use mir_base::{End, Event, List, Name, NoMemory};
 use src_meaning::{FirstBlock, FirstItem, FirstStmt};
@@ -212,22 +212,100 @@ impl<'a> Machine<'a> {
         }
     }
 
-    /// Makes a value of the struct with this name, as the youngest entry of a scope.
-    fn make(&mut self, name: &Name, mut scope: List<Entry>) -> Result<List<Entry>, NoMemory>
+    /// Makes a value of the struct with this number, as the youngest entry of a scope.
+    fn make_of(&mut self, adt: u32, mut scope: List<Entry>) -> Result<List<Entry>, NoMemory>
+        ensures { IfOk result (λ after. HasMadeOf adt self.old (scope_of scope) self.new (scope_of after)) }
+    {
+        if drops_at(self.items, adt as usize) {
+            let serial = self.draw_serial(adt)?;
+            scope.push(Entry::Numbered(adt, serial))?;
+            Ok(scope)
+        } else {
+            scope.push(Entry::Unnumbered)?;
+            Ok(scope)
+        }
+    }
+
+    /// Makes a value of the struct with this name, if there is one, as the youngest entry of a scope.
+    fn make(&mut self, name: &Name, scope: List<Entry>) -> Result<List<Entry>, NoMemory>
         ensures { IfOk result (λ after. HasMade name.now self.old (scope_of scope) self.new (scope_of after)) }
     {
         match struct_number(self.items, name) {
             Some(index) => {
                 let adt = item_number(index)?;
-                if drops_at(self.items, index) {
-                    let serial = self.draw_serial(adt)?;
-                    scope.push(Entry::Numbered(adt, serial))?;
-                } else {
-                    scope.push(Entry::Unnumbered)?;
-                }
-                Ok(scope)
+                self.make_of(adt, scope)
             }
             None => Ok(scope),
+        }
+    }
+
+    /// Makes the value of a variable, whatever its name and its number, and leaves the rest of the block.
+    fn let_statement(&mut self, made: &Name, rest: &'a [FirstStmt], scope: List<Entry>) -> Result<bool, NoMemory>
+        ensures { IfOk result (HasRunLet made.now (block_of (map the_statement rest.now)) (scope_of scope) self.old self.new) }
+    {
+        let scope = self.make(made, scope)?;
+        self.push(Task::Statements(rest, scope))?;
+        Ok(true)
+    }
+
+    /// Does the first of the statements that are left of a block.
+    fn statement(&mut self, alloc: Global, stmt: &'a FirstStmt, rest: &'a [FirstStmt], scope: List<Entry>) -> Result<bool, NoMemory>
+        ensures { IfOk result (HasRun (next (the_statement stmt.now) (block_of (map the_statement rest.now))) (scope_of scope) self.old self.new) }
+    {
+        match stmt {
+            FirstStmt::Let(_, made, _) => self.let_statement(made, rest, scope),
+            FirstStmt::Call(name) => {
+                self.push(Task::Statements(rest, scope))?;
+                self.call(alloc, name)
+            }
+            FirstStmt::Print(number) => {
+                self.tell(Event::Printed(*number))?;
+                self.push(Task::Statements(rest, scope))?;
+                Ok(true)
+            }
+            FirstStmt::Inner(block) => {
+                self.push(Task::Statements(rest, scope))?;
+                self.push(Task::Statements(block.stmts.as_slice(), List::new(alloc)))?;
+                Ok(true)
+            }
+        }
+    }
+
+    fn statements(&mut self, alloc: Global, stmts: &'a [FirstStmt], scope: List<Entry>) -> Result<bool, NoMemory>
+        ensures { IfOk result (HasRun (block_of (map the_statement stmts.now)) (scope_of scope) self.old self.new) }
+    {
+        match stmts.split_first() {
+            Some((stmt, rest)) => self.statement(alloc, stmt, rest, scope),
+            None => {
+                self.push(Task::Drops(scope))?;
+                Ok(true)
+            }
+        }
+    }
+
+    fn drops(&mut self, alloc: Global, mut scope: List<Entry>) -> Result<bool, NoMemory>
+        ensures { IfOk result (HasLeftScope (scope_of scope) self.old self.new) }
+    {
+        match scope.pop() {
+            Some(entry) => {
+                self.push(Task::Drops(scope))?;
+                self.drop_entry(alloc, entry)
+            }
+            None => Ok(true),
+        }
+    }
+
+    /// Does one step of a task, and leaves the rest of it. False where the run is out of ticks.
+    fn perform(&mut self, alloc: Global, task: Task<'a>) -> Result<bool, NoMemory>
+        ensures { IfOk result (HasPerformed (the_task task.entry) self.old self.new) }
+    {
+        match task {
+            Task::Statements(stmts, scope) => self.statements(alloc, stmts, scope),
+            Task::Drops(scope) => self.drops(alloc, scope),
+            Task::Ends(body) => {
+                self.tell(Event::Return(body))?;
+                Ok(true)
+            }
         }
     }
 }

@@ -28,10 +28,10 @@ abbrev pub block_of : List Statement → Block
 block_of [] = done
 block_of (s ∷ ss) = next s (block_of ss)
 
-abbrev at_block : FirstBlock-F Statement Block → Block
+abbrev pub at_block : FirstBlock-F Statement Block → Block
 at_block b = block_of b.stmts
 
-abbrev at_statement : FirstStmt-F Statement Block → Statement
+abbrev pub at_statement : FirstStmt-F Statement Block → Statement
 at_statement (FirstStmt-F.Let x s n) = Let x s n
 at_statement (FirstStmt-F.Call f) = Call f
 at_statement (FirstStmt-F.Print n) = Print n
