@@ -1,3 +1,4 @@
+pub mod Effort
 pub mod Steady
 pub mod Steps
 pub mod Trees

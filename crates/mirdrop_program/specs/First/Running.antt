@@ -131,3 +131,36 @@ HasRunLet made left scope before after went =
 
 abbrev pub HasLeftScope : List Entry → Machine → Machine → Bool → Type 0
 HasLeftScope scope = HasPerformed (Drops scope)
+
+-- How much is left to do at the most, by which the machine comes to an end: each step lessens it.
+
+abbrev mutual
+  pub statement_size : Statement → ℕ
+  statement_size (Let x s n) = 1
+  statement_size (Call f) = 1
+  statement_size (Print n) = 1
+  statement_size (Inner b) = block_size b + 2
+
+  pub block_size : Block → ℕ
+  block_size done = 0
+  block_size (next s b) = statement_size s + block_size b
+
+abbrev pub weight : Task → ℕ
+weight (Statements left scope) = 2 * block_size left + length scope + 2
+weight (Drops scope) = length scope + 1
+weight (Ends body) = 1
+
+abbrev pub total : List Task → ℕ
+total [] = 0
+total (t ∷ ts) = weight t + total ts
+
+abbrev pub body_sizes : Program → ℕ
+body_sizes [] = 0
+body_sizes (item ∷ items) = block_size (body_of item) + body_sizes items
+
+-- more than entering any body of a program leaves to do
+abbrev pub heaviest : Program → ℕ
+heaviest p = 2 * body_sizes p + 4
+
+abbrev pub effort_of : Machine → ℕ
+effort_of m = m.world.ticks * heaviest (program_of m) + total (tasks_of m.tasks)

@@ -1,7 +1,7 @@
-ghost use Rattle.std.specs.Prelude.{◌≡◌, [], OnOk, IfOk, false, map, MatchBool, position, slice_get};
+ghost use Rattle.std.specs.Prelude.{◌≡◌, ◌<◌, ◌≤◌, ◌+◌, ◌*◌, [], true, length, OnOk, IfOk, false, map, MatchBool, position, slice_get};
 ghost use Rattle.src_meaning.specs.First.Meaning.{is_struct, is_function, has_drop_body, body_of, at_item};
 ghost use Rattle.src_meaning.specs.First.Tree.{the_item, the_statement, block_of, done, next};
-ghost use Rattle.mirdrop_program.specs.First.Running.{the_world, told, ticked, HasEntered, Pushed, Statements, the_task, program_of, Tells, HasCalled, HasDropped, HasDrawn, HasMadeOf, HasMade, HasRun, HasRunLet, HasLeftScope, HasPerformed, the_entry, scope_of};
+ghost use Rattle.mirdrop_program.specs.First.Running.{the_world, told, ticked, HasEntered, Pushed, Statements, Drops, effort_of, weight, block_size, the_task, program_of, Tells, HasCalled, HasDropped, HasDrawn, HasMadeOf, HasMade, HasRun, HasRunLet, HasLeftScope, HasPerformed, the_entry, scope_of};
 
 use mir_base::{End, Event, List, Name, NoMemory};
 use src_meaning::{FirstBlock, FirstItem, FirstStmt};
@@ -163,7 +163,8 @@ impl<'a> Machine<'a> {
     /// Enters the body of an item: spends a tick, tells of it, and leaves the body to do. False where there
     /// is no tick.
     fn enter(&mut self, alloc: Global, event: Event, item: u32) -> Result<bool, NoMemory>
-        ensures { IfOk result (HasEntered event item self.old self.new) }
+        ensures done { IfOk result (HasEntered event item self.old self.new) }
+        ensures lighter { IfOk result (λ went. went ≡ true → effort_of self.new ≤ effort_of self.old) }
     {
         if !self.world.tick() {
             return Ok(false);
@@ -176,7 +177,8 @@ impl<'a> Machine<'a> {
 
     /// Calls the function with this name, if there is one.
     fn call(&mut self, alloc: Global, name: &Name) -> Result<bool, NoMemory>
-        ensures { IfOk result (HasCalled name.now self.old self.new) }
+        ensures done { IfOk result (HasCalled name.now self.old self.new) }
+        ensures lighter { IfOk result (λ went. went ≡ true → effort_of self.new ≤ effort_of self.old) }
     {
         match function_number(self.items, name) {
             Some(index) => {
@@ -189,7 +191,8 @@ impl<'a> Machine<'a> {
 
     /// Drops a value.
     fn drop_entry(&mut self, alloc: Global, entry: Entry) -> Result<bool, NoMemory>
-        ensures { IfOk result (HasDropped (the_entry entry) self.old self.new) }
+        ensures done { IfOk result (HasDropped (the_entry entry) self.old self.new) }
+        ensures lighter { IfOk result (λ went. went ≡ true → effort_of self.new ≤ effort_of self.old) }
     {
         match entry {
             Entry::Unnumbered => Ok(true),
@@ -241,7 +244,8 @@ impl<'a> Machine<'a> {
 
     /// Makes the value of a variable, whatever its name and its number, and leaves the rest of the block.
     fn let_statement(&mut self, made: &Name, rest: &'a [FirstStmt], scope: List<Entry>) -> Result<bool, NoMemory>
-        ensures { IfOk result (HasRunLet made.now (block_of (map the_statement rest.now)) (scope_of scope) self.old self.new) }
+        ensures done { IfOk result (HasRunLet made.now (block_of (map the_statement rest.now)) (scope_of scope) self.old self.new) }
+        ensures lighter { IfOk result (λ went. went ≡ true → effort_of self.new < effort_of self.old + (2 * (block_size (block_of (map the_statement rest.now)) + 1) + length (scope_of scope) + 2)) }
     {
         let scope = self.make(made, scope)?;
         self.push(Task::Statements(rest, scope))?;
@@ -250,7 +254,8 @@ impl<'a> Machine<'a> {
 
     /// Does the first of the statements that are left of a block.
     fn statement(&mut self, alloc: Global, stmt: &'a FirstStmt, rest: &'a [FirstStmt], scope: List<Entry>) -> Result<bool, NoMemory>
-        ensures { IfOk result (HasRun (next (the_statement stmt.now) (block_of (map the_statement rest.now))) (scope_of scope) self.old self.new) }
+        ensures done { IfOk result (HasRun (next (the_statement stmt.now) (block_of (map the_statement rest.now))) (scope_of scope) self.old self.new) }
+        ensures lighter { IfOk result (λ went. went ≡ true → effort_of self.new < effort_of self.old + weight (Statements (next (the_statement stmt.now) (block_of (map the_statement rest.now))) (scope_of scope))) }
     {
         match stmt {
             FirstStmt::Let(_, made, _) => self.let_statement(made, rest, scope),
@@ -272,7 +277,8 @@ impl<'a> Machine<'a> {
     }
 
     fn statements(&mut self, alloc: Global, stmts: &'a [FirstStmt], scope: List<Entry>) -> Result<bool, NoMemory>
-        ensures { IfOk result (HasRun (block_of (map the_statement stmts.now)) (scope_of scope) self.old self.new) }
+        ensures done { IfOk result (HasRun (block_of (map the_statement stmts.now)) (scope_of scope) self.old self.new) }
+        ensures lighter { IfOk result (λ went. went ≡ true → effort_of self.new < effort_of self.old + weight (Statements (block_of (map the_statement stmts.now)) (scope_of scope))) }
     {
         match stmts.split_first() {
             Some((stmt, rest)) => self.statement(alloc, stmt, rest, scope),
@@ -284,7 +290,8 @@ impl<'a> Machine<'a> {
     }
 
     fn drops(&mut self, alloc: Global, mut scope: List<Entry>) -> Result<bool, NoMemory>
-        ensures { IfOk result (HasLeftScope (scope_of scope) self.old self.new) }
+        ensures done { IfOk result (HasLeftScope (scope_of scope) self.old self.new) }
+        ensures lighter { IfOk result (λ went. went ≡ true → effort_of self.new < effort_of self.old + weight (Drops (scope_of scope))) }
     {
         match scope.pop() {
             Some(entry) => {
@@ -297,7 +304,8 @@ impl<'a> Machine<'a> {
 
     /// Does one step of a task, and leaves the rest of it. False where the run is out of ticks.
     fn perform(&mut self, alloc: Global, task: Task<'a>) -> Result<bool, NoMemory>
-        ensures { IfOk result (HasPerformed (the_task task.entry) self.old self.new) }
+        ensures done { IfOk result (HasPerformed (the_task task.entry) self.old self.new) }
+        ensures lighter { IfOk result (λ went. went ≡ true → effort_of self.new < effort_of self.old + weight (the_task task.entry)) }
     {
         match task {
             Task::Statements(stmts, scope) => self.statements(alloc, stmts, scope),
