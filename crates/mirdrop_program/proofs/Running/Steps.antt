@@ -1,11 +1,11 @@
 -- One step of the machine leaves what is left of the run.
 use Rattle.std.proofs.Common.{◌≡◌, ℕ, zero, suc, Bool, true, false, not, cond, ℤ, ◌+◌, length, Option, Some, None, List, [], ◌∷◌, ◌++◌, refl, ap, sym, ◌∙◌, arith}
-use Rattle.std.specs.Prelude.{map, reverse, slice_get, position}
+use Rattle.std.specs.Prelude.{map, reverse, slice_get, position, codes}
 use Rattle.std.specs.List.{prefix_len}
 use Rattle.std.specs.Prelude.{Result, Ok, Err, IfOk}
 use Rattle.std.proofs.lemmas.List.{length-map}
 use Rattle.mir_base.specs.declared.trace.Event.{Event}
-use Rattle.src_meaning.specs.First.Meaning.{World, Outcome, Goes, Stops, and_then, ticking, with_ticks, telling, Entry, Unnumbered, Numbered, Scoped, Within, Over, in_scope, scope_after, leave, run_statement, run_statements, run_block, at_item, body_of, is_function, is_struct, has_drop_body, call, Enters}
+use Rattle.src_meaning.specs.First.Meaning.{World, Outcome, Goes, Stops, and_then, ticking, with_ticks, telling, Entry, Unnumbered, Numbered, Scoped, Within, Over, in_scope, scope_after, leave, run_statement, run_statements, run_block, at_item, body_of, is_function, is_struct, has_drop_body, call, Enters, entering, beginning, run_of}
 use Rattle.src_meaning.specs.First.Tree.{Statement, Let, Call, Print, Inner, Block, done, next, Item, Program, the_item}
 use Rattle.mirdrop_program.specs.declared.first.machine.Task.{Task as RunTask}
 use Rattle.mirdrop_program.specs.declared.first.machine.Machine.{Machine}
@@ -151,3 +151,18 @@ module _ (b : Block) (scope : List Entry) (m0 m1 m2 : Machine) where
         stops = λ e. whole ∙ called.stops e;
         items = called.items ∙ first.items;
       }
+
+and_then-goes : (o : Outcome) → and_then o (λ w. Goes w) ≡ o
+and_then-goes (Goes w) = refl
+and_then-goes (Stops w) = refl
+
+same_call : (p : Program) (f : Option ℕ) (ticks : ℕ) → call p (entering p ticks) f (beginning ticks) ≡ call p (enters p) f (beginning ticks)
+same_call p None ticks = refl
+same_call p (Some f) ticks = refl
+
+-- the call of `main` begins the run
+pub begins : (name : List ℕ) (ticks : ℕ) (m : Machine) → name ≡ codes "main" → the_world m.world ≡ beginning ticks → tasks_of m.tasks ≡ []
+    → run_of (program_of m) ticks ≡ and_then (call (program_of m) (enters (program_of m)) (position (is_function name) (program_of m)) (the_world m.world)) (rest_of m)
+begins name ticks m named world tasks =
+    same_call (program_of m) (position (is_function (codes "main")) (program_of m)) ticks
+    ∙ rw (named, world, tasks) (sym (and_then-goes (call (program_of m) (enters (program_of m)) (position (is_function (codes "main")) (program_of m)) (beginning ticks))))

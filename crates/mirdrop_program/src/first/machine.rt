@@ -1,10 +1,10 @@
 ghost use Rattle.std.specs.Prelude.{◌≡◌, ◌<◌, ◌≤◌, ◌+◌, ◌*◌, [], true, length, OnOk, IfOk, false, map, MatchBool, position, slice_get};
-ghost use Rattle.src_meaning.specs.First.Meaning.{is_struct, is_function, has_drop_body, body_of, at_item};
-ghost use Rattle.src_meaning.specs.First.Tree.{the_item, the_statement, block_of, done, next};
+ghost use Rattle.src_meaning.specs.First.Meaning.{is_struct, is_function, has_drop_body, body_of, at_item, trace_of, end_of, run_of};
+ghost use Rattle.src_meaning.specs.First.Tree.{the_item, the_program, the_statement, block_of, done, next};
 ghost use Rattle.mirdrop_program.specs.First.Running.{the_world, told, ticked, HasEntered, Pushed, Statements, Drops, effort_of, weight, block_size, the_task, program_of, Tells, HasCalled, HasDropped, HasDrawn, HasMadeOf, HasMade, HasRun, HasRunLet, HasLeftScope, HasPerformed, the_entry, scope_of};
 
 use mir_base::{End, Event, List, Name, NoMemory};
-use src_meaning::{FirstBlock, FirstItem, FirstStmt};
+use src_meaning::{First, FirstItem, FirstStmt};
 use std::alloc::Global;
 
 /// What a run has at hand: the ticks that are left, the next serial number, and the events so far.
@@ -316,4 +316,46 @@ impl<'a> Machine<'a> {
             }
         }
     }
+}
+
+/// What a run tells, and how it ends.
+#[derive(Drop)]
+pub struct Told {
+    pub trace: List<Event>,
+    pub end: End,
+}
+
+/// Runs `main` with so many ticks; a program without it does nothing and returns.
+pub fn run(alloc: Global, program: &First, ticks: u64) -> Result<Told, NoMemory>
+    ensures trace { IfOk result (λ told. told.trace ≡ trace_of (run_of (the_program program.now) ticks)) }
+    ensures end { IfOk result (λ told. told.end ≡ end_of (run_of (the_program program.now) ticks)) }
+{
+    let main = Name::from_str(alloc, "main")?;
+    let mut machine = Machine {
+        items: program.items.as_slice(),
+        tasks: List::new(alloc),
+        world: World {
+            ticks,
+            serial: 1,
+            trace: List::new(alloc),
+        },
+    };
+    if !machine.call(alloc, &main)? {
+        return Ok(Told {
+            trace: machine.world.trace,
+            end: End::OutOfTicks,
+        });
+    }
+    while let Some(task) = machine.tasks.pop() {
+        if !machine.perform(alloc, task)? {
+            return Ok(Told {
+                trace: machine.world.trace,
+                end: End::OutOfTicks,
+            });
+        }
+    }
+    Ok(Told {
+        trace: machine.world.trace,
+        end: End::Returned,
+    })
 }
