@@ -1,3 +1,5 @@
 pub mod Lexing
 pub mod Parsing
 pub mod Running
+pub mod Naming
+pub mod Checking

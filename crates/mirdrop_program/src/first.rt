@@ -3,3 +3,5 @@
 mod lexer;
 mod parser;
 mod machine;
+mod trace_text;
+mod form;

@@ -63,7 +63,7 @@ fn has_a_drop_body(item: &FirstItem) -> bool
     }
 }
 
-fn is_struct_named(item: &FirstItem, name: &Name) -> bool
+pub fn is_struct_named(item: &FirstItem, name: &Name) -> bool
     ensures { result ≡ is_struct name.now (the_item item.now) }
 {
     match item {
@@ -72,7 +72,7 @@ fn is_struct_named(item: &FirstItem, name: &Name) -> bool
     }
 }
 
-fn is_function_named(item: &FirstItem, name: &Name) -> bool
+pub fn is_function_named(item: &FirstItem, name: &Name) -> bool
     ensures { result ≡ is_function name.now (the_item item.now) }
 {
     match item {
