@@ -8,7 +8,7 @@ use mir_base::{End, Event, NoMemory, Why};
 use src_meaning::FirstItem;
 use std::alloc::Global;
 
-fn name_of_item(item: &FirstItem) -> &str
+pub fn name_of_item(item: &FirstItem) -> &str
     ensures { result.now ≡ item_name (the_item item.now) }
 {
     match item {
