@@ -8,4 +8,5 @@ pub mod Patterns
 pub mod Roles
 pub mod Scanning
 pub mod Sound
+pub mod Texts
 pub mod Words

@@ -3,3 +3,4 @@ pub mod Parsing
 pub mod Running
 pub mod Naming
 pub mod Checking
+pub mod Read

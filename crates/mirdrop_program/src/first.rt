@@ -5,3 +5,5 @@ mod parser;
 mod machine;
 mod trace_text;
 mod form;
+mod names;
+mod reader;
