@@ -38,7 +38,7 @@ pub no_program : (text : List ℕ) (l : Lexed) → lexed text ≡ Some l → pro
 no_program text l e none p places h = program_none l.tokens none p (in_form_nests p h.within_form) (words_of text l p places e h).0
 
 -- a struct of the items, by what the checks and the limits say
-any_struct : (items : List FirstItem) (name : List ℕ) → is_any_struct (map the_item items) name ≡ list_any (λ item. is_struct name (the_item item)) items
+pub any_struct : (items : List FirstItem) (name : List ℕ) → is_any_struct (map the_item items) name ≡ list_any (λ item. is_struct name (the_item item)) items
 any_struct [] name = refl
 any_struct (item ∷ items) name = ap (λ b. is_struct name (the_item item) || b) (any_struct items name)
 
