@@ -115,7 +115,8 @@ status_of End.Aborted = 11
 status_of End.OutOfTicks = 12
 status_of (End.Stuck body block) = 13
 
-abbrev pub run_ticks : ℕ
+-- the ticks of a run, which are not to be counted down where a proof computes
+unfoldable pub run_ticks : ℕ
 run_ticks = 10000
 
 -- what `run` owes a text: a status and what is written
