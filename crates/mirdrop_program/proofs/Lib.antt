@@ -1,3 +1,4 @@
 mod Reading
 mod Running
 mod Checks
+mod TopCall
