@@ -1,0 +1,5 @@
+pub mod Data
+pub mod Dropping
+pub mod Laws
+pub mod Places
+pub mod Wholeness

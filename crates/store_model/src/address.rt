@@ -1,0 +1,75 @@
+ghost use Rattle.std.specs.Prelude.{◌≡◌, [], ◌∷◌, ◌++◌, IfOk, OnOk, OnErr};
+
+use mir_base::{Key, NoMemory};
+use smallvec::SmallVec;
+use std::alloc::Global;
+use std::marker::Model;
+
+/// One step from a value to a part of it.
+#[derive(Clone, Copy, Debug, Default, PartialEq, Eq, Hash)]
+pub enum At {
+    /// To the part with this number, from 0, of an aggregate.
+    Part(u32),
+    /// To the content of a box.
+    #[default]
+    Inside,
+}
+
+/// The steps from a value to a part of it, outermost first. Contracts see it as their list.
+#[derive(Debug, Drop)]
+pub struct AtPath {
+    steps: SmallVec<At, 4, Global>,
+}
+
+impl Model for AtPath {
+    ghost use Rattle.std.specs.Prelude.{List};
+    ghost use Rattle.store_model.specs.declared.address.At.{At};
+
+    ghost Value = { List At };
+
+    ghost view = { λ path. path.steps.items };
+}
+
+impl AtPath {
+    /// The path without steps, which takes no memory.
+    pub fn new(alloc: Global) -> AtPath
+        ensures { result ≡ [] }
+    {
+        AtPath {
+            steps: SmallVec::new(alloc),
+        }
+    }
+
+    /// The steps, outermost first.
+    pub fn as_slice(&self) -> &[At]
+        ensures { result.now ≡ self.now }
+    {
+        self.steps.as_slice()
+    }
+
+    /// Makes the step the last one. Where memory is wanted the path is as it was.
+    pub fn push(&mut self, step: At) -> Result<(), NoMemory>
+        ensures pushed { OnOk result (self.new ≡ self.old ++ step ∷ []) }
+        ensures refused { OnErr result (self.new ≡ self.old) }
+    {
+        self.steps.push(step)?;
+        Ok(())
+    }
+
+    /// A second path with the same steps.
+    pub fn copy(&self, alloc: Global) -> Result<AtPath, NoMemory>
+        ensures { IfOk result (λ path. path ≡ self.now) }
+    {
+        Ok(AtPath {
+            steps: SmallVec::from_slice(alloc, self.as_slice())?,
+        })
+    }
+}
+
+/// Where a value stands.
+#[derive(Debug, Drop)]
+pub struct Addr {
+    pub depth: u32,
+    pub key: Key,
+    pub path: AtPath,
+}

@@ -1,0 +1,29 @@
+ghost use Rattle.std.specs.Prelude.{◌≡◌, ◌<◌, ◌-◌, ◌^◌, IfOk, map};
+ghost use Rattle.std.specs.List.{range_with_len};
+ghost use Rattle.store_model.specs.Data.{datum_of};
+ghost use Rattle.store_model.specs.Dropping.{part_count, steps_to_parts};
+
+use crate::{At, Value};
+use mir_base::{List, NoMemory};
+use std::alloc::Global;
+
+/// The steps to the parts of a value, in the order in which the parts are dropped: those of an aggregate
+/// from first to last, and the content of a box. A part that is gone has its step too, and its drop does
+/// nothing. Other values have no parts. Asks for fewer than 4,294,967,295 parts, so that each has its
+/// number. The order is that of The Rust Reference, "Destructors".
+pub fn parts_in_order(alloc: Global, value: &Value) -> Result<List<At>, NoMemory>
+    requires { part_count (datum_of value.now) < 2 ^ 32 - 1 }
+    ensures { IfOk result (λ steps. steps ≡ steps_to_parts (datum_of value.now)) }
+{
+    let mut steps = List::new(alloc);
+    match value {
+        Value::Parts { parts, .. } => {
+            for number in 0..parts.len() as u32 {
+                steps.push(At::Part(number))?;
+            }
+        }
+        Value::Boxed { .. } => steps.push(At::Inside)?,
+        _ => {}
+    }
+    Ok(steps)
+}
