@@ -1,9 +1,21 @@
--- The parts of a list, by their numbers.
-use Rattle.std.proofs.Common.{◌≡◌, ℕ, zero, suc, List, [], ◌∷◌, Option, Some, None, map, refl, ap}
+-- The plain data of values, by their variants, and of the parts of a list, by their numbers.
+use Rattle.std.proofs.Common.{◌≡◌, ℕ, zero, suc, List, [], ◌∷◌, length, Option, Some, None, map, refl, sym, ap, ◌∙◌}
 use Rattle.std.specs.Prelude.{option_map, slice_get, slice_set}
-use Rattle.store_model.specs.declared.value.Value.{Value}
-use Rattle.store_model.specs.Data.{Datum, Data, a_part, data_from, datum_of}
+use Rattle.std.specs.declared.boxed.Box.{Box as TheBox}
+use Rattle.std.specs.declared.alloc.Global.{Global}
+use Rattle.store_model.specs.declared.value.Value.{Value, Value-F, fold-roll-Value}
+use Rattle.store_model.specs.declared.value.Value.TheVariants.{Parts, Boxed, rolls-Parts, rolls-Boxed}
+use Rattle.store_model.specs.Data.{Datum, Data, Aggregate, Box, a_part, data_from, datum_of, datum_of_layer}
+use Rattle.store_model.specs.Dropping.{count}
 use Rattle.store_model.specs.Places.{part_at, with_part_at}
+
+pub datum_of-Parts : (variant : ℕ) (serial : Option ℕ) (values : List Value) → datum_of (Parts variant serial values) ≡ Aggregate variant serial (data_from (map datum_of values))
+datum_of-Parts variant serial values =
+    ap datum_of (sym (rolls-Parts variant serial values)) ∙ fold-roll-Value Datum datum_of_layer (Value-F.Parts variant serial values)
+
+pub datum_of-Boxed : (serial : ℕ) (impl_no : Option ℕ) (inside : TheBox Value Global) → datum_of (Boxed serial impl_no inside) ≡ Box serial impl_no (datum_of inside.value)
+datum_of-Boxed serial impl_no inside =
+    ap datum_of (sym (rolls-Boxed serial impl_no inside)) ∙ fold-roll-Value Datum datum_of_layer (Value-F.Boxed serial impl_no inside)
 
 pub part_at-data_from : (values : List Value) (number : ℕ) → part_at number (data_from (map datum_of values)) ≡ option_map datum_of (slice_get values number)
 part_at-data_from [] number = refl
@@ -15,4 +27,6 @@ with_part_at-data_from [] number new = refl
 with_part_at-data_from (value ∷ values) zero new = refl
 with_part_at-data_from (value ∷ values) (suc number) new = ap (a_part (datum_of value)) (with_part_at-data_from values number new)
 
-pub ruleset part_lemmas = (part_at-data_from, with_part_at-data_from)
+pub count-data_from : (values : List Value) → count (data_from (map datum_of values)) ≡ length values
+count-data_from [] = refl
+count-data_from (value ∷ values) = ap suc (count-data_from values)

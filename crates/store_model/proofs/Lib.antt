@@ -1,1 +1,6 @@
 pub mod DataLemmas
+pub mod PartLaws
+pub mod PlaceLaws
+pub mod PlaceSteps
+pub mod SerialLaws
+pub mod WholenessLaws

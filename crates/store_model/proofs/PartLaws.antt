@@ -1,0 +1,66 @@
+-- The parts of a value after one of them was changed.
+use Rattle.std.proofs.Common.{◌≡◌, ◌≢◌, ℕ, zero, suc, Option, Some, None, refl, sym, ap, ◌∙◌}
+use Rattle.store_model.specs.declared.address.At.{At}
+use Rattle.store_model.specs.declared.address.At.TheVariants.{Part, Inside}
+use Rattle.store_model.specs.Data.{Datum, Data, Gone, Number, Truth, UnitValue, Aggregate, Box, Address, no_part, a_part}
+use Rattle.store_model.specs.Places.{part, with_part, part_at, with_part_at}
+
+pub part_at-with_part_at : (number : ℕ) (new old : Datum) (parts : Data) → part_at number parts ≡ Some old → part_at number (with_part_at number new parts) ≡ Some new
+part_at-with_part_at number new old no_part h = absurd (cc)
+part_at-with_part_at zero new old (a_part first rest) h = refl
+part_at-with_part_at (suc number) new old (a_part first rest) h = part_at-with_part_at number new old rest h
+
+pub with_part_at-part_at : (number : ℕ) (old : Datum) (parts : Data) → part_at number parts ≡ Some old → with_part_at number old parts ≡ parts
+with_part_at-part_at number old no_part h = refl
+with_part_at-part_at zero old (a_part first rest) h = ap (λ x. a_part x rest) (let e : old ≡ first = cc in e)
+with_part_at-part_at (suc number) old (a_part first rest) h = ap (a_part first) (with_part_at-part_at number old rest h)
+
+pub with_part_at-with_part_at : (number : ℕ) (new later : Datum) (parts : Data) → with_part_at number later (with_part_at number new parts) ≡ with_part_at number later parts
+with_part_at-with_part_at number new later no_part = refl
+with_part_at-with_part_at zero new later (a_part first rest) = refl
+with_part_at-with_part_at (suc number) new later (a_part first rest) = ap (a_part first) (with_part_at-with_part_at number new later rest)
+
+pub part_at-with_part_at_other : (number other : ℕ) (new : Datum) (parts : Data) → number ≢ other → part_at other (with_part_at number new parts) ≡ part_at other parts
+part_at-with_part_at_other number other new no_part differ = refl
+part_at-with_part_at_other zero zero new (a_part first rest) differ = absurd (differ refl)
+part_at-with_part_at_other zero (suc other) new (a_part first rest) differ = refl
+part_at-with_part_at_other (suc number) zero new (a_part first rest) differ = refl
+part_at-with_part_at_other (suc number) (suc other) new (a_part first rest) differ = part_at-with_part_at_other number other new rest (λ e. differ (ap suc e))
+
+pub with_part_at-swap : (number other : ℕ) (new another : Datum) (parts : Data) → number ≢ other → with_part_at number new (with_part_at other another parts) ≡ with_part_at other another (with_part_at number new parts)
+with_part_at-swap number other new another no_part differ = refl
+with_part_at-swap zero zero new another (a_part first rest) differ = absurd (differ refl)
+with_part_at-swap zero (suc other) new another (a_part first rest) differ = refl
+with_part_at-swap (suc number) zero new another (a_part first rest) differ = refl
+with_part_at-swap (suc number) (suc other) new another (a_part first rest) differ = ap (a_part first) (with_part_at-swap number other new another rest (λ e. differ (ap suc e)))
+
+-- the changed part stands where the step leads
+pub part-with_part : (step : At) (new old root : Datum) → part step root ≡ Some old → part step (with_part step new root) ≡ Some new
+part-with_part (Part number) new old (Aggregate variant serial parts) h = part_at-with_part_at number new old parts h
+part-with_part Inside new old (Box serial impl_no inside) h = refl
+part-with_part _ new old _ h = absurd (cc)
+
+pub with_part-part : (step : At) (old root : Datum) → part step root ≡ Some old → with_part step old root ≡ root
+with_part-part (Part number) old (Aggregate variant serial parts) h = ap (Aggregate variant serial) (with_part_at-part_at number old parts h)
+with_part-part Inside old (Box serial impl_no inside) h = cc
+with_part-part _ old _ h = refl
+
+pub with_part-with_part : (step : At) (new later root : Datum) → with_part step later (with_part step new root) ≡ with_part step later root
+with_part-with_part (Part number) new later (Aggregate variant serial parts) = ap (Aggregate variant serial) (with_part_at-with_part_at number new later parts)
+with_part-with_part Inside new later (Box serial impl_no inside) = refl
+with_part-with_part _ new later _ = refl
+
+-- the other parts stay
+pub part-with_part_other : (step other : At) (new root : Datum) → step ≢ other → part other (with_part step new root) ≡ part other root
+part-with_part_other (Part number) (Part other) new (Aggregate variant serial parts) differ = part_at-with_part_at_other number other new parts (λ e. differ (ap Part e))
+part-with_part_other (Part number) Inside new (Aggregate variant serial parts) differ = refl
+part-with_part_other Inside (Part other) new (Box serial impl_no inside) differ = refl
+part-with_part_other Inside Inside new (Box serial impl_no inside) differ = absurd (differ refl)
+part-with_part_other _ _ new _ differ = refl
+
+pub with_part-swap : (step other : At) (new another root : Datum) → step ≢ other → with_part step new (with_part other another root) ≡ with_part other another (with_part step new root)
+with_part-swap (Part number) (Part other) new another (Aggregate variant serial parts) differ = ap (Aggregate variant serial) (with_part_at-swap number other new another parts (λ e. differ (ap Part e)))
+with_part-swap (Part number) Inside new another (Aggregate variant serial parts) differ = refl
+with_part-swap Inside (Part other) new another (Box serial impl_no inside) differ = refl
+with_part-swap Inside Inside new another (Box serial impl_no inside) differ = absurd (differ refl)
+with_part-swap _ _ new another _ differ = refl

@@ -1,0 +1,10 @@
+use Rattle.store_model.proofs.SerialLaws.{serials-split, serials-exchange, serials-taken, serials-along_steps}
+use Rattle.store_model.proofs.laws.law_of_serials.Goals as goal
+
+pub returns : goal.returns
+returns c = record {
+  split = serials-split;
+  exchange = serials-exchange;
+  taken = serials-taken;
+  along_steps = serials-along_steps;
+}
