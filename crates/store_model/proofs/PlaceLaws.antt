@@ -239,6 +239,10 @@ pub none_from-IsCutOff : (path : List At) (root : Datum) → IsCutOff path root 
 none_from-IsCutOff path root cut =
     ap (λ p. standing_at p root) cut.path_is ∙ standing_at-below cut.above (cut.step ∷ cut.below) root cut.container cut.container_is ∙ standing_at-no_step cut.step cut.below cut.container cut.lacks
 
+-- where something stands, no container is gone or lacks a part
+pub not_cut_off : (path : List At) (root inner : Datum) → standing_at path root ≡ Some inner → IsCutOff path root → ⊥
+not_cut_off path root inner h cut = let e : Some inner ≡ None = sym h ∙ none_from-IsCutOff path root cut in cc
+
 -- two steps are the same, or they differ
 pub same_step_or_not : (step other : At) → (step ≡ other) ⊎ (step ≢ other)
 same_step_or_not (Part number) (Part other) =

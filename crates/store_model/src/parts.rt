@@ -1,5 +1,6 @@
 ghost use Rattle.std.specs.Prelude.{◌≡◌, ◌<◌, ◌-◌, ◌^◌, IfOk, map};
 ghost use Rattle.std.specs.List.{range_with_len};
+ghost use Rattle.store_model.specs.declared.address.At.TheVariants.{Part};
 ghost use Rattle.store_model.specs.Data.{datum_of};
 ghost use Rattle.store_model.specs.Dropping.{part_count, steps_to_parts};
 
@@ -15,15 +16,24 @@ pub fn parts_in_order(alloc: Global, value: &Value) -> Result<List<At>, NoMemory
     requires { part_count (datum_of value.now) < 2 ^ 32 - 1 }
     ensures { IfOk result (λ steps. steps ≡ steps_to_parts (datum_of value.now)) }
 {
-    let mut steps = List::new(alloc);
     match value {
-        Value::Parts { parts, .. } => {
-            for number in 0..parts.len() as u32 {
-                steps.push(At::Part(number))?;
-            }
+        Value::Parts { parts, .. } => numbered_steps(alloc, parts.len() as u32),
+        Value::Boxed { .. } => {
+            let mut steps = List::new(alloc);
+            steps.push(At::Inside)?;
+            Ok(steps)
         }
-        Value::Boxed { .. } => steps.push(At::Inside)?,
-        _ => {}
+        _ => Ok(List::new(alloc)),
+    }
+}
+
+/// The steps to so many parts, from the first to the last.
+fn numbered_steps(alloc: Global, count: u32) -> Result<List<At>, NoMemory>
+    ensures { IfOk result (λ steps. steps ≡ map Part (range_with_len 0 count)) }
+{
+    let mut steps = List::new(alloc);
+    for number in 0..count {
+        steps.push(At::Part(number))?;
     }
     Ok(steps)
 }
