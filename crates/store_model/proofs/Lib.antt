@@ -1,3 +1,4 @@
+pub mod CountLemmas
 pub mod DataLemmas
 pub mod PartLaws
 pub mod PlaceLaws

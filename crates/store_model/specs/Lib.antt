@@ -1,3 +1,4 @@
+pub mod Counts
 pub mod Data
 pub mod Dropping
 pub mod Laws
