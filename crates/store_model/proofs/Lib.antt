@@ -2,6 +2,7 @@ pub mod CountLemmas
 pub mod DataLemmas
 pub mod PartLaws
 pub mod PlaceLaws
+pub mod PlacePieces
 pub mod PlaceSteps
 pub mod SerialLaws
 pub mod WholenessLaws

@@ -40,6 +40,15 @@ impl AtPath {
         }
     }
 
+    /// A path of these steps.
+    pub fn from_slice(alloc: Global, steps: &[At]) -> Result<AtPath, NoMemory>
+        ensures { IfOk result (λ path. path ≡ steps.now) }
+    {
+        Ok(AtPath {
+            steps: SmallVec::from_slice(alloc, steps)?,
+        })
+    }
+
     /// The steps, outermost first.
     pub fn as_slice(&self) -> &[At]
         ensures { result.now ≡ self.now }
@@ -60,9 +69,7 @@ impl AtPath {
     pub fn copy(&self, alloc: Global) -> Result<AtPath, NoMemory>
         ensures { IfOk result (λ path. path ≡ self.now) }
     {
-        Ok(AtPath {
-            steps: SmallVec::from_slice(alloc, self.as_slice())?,
-        })
+        AtPath::from_slice(alloc, self.as_slice())
     }
 }
 

@@ -14,3 +14,6 @@ pub use laws::{law_of_changes, law_of_paths, law_of_serials, law_of_what_stands,
 pub use parts::parts_in_order;
 pub use places::{put, read, take};
 pub use value::Value;
+
+#[cfg(test)]
+mod tests;

@@ -31,7 +31,31 @@ fn part_of(value: &Value, step: At) -> Option<&Value>
     }
 }
 
+/// How many steps of a path are walked by one recursion.
+const PIECE: usize = 1024;
+
+/// Exchanges what stands at the end of a path with another value, and says whether anything stands there. A
+/// long path is walked in pieces: the container at the end of a piece is taken out and put back after. So
+/// the stack holds one frame for each step of a piece and one for each piece.
 fn exchange(root: &mut Value, path: &[At], value: &mut Value) -> bool
+    ensures found { MatchBool result (standing_at path.now (datum_of root.old) ≡ Some (datum_of value.new))
+        ((standing_at path.now (datum_of root.old) ≡ None) × (datum_of value.new ≡ datum_of value.old)) }
+    ensures after { datum_of root.new ≡ replaced path.now (datum_of value.old) (datum_of root.old) }
+{
+    if path.len() <= PIECE {
+        return exchange_by_steps(root, path, value);
+    }
+    let (above, below) = path.split_at(PIECE);
+    let mut container = Value::Gone;
+    if !exchange_by_steps(root, above, &mut container) {
+        return false;
+    }
+    let found = exchange(&mut container, below, value);
+    exchange_by_steps(root, above, &mut container);
+    found
+}
+
+fn exchange_by_steps(root: &mut Value, path: &[At], value: &mut Value) -> bool
     ensures found { MatchBool result (standing_at path.now (datum_of root.old) ≡ Some (datum_of value.new))
         ((standing_at path.now (datum_of root.old) ≡ None) × (datum_of value.new ≡ datum_of value.old)) }
     ensures after { datum_of root.new ≡ replaced path.now (datum_of value.old) (datum_of root.old) }
@@ -44,11 +68,11 @@ fn exchange(root: &mut Value, path: &[At], value: &mut Value) -> bool
         (Value::Parts { parts, .. }, At::Part(number)) => {
             let index = *number as usize;
             if index < parts.len() {
-                return exchange(parts.element_mut(index), below, value);
+                return exchange_by_steps(parts.element_mut(index), below, value);
             }
             false
         }
-        (Value::Boxed { inside, .. }, At::Inside) => return exchange(inside, below, value),
+        (Value::Boxed { inside, .. }, At::Inside) => return exchange_by_steps(inside, below, value),
         _ => false,
     }
 }
