@@ -82,8 +82,8 @@ pub falls_nearer_end : (count : ℕ) (waiting : Option (List Value)) (rest : Val
     count_left rest * suc (count_left rest) + node_count (datum_of rest.0) < (count + count_waiting waiting) * suc (count + count_waiting waiting) + count
 falls_nearer_end count waiting rest near =
     elim near [
-    inl fewer ↦ square_falls (count_left rest) (count + count_waiting waiting) (node_count (datum_of rest.0)) count (omega arith) fewer
-    | inr same ↦ omega (arith, ap (λ n. n * suc n) same.0, same.1)
+      | inl fewer ↦ square_falls (count_left rest) (count + count_waiting waiting) (node_count (datum_of rest.0)) count (omega arith) fewer
+      | inr same ↦ omega (arith, ap (λ n. n * suc n) same.0, same.1)
     ]
   where
     square_falls : (left more first count : ℕ) → first ≤ left → left < more → left * suc left + first < more * suc more + count

@@ -1,8 +1,8 @@
-pub mod CountLemmas
+mod CountLemmas
 pub mod DataLemmas
 pub mod PartLaws
 pub mod PlaceLaws
-pub mod PlacePieces
+mod PlacePieces
 pub mod PlaceSteps
 pub mod SerialLaws
 pub mod WholenessLaws

@@ -47,11 +47,11 @@ pub replaced-nowhere : (path : List At) (new root : Datum) → standing_at path 
 replaced-nowhere [] new root h = absurd (cc)
 replaced-nowhere (step ∷ path) new root h =
     elim (none_or_some (part step root)) [
-    inl none ↦ replaced-no_step step path new root none
-    | inr some ↦ (
-      let inner = replaced-nowhere path new some.0 (sym (standing_at-step step path root some.0 some.1) ∙ h) in
-      replaced-step step path new root some.0 some.1 ∙ ap (λ x. with_part step x root) inner ∙ with_part-part step some.0 root some.1
-    )
+      | inl none ↦ replaced-no_step step path new root none
+      | inr some ↦ (
+          let inner = replaced-nowhere path new some.0 (sym (standing_at-step step path root some.0 some.1) ∙ h) in
+          replaced-step step path new root some.0 some.1 ∙ ap (λ x. with_part step x root) inner ∙ with_part-part step some.0 root some.1
+          )
     ]
 
 -- of two values put in one place the later stays
@@ -59,13 +59,13 @@ pub replaced-replaced : (path : List At) (new later root : Datum) → replaced p
 replaced-replaced [] new later root = refl
 replaced-replaced (step ∷ path) new later root =
     elim (none_or_some (part step root)) [
-    inl none ↦ ap (replaced (step ∷ path) later) (replaced-no_step step path new root none)
-    | inr some ↦ (
-      let first = replaced-step step path new root some.0 some.1 in
-      let again = replaced-step step path later (replaced (step ∷ path) new root) (replaced path new some.0) (part-replaced step path new root some.0 some.1) in
-      again ∙ ap (λ x. with_part step x (replaced (step ∷ path) new root)) (replaced-replaced path new later some.0) ∙ ap (with_part step (replaced path later some.0)) first
-      ∙ with_part-with_part step (replaced path new some.0) (replaced path later some.0) root ∙ sym (replaced-step step path later root some.0 some.1)
-    )
+      | inl none ↦ ap (replaced (step ∷ path) later) (replaced-no_step step path new root none)
+      | inr some ↦ (
+          let first = replaced-step step path new root some.0 some.1 in
+          let again = replaced-step step path later (replaced (step ∷ path) new root) (replaced path new some.0) (part-replaced step path new root some.0 some.1) in
+          again ∙ ap (λ x. with_part step x (replaced (step ∷ path) new root)) (replaced-replaced path new later some.0) ∙ ap (with_part step (replaced path later some.0)) first
+          ∙ with_part-with_part step (replaced path new some.0) (replaced path later some.0) root ∙ sym (replaced-step step path later root some.0 some.1)
+          )
     ]
 
 -- a change below a place is a change of what stands there
@@ -73,11 +73,11 @@ pub replaced-append : (path below : List At) (new root old : Datum) → standing
 replaced-append [] below new root old h = ap (replaced below new) (let e : root ≡ old = cc in e)
 replaced-append (step ∷ path) below new root old h =
     elim (none_or_some (part step root)) [
-    inl none ↦ absurd (let e : Some old ≡ None = sym h ∙ standing_at-no_step step path root none in cc)
-    | inr some ↦ (
-      let inner = replaced-append path below new some.0 old (sym (standing_at-step step path root some.0 some.1) ∙ h) in
-      replaced-step step (path ++ below) new root some.0 some.1 ∙ ap (λ x. with_part step x root) inner ∙ sym (replaced-step step path (replaced below new old) root some.0 some.1)
-    )
+      | inl none ↦ absurd (let e : Some old ≡ None = sym h ∙ standing_at-no_step step path root none in cc)
+      | inr some ↦ (
+          let inner = replaced-append path below new some.0 old (sym (standing_at-step step path root some.0 some.1) ∙ h) in
+          replaced-step step (path ++ below) new root some.0 some.1 ∙ ap (λ x. with_part step x root) inner ∙ sym (replaced-step step path (replaced below new old) root some.0 some.1)
+          )
     ]
 
 -- what was put stands at its place
@@ -85,11 +85,11 @@ pub standing_at-replaced : (path : List At) (new root old : Datum) → standing_
 standing_at-replaced [] new root old h = refl
 standing_at-replaced (step ∷ path) new root old h =
     elim (none_or_some (part step root)) [
-    inl none ↦ absurd (let e : Some old ≡ None = sym h ∙ standing_at-no_step step path root none in cc)
-    | inr some ↦ (
-      let inner = standing_at-replaced path new some.0 old (sym (standing_at-step step path root some.0 some.1) ∙ h) in
-      standing_at-step step path (replaced (step ∷ path) new root) (replaced path new some.0) (part-replaced step path new root some.0 some.1) ∙ inner
-    )
+      | inl none ↦ absurd (let e : Some old ≡ None = sym h ∙ standing_at-no_step step path root none in cc)
+      | inr some ↦ (
+          let inner = standing_at-replaced path new some.0 old (sym (standing_at-step step path root some.0 some.1) ∙ h) in
+          standing_at-step step path (replaced (step ∷ path) new root) (replaced path new some.0) (part-replaced step path new root some.0 some.1) ∙ inner
+          )
     ]
 
 -- below the place stand the parts of what was put
@@ -106,11 +106,11 @@ pub replaced-standing_at : (path : List At) (root old : Datum) → standing_at p
 replaced-standing_at [] root old h = let e : old ≡ root = cc in e
 replaced-standing_at (step ∷ path) root old h =
     elim (none_or_some (part step root)) [
-    inl none ↦ absurd (let e : Some old ≡ None = sym h ∙ standing_at-no_step step path root none in cc)
-    | inr some ↦ (
-      let inner = replaced-standing_at path some.0 old (sym (standing_at-step step path root some.0 some.1) ∙ h) in
-      replaced-step step path old root some.0 some.1 ∙ ap (λ x. with_part step x root) inner ∙ with_part-part step some.0 root some.1
-    )
+      | inl none ↦ absurd (let e : Some old ≡ None = sym h ∙ standing_at-no_step step path root none in cc)
+      | inr some ↦ (
+          let inner = replaced-standing_at path some.0 old (sym (standing_at-step step path root some.0 some.1) ∙ h) in
+          replaced-step step path old root some.0 some.1 ∙ ap (λ x. with_part step x root) inner ∙ with_part-part step some.0 root some.1
+          )
     ]
 
 -- what was taken or replaced, put back, gives the value as it was
@@ -121,8 +121,8 @@ replaced_back path new root old h = replaced-replaced path new old root ∙ repl
 pub replaced-replaced_below : (path below : List At) (new later root : Datum) → replaced path later (replaced (path ++ below) new root) ≡ replaced path later root
 replaced-replaced_below path below new later root =
     elim (none_or_some (standing_at path root)) [
-    inl none ↦ ap (replaced path later) (replaced-nowhere (path ++ below) new root (standing_at-append path below root ∙ ap (option_and_then (standing_at below)) none))
-    | inr some ↦ ap (replaced path later) (replaced-append path below new root some.0 some.1) ∙ replaced-replaced path (replaced below new some.0) later root
+      | inl none ↦ ap (replaced path later) (replaced-nowhere (path ++ below) new root (standing_at-append path below root ∙ ap (option_and_then (standing_at below)) none))
+      | inr some ↦ ap (replaced path later) (replaced-append path below new root some.0 some.1) ∙ replaced-replaced path (replaced below new some.0) later root
     ]
 
 -- two paths that take different steps from the end of a common one
@@ -130,18 +130,18 @@ standing_at-replaced_fork : (above : List At) (step other : At) (below other_bel
     standing_at (above ++ other ∷ other_below) (replaced (above ++ step ∷ below) new root) ≡ standing_at (above ++ other ∷ other_below) root
 standing_at-replaced_fork [] step other below other_below new root differ =
     elim (none_or_some (part step root)) [
-    inl none ↦ ap (standing_at (other ∷ other_below)) (replaced-no_step step below new root none)
-    | inr some ↦ ap (standing_at (other ∷ other_below)) (replaced-step step below new root some.0 some.1)
-      ∙ ap (option_and_then (standing_at other_below)) (part-with_part_other step other (replaced below new some.0) root differ)
+      | inl none ↦ ap (standing_at (other ∷ other_below)) (replaced-no_step step below new root none)
+      | inr some ↦ ap (standing_at (other ∷ other_below)) (replaced-step step below new root some.0 some.1)
+          ∙ ap (option_and_then (standing_at other_below)) (part-with_part_other step other (replaced below new some.0) root differ)
     ]
 standing_at-replaced_fork (first ∷ above) step other below other_below new root differ =
     elim (none_or_some (part first root)) [
-    inl none ↦ ap (standing_at (first ∷ above ++ other ∷ other_below)) (replaced-no_step first (above ++ step ∷ below) new root none)
-    | inr some ↦ (
-      let changed = replaced (first ∷ above ++ step ∷ below) new root in
-      standing_at-step first (above ++ other ∷ other_below) changed (replaced (above ++ step ∷ below) new some.0) (part-replaced first (above ++ step ∷ below) new root some.0 some.1)
-      ∙ standing_at-replaced_fork above step other below other_below new some.0 differ ∙ sym (standing_at-step first (above ++ other ∷ other_below) root some.0 some.1)
-    )
+      | inl none ↦ ap (standing_at (first ∷ above ++ other ∷ other_below)) (replaced-no_step first (above ++ step ∷ below) new root none)
+      | inr some ↦ (
+          let changed = replaced (first ∷ above ++ step ∷ below) new root in
+          standing_at-step first (above ++ other ∷ other_below) changed (replaced (above ++ step ∷ below) new some.0) (part-replaced first (above ++ step ∷ below) new root some.0 some.1)
+          ∙ standing_at-replaced_fork above step other below other_below new some.0 differ ∙ sym (standing_at-step first (above ++ other ∷ other_below) root some.0 some.1)
+          )
     ]
 
 -- apart from the place everything stands as before
@@ -155,57 +155,57 @@ replaced_fork-swap : (above : List At) (step other : At) (below other_below : Li
 replaced_fork-swap [] step other below other_below new another root differ =
     let apart : other ≢ step = λ e. differ (sym e) in
     elim (none_or_some (part step root)) [
-    inl none ↦ (
-      let changed = replaced (other ∷ other_below) another root in
-      let stays = standing_at-replaced_fork [] other step other_below [] another root apart in
-      let still_none : part step changed ≡ None = step_none step changed root stays none in
-      replaced-no_step step below new changed still_none ∙ sym (ap (replaced (other ∷ other_below) another) (replaced-no_step step below new root none))
-    )
-    | inr some ↦ elim (none_or_some (part other root)) [
-      inl none ↦ (
-        let changed = replaced (step ∷ below) new root in
-        let stays = standing_at-replaced_fork [] step other below [] new root differ in
-        let still_none : part other changed ≡ None = step_none other changed root stays none in
-        ap (replaced (step ∷ below) new) (replaced-no_step other other_below another root none) ∙ sym (replaced-no_step other other_below another changed still_none)
-      )
-      | inr same ↦ (
-        let one = replaced below new some.0 in
-        let two = replaced other_below another same.0 in
-        let first = replaced-step step below new root some.0 some.1 in
-        let second = replaced-step other other_below another root same.0 same.1 in
-        let after_second = replaced-step step below new (with_part other two root) some.0 (part-with_part_other other step two root apart ∙ some.1) in
-        let after_first = replaced-step other other_below another (with_part step one root) same.0 (part-with_part_other step other one root differ ∙ same.1) in
-        ap (replaced (step ∷ below) new) second ∙ after_second ∙ with_part-swap step other one two root differ ∙ sym after_first ∙ sym (ap (replaced (other ∷ other_below) another) first)
-      )
+      | inl none ↦ (
+          let changed = replaced (other ∷ other_below) another root in
+          let stays = standing_at-replaced_fork [] other step other_below [] another root apart in
+          let still_none : part step changed ≡ None = step_none step changed root stays none in
+          replaced-no_step step below new changed still_none ∙ sym (ap (replaced (other ∷ other_below) another) (replaced-no_step step below new root none))
+          )
+      | inr some ↦ elim (none_or_some (part other root)) [
+        | inl none ↦ (
+            let changed = replaced (step ∷ below) new root in
+            let stays = standing_at-replaced_fork [] step other below [] new root differ in
+            let still_none : part other changed ≡ None = step_none other changed root stays none in
+            ap (replaced (step ∷ below) new) (replaced-no_step other other_below another root none) ∙ sym (replaced-no_step other other_below another changed still_none)
+            )
+        | inr same ↦ (
+            let one = replaced below new some.0 in
+            let two = replaced other_below another same.0 in
+            let first = replaced-step step below new root some.0 some.1 in
+            let second = replaced-step other other_below another root same.0 same.1 in
+            let after_second = replaced-step step below new (with_part other two root) some.0 (part-with_part_other other step two root apart ∙ some.1) in
+            let after_first = replaced-step other other_below another (with_part step one root) same.0 (part-with_part_other step other one root differ ∙ same.1) in
+            ap (replaced (step ∷ below) new) second ∙ after_second ∙ with_part-swap step other one two root differ ∙ sym after_first ∙ sym (ap (replaced (other ∷ other_below) another) first)
+            )
       ]
     ]
   where
     step_none : (step : At) (changed root : Datum) → standing_at (step ∷ []) changed ≡ standing_at (step ∷ []) root → part step root ≡ None → part step changed ≡ None
     step_none step changed root stays none =
         elim (none_or_some (part step changed)) [
-        inl still ↦ still
-        | inr some ↦ absurd (let e : Some some.0 ≡ None = sym (standing_at-step step [] changed some.0 some.1) ∙ stays ∙ standing_at-no_step step [] root none in cc)
+          | inl still ↦ still
+          | inr some ↦ absurd (let e : Some some.0 ≡ None = sym (standing_at-step step [] changed some.0 some.1) ∙ stays ∙ standing_at-no_step step [] root none in cc)
         ]
 replaced_fork-swap (first ∷ above) step other below other_below new another root differ =
     let one_path = above ++ step ∷ below in
     let other_path = above ++ other ∷ other_below in
     elim (none_or_some (part first root)) [
-    inl none ↦ (
-      let one = replaced-no_step first one_path new root none in
-      let two = replaced-no_step first other_path another root none in
-      ap (replaced (first ∷ one_path) new) two ∙ one ∙ sym (ap (replaced (first ∷ other_path) another) one ∙ two)
-    )
-    | inr some ↦ (
-      let x = some.0 in
-      let one = replaced-step first one_path new root x some.1 in
-      let two = replaced-step first other_path another root x some.1 in
-      let one_again = replaced-step first one_path new (replaced (first ∷ other_path) another root) (replaced other_path another x) (part-replaced first other_path another root x some.1) in
-      let two_again = replaced-step first other_path another (replaced (first ∷ one_path) new root) (replaced one_path new x) (part-replaced first one_path new root x some.1) in
-      let left = replaced one_path new (replaced other_path another x) in
-      let right = replaced other_path another (replaced one_path new x) in
-      one_again ∙ ap (with_part first left) two ∙ with_part-with_part first (replaced other_path another x) left root ∙ ap (λ y. with_part first y root) (replaced_fork-swap above step other below other_below new another x differ)
-      ∙ sym (two_again ∙ ap (with_part first right) one ∙ with_part-with_part first (replaced one_path new x) right root)
-    )
+      | inl none ↦ (
+          let one = replaced-no_step first one_path new root none in
+          let two = replaced-no_step first other_path another root none in
+          ap (replaced (first ∷ one_path) new) two ∙ one ∙ sym (ap (replaced (first ∷ other_path) another) one ∙ two)
+          )
+      | inr some ↦ (
+          let x = some.0 in
+          let one = replaced-step first one_path new root x some.1 in
+          let two = replaced-step first other_path another root x some.1 in
+          let one_again = replaced-step first one_path new (replaced (first ∷ other_path) another root) (replaced other_path another x) (part-replaced first other_path another root x some.1) in
+          let two_again = replaced-step first other_path another (replaced (first ∷ one_path) new root) (replaced one_path new x) (part-replaced first one_path new root x some.1) in
+          let left = replaced one_path new (replaced other_path another x) in
+          let right = replaced other_path another (replaced one_path new x) in
+          one_again ∙ ap (with_part first left) two ∙ with_part-with_part first (replaced other_path another x) left root ∙ ap (λ y. with_part first y root) (replaced_fork-swap above step other below other_below new another x differ)
+          ∙ sym (two_again ∙ ap (with_part first right) one ∙ with_part-with_part first (replaced one_path new x) right root)
+          )
     ]
 
 -- at places that are apart the order does not matter
@@ -220,19 +220,19 @@ pub IsCutOff-from_none : (path : List At) (root : Datum) → standing_at path ro
 IsCutOff-from_none [] root h = absurd (cc)
 IsCutOff-from_none (step ∷ path) root h =
     elim (none_or_some (part step root)) [
-    inl none ↦ record { above = []; step = step; below = path; container = root; path_is = refl; container_is = refl; lacks = none }
-    | inr some ↦ (
-      let inner = IsCutOff-from_none path some.0 (sym (standing_at-step step path root some.0 some.1) ∙ h) in
-      record {
-        above = step ∷ inner.above;
-        step = inner.step;
-        below = inner.below;
-        container = inner.container;
-        path_is = ap (λ p. step ∷ p) inner.path_is;
-        container_is = standing_at-step step inner.above root some.0 some.1 ∙ inner.container_is;
-        lacks = inner.lacks;
-      }
-    )
+      | inl none ↦ record { above = []; step = step; below = path; container = root; path_is = refl; container_is = refl; lacks = none }
+      | inr some ↦ (
+          let inner = IsCutOff-from_none path some.0 (sym (standing_at-step step path root some.0 some.1) ∙ h) in
+          record {
+            above = step ∷ inner.above;
+            step = inner.step;
+            below = inner.below;
+            container = inner.container;
+            path_is = ap (λ p. step ∷ p) inner.path_is;
+            container_is = standing_at-step step inner.above root some.0 some.1 ∙ inner.container_is;
+            lacks = inner.lacks;
+          }
+          )
     ]
 
 pub none_from-IsCutOff : (path : List At) (root : Datum) → IsCutOff path root → standing_at path root ≡ None
@@ -257,30 +257,30 @@ paths_compare [] other = inl (other, refl)
 paths_compare (step ∷ one) [] = inr (inl (step ∷ one, refl))
 paths_compare (step ∷ one) (next ∷ other) =
     elim (same_step_or_not step next) [
-    inl same ↦ elim (paths_compare one other) [
-      inl on ↦ inl (on.0, ap (λ s. s ∷ other) (sym same) ∙ ap (λ p. step ∷ p) on.1)
-      | inr back ↦ elim back [
-        inl on ↦ inr (inl (on.0, ap (λ s. s ∷ one) same ∙ ap (λ p. next ∷ p) on.1))
-        | inr apart ↦ inr (inr record {
-          above = step ∷ apart.above;
-          one_step = apart.one_step;
-          one_below = apart.one_below;
-          other_step = apart.other_step;
-          other_below = apart.other_below;
-          one_is = ap (λ p. step ∷ p) apart.one_is;
-          other_is = ap (λ s. s ∷ other) (sym same) ∙ ap (λ p. step ∷ p) apart.other_is;
-          differ = apart.differ;
-        })
+      | inl same ↦ elim (paths_compare one other) [
+        | inl on ↦ inl (on.0, ap (λ s. s ∷ other) (sym same) ∙ ap (λ p. step ∷ p) on.1)
+        | inr back ↦ elim back [
+          | inl on ↦ inr (inl (on.0, ap (λ s. s ∷ one) same ∙ ap (λ p. next ∷ p) on.1))
+          | inr apart ↦ inr (inr record {
+            above = step ∷ apart.above;
+            one_step = apart.one_step;
+            one_below = apart.one_below;
+            other_step = apart.other_step;
+            other_below = apart.other_below;
+            one_is = ap (λ p. step ∷ p) apart.one_is;
+            other_is = ap (λ s. s ∷ other) (sym same) ∙ ap (λ p. step ∷ p) apart.other_is;
+            differ = apart.differ;
+          })
         ]
       ]
-    | inr differ ↦ inr (inr record {
-      above = [];
-      one_step = step;
-      one_below = one;
-      other_step = next;
-      other_below = other;
-      one_is = refl;
-      other_is = refl;
-      differ = differ;
-    })
+      | inr differ ↦ inr (inr record {
+        above = [];
+        one_step = step;
+        one_below = one;
+        other_step = next;
+        other_below = other;
+        one_is = refl;
+        other_is = refl;
+        differ = differ;
+      })
     ]

@@ -40,12 +40,12 @@ Surrounds-replaced : (path : List At) (root old : Datum) → standing_at path ro
 Surrounds-replaced [] root old h = ([], [], λ new. sym (append-nil (serials new)))
 Surrounds-replaced (step ∷ path) root old h =
     elim (none_or_some (part step root)) [
-    inl none ↦ absurd (let e : Some old ≡ None = sym h ∙ standing_at-no_step step path root none in cc)
-    | inr some ↦ (
-      let outer = Surrounds-with_part step root some.0 some.1 in
-      let deeper = Surrounds-replaced path some.0 old (sym (standing_at-step step path root some.0 some.1) ∙ h) in
-      (outer.0 ++ deeper.0, deeper.1 ++ outer.1, λ new. ap serials (replaced-step step path new root some.0 some.1) ∙ outer.2 (replaced path new some.0) ∙ ap (λ xs. outer.0 ++ xs ++ outer.1) (deeper.2 new) ∙ nest outer.0 deeper.0 (serials new) deeper.1 outer.1)
-    )
+      | inl none ↦ absurd (let e : Some old ≡ None = sym h ∙ standing_at-no_step step path root none in cc)
+      | inr some ↦ (
+          let outer = Surrounds-with_part step root some.0 some.1 in
+          let deeper = Surrounds-replaced path some.0 old (sym (standing_at-step step path root some.0 some.1) ∙ h) in
+          (outer.0 ++ deeper.0, deeper.1 ++ outer.1, λ new. ap serials (replaced-step step path new root some.0 some.1) ∙ outer.2 (replaced path new some.0) ∙ ap (λ xs. outer.0 ++ xs ++ outer.1) (deeper.2 new) ∙ nest outer.0 deeper.0 (serials new) deeper.1 outer.1)
+          )
     ]
   where
     nest : (a b c d e : List ℕ) → a ++ (b ++ c ++ d) ++ e ≡ (a ++ b) ++ c ++ (d ++ e)
@@ -66,7 +66,7 @@ IsPermutation-exchange new before old after =
     turn : (x y : List ℕ) → IsPermutation (x ++ (before ++ y ++ after)) (x ++ y ++ (before ++ after))
     turn x y =
         let moved = IsPermutation-append x x (before ++ y ++ after) (y ++ before ++ after) (IsPermutation-refl x)
-            (IsPermutation-append (before ++ y) (y ++ before) after after (IsPermutation-append_comm before y) (IsPermutation-refl after)) in
+        (IsPermutation-append (before ++ y) (y ++ before) after after (IsPermutation-append_comm before y) (IsPermutation-refl after)) in
         subst (λ xs. IsPermutation (x ++ (before ++ y ++ after)) xs) (simp append_assoc) moved
 
 -- a value that is put in the place of another brings its serial numbers and takes away the other's

@@ -35,8 +35,8 @@ pub IsWhole-standing_at : (path : List At) (root inner : Datum) → IsWhole root
 IsWhole-standing_at [] root inner whole h = subst IsWhole (let e : root ≡ inner = cc in e) whole
 IsWhole-standing_at (step ∷ path) root inner whole h =
     elim (none_or_some (part step root)) [
-    inl none ↦ absurd (let e : Some inner ≡ None = sym h ∙ standing_at-no_step step path root none in cc)
-    | inr some ↦ IsWhole-standing_at path some.0 inner (IsWhole-part step root some.0 whole some.1) (sym (standing_at-step step path root some.0 some.1) ∙ h)
+      | inl none ↦ absurd (let e : Some inner ≡ None = sym h ∙ standing_at-no_step step path root none in cc)
+      | inr some ↦ IsWhole-standing_at path some.0 inner (IsWhole-part step root some.0 whole some.1) (sym (standing_at-step step path root some.0 some.1) ∙ h)
     ]
 
 -- a whole value with a whole value put into it is whole
@@ -44,11 +44,11 @@ pub IsWhole-replaced : (path : List At) (new root : Datum) → IsWhole root → 
 IsWhole-replaced [] new root whole h = h
 IsWhole-replaced (step ∷ path) new root whole h =
     elim (none_or_some (part step root)) [
-    inl none ↦ subst IsWhole (sym (replaced-no_step step path new root none)) whole
-    | inr some ↦ (
-      let inner = IsWhole-replaced path new some.0 (IsWhole-part step root some.0 whole some.1) h in
-      subst IsWhole (sym (replaced-step step path new root some.0 some.1)) (IsWhole-with_part step (replaced path new some.0) root whole inner)
-    )
+      | inl none ↦ subst IsWhole (sym (replaced-no_step step path new root none)) whole
+      | inr some ↦ (
+          let inner = IsWhole-replaced path new some.0 (IsWhole-part step root some.0 whole some.1) h in
+          subst IsWhole (sym (replaced-step step path new root some.0 some.1)) (IsWhole-with_part step (replaced path new some.0) root whole inner)
+          )
     ]
 
 mutual

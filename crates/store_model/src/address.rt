@@ -6,16 +6,19 @@ use std::alloc::Global;
 use std::marker::Model;
 
 /// One step from a value to a part of it.
+///
+/// The default stands for itself alone: a short path fills its places with it.
 #[derive(Clone, Copy, Debug, Default, PartialEq, Eq, Hash)]
 pub enum At {
-    /// To the part with this number, from 0, of an aggregate.
+    /// To the part with this number of a struct, a variant, a tuple, an array or a closure, counted from 0.
     Part(u32),
     /// To the content of a box.
     #[default]
     Inside,
 }
 
-/// The steps from a value to a part of it, outermost first. Contracts see it as their list.
+/// A path: the steps from a value to a part of it, outermost first. Up to four of them take no memory.
+/// Contracts see it as the list of its steps.
 #[derive(Debug, Drop)]
 pub struct AtPath {
     steps: SmallVec<At, 4, Global>,
@@ -40,7 +43,7 @@ impl AtPath {
         }
     }
 
-    /// A path of these steps.
+    /// The path of these steps, outermost first. It takes memory for more than four.
     pub fn from_slice(alloc: Global, steps: &[At]) -> Result<AtPath, NoMemory>
         ensures { IfOk result (λ path. path ≡ steps.now) }
     {
@@ -56,7 +59,7 @@ impl AtPath {
         self.steps.as_slice()
     }
 
-    /// Makes the step the last one. Where memory is wanted the path is as it was.
+    /// Makes a step the last one. Where memory is wanted and cannot be had, the path is as it was.
     pub fn push(&mut self, step: At) -> Result<(), NoMemory>
         ensures pushed { OnOk result (self.new ≡ self.old ++ step ∷ []) }
         ensures refused { OnErr result (self.new ≡ self.old) }
@@ -73,10 +76,13 @@ impl AtPath {
     }
 }
 
-/// Where a value stands.
+/// Where a value stands: in an entry of an activation, at the end of a path.
 #[derive(Debug, Drop)]
 pub struct Addr {
+    /// The number of the activation, from 0 for that of `main`.
     pub depth: u32,
+    /// What the entry goes by.
     pub key: Key,
+    /// The steps from the value of the entry.
     pub path: AtPath,
 }

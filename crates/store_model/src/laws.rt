@@ -8,8 +8,7 @@ pub fn law_of_paths()
     ensures cut_off { StandsUnlessCutOff }
     ensures compare { PathsCompare }
     ensures steps { StepsLead }
-{
-}
+{}
 
 /// What a value taken or put at one path leaves at another: at the same place, below, above and apart.
 pub fn law_of_what_stands()
@@ -18,8 +17,7 @@ pub fn law_of_what_stands()
     ensures below { StandsBelow }
     ensures above { StandsAbove }
     ensures apart { StandsApart }
-{
-}
+{}
 
 /// What becomes of a value by taking and putting twice.
 pub fn law_of_changes()
@@ -29,8 +27,7 @@ pub fn law_of_changes()
     ensures back { GivesBack }
     ensures within { ChangesWithin }
     ensures apart { ChangesApart }
-{
-}
+{}
 
 /// Which values are whole.
 pub fn law_of_wholeness()
@@ -38,8 +35,7 @@ pub fn law_of_wholeness()
     ensures below { WholeBelow }
     ensures with_whole { WholeWithWhole }
     ensures taken { NotWholeWhereTaken }
-{
-}
+{}
 
 /// The serial numbers of a value in dropping order, and how taking and putting changes them.
 pub fn law_of_serials()
@@ -47,5 +43,4 @@ pub fn law_of_serials()
     ensures exchange { SerialsExchange }
     ensures taken { SerialsTaken }
     ensures along_steps { SerialsAlongSteps }
-{
-}
+{}

@@ -10,7 +10,9 @@ mod places;
 mod value;
 
 pub use address::{Addr, At, AtPath};
-pub use laws::{law_of_changes, law_of_paths, law_of_serials, law_of_what_stands, law_of_wholeness};
+pub use laws::{
+    law_of_changes, law_of_paths, law_of_serials, law_of_what_stands, law_of_wholeness,
+};
 pub use parts::parts_in_order;
 pub use places::{put, read, take};
 pub use value::Value;

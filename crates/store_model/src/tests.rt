@@ -1,13 +1,19 @@
-use crate::{Addr, At, AtPath, Value, law_of_changes, law_of_paths, law_of_serials};
-use crate::{law_of_what_stands, law_of_wholeness, parts_in_order, put, read, take};
+use crate::{
+    Addr, At, AtPath, Value, law_of_changes, law_of_paths, law_of_serials, law_of_what_stands,
+    law_of_wholeness, parts_in_order, put, read, take,
+};
 use mir_base::{Key, List, NoMemory};
 use std::alloc::Global;
 use std::test::Fail;
 
 const FIRST: At = At::Part(0);
+
 const SECOND: At = At::Part(1);
+
 const THIRD: At = At::Part(2);
+
 const FOURTH: At = At::Part(3);
+
 const INSIDE: At = At::Inside;
 
 fn boxed(alloc: Global, serial: u64, inside: Value) -> Result<Value, NoMemory> {
@@ -133,8 +139,7 @@ fn what_put_answers(rt: HostRuntime) -> Result<(), Fail> {
         assert_eq!(rt; seen.as_str(), stands);
     }
     let whole = put(&mut root, &[], Value::Unit);
-    assert_eq!(
-        rt;
+    assert_eq!(rt;
         format!(in alloc; "{whole:?}")?.as_str(),
         "Ok(Parts { variant: 0, serial: Some(1), parts: List { elements: [Int(77), Int(77), \
          Boxed { serial: 2, impl_no: None, inside: Int(77) }] } })"
@@ -151,11 +156,27 @@ fn parts_from_first_to_last(rt: HostRuntime) -> Result<(), Fail> {
     let captures = vec![in alloc; Value::Gone, address(alloc)?]?;
     let variant = vec![in alloc; Value::Int(5)]?;
     for (what, value, steps) in [
-        ("struct", partly_moved(alloc)?, [FIRST, SECOND, THIRD].as_slice()),
+        (
+            "struct",
+            partly_moved(alloc)?,
+            [FIRST, SECOND, THIRD].as_slice(),
+        ),
         ("variant", aggregate(3, None, variant), [FIRST].as_slice()),
-        ("array", aggregate(0, None, array), [FIRST, SECOND, THIRD, FOURTH].as_slice()),
-        ("tuple", aggregate(0, None, tuple), [FIRST, SECOND].as_slice()),
-        ("closure", aggregate(0, None, captures), [FIRST, SECOND].as_slice()),
+        (
+            "array",
+            aggregate(0, None, array),
+            [FIRST, SECOND, THIRD, FOURTH].as_slice(),
+        ),
+        (
+            "tuple",
+            aggregate(0, None, tuple),
+            [FIRST, SECOND].as_slice(),
+        ),
+        (
+            "closure",
+            aggregate(0, None, captures),
+            [FIRST, SECOND].as_slice(),
+        ),
         ("box", nested(alloc)?, [INSIDE].as_slice()),
         ("emptied box", sample(alloc, 7)?, [INSIDE].as_slice()),
         ("gone", Value::Gone, [].as_slice()),

@@ -7,23 +7,38 @@ use mir_base::List;
 use std::alloc::Global;
 use std::mem;
 
-/// A value.
+/// A value of the language, as a run holds it in a variable, a part or a box. Any part of it may be gone.
+///
+/// A value is numbered where it has a serial number: a box, and a value of a struct or enum with a `Drop`
+/// impl. A run numbers them from 1 in the order in which they are made. A value is whole where nothing at
+/// or below it is gone.
 #[derive(Debug)]
 pub enum Value {
+    /// What was moved, dropped or never made.
     Gone,
+    /// A number of any integer type.
     Int(i128),
     Bool(bool),
+    /// The value of `()`, of a function without a result, or of a statement.
     Unit,
+    /// A struct, a variant of an enum, a tuple, an array or a closure.
     Parts {
+        /// The number of the variant of an enum, from 0; 0 otherwise.
         variant: u32,
+        /// The serial number, where the type has a `Drop` impl.
         serial: Option<u64>,
+        /// The fields in declaration order, the elements, or the captures in the order of the written list.
         parts: List<Value>,
     },
+    /// A box.
     Boxed {
         serial: u64,
+        /// The number of the impl whose methods a trait object has; `None` for other boxes.
         impl_no: Option<u32>,
+        /// The content, which is gone where it was moved out of the box.
         inside: Box<Value, Global>,
     },
+    /// A reference: where the value stands to which it refers.
     Address(Addr),
 }
 
@@ -47,11 +62,8 @@ impl Drop for Value {
                     serial: _,
                     parts,
                 } => enter(parts, waiting),
-                Value::Gone
-                | Value::Int(_)
-                | Value::Bool(_)
-                | Value::Unit
-                | Value::Address(_) => next(waiting),
+                Value::Gone | Value::Int(_) | Value::Bool(_) | Value::Unit | Value::Address(_) =>
+                    next(waiting),
             };
             match rest {
                 None => return,

@@ -14,5 +14,5 @@ overflow_cast-len c =
 pub returns-in-Parts : goal.returns-in-Parts
 returns-in-Parts c =
     let steps : map Part (range_with_len 0 c.len.result) ≡ steps_to_parts (datum_of c.args.value.now) =
-        ap (λ n. map Part (range_with_len 0 n)) c.len.ensures ∙ sym (steps_to_parts-Parts _ _ _ _ c.in-Parts.is) in
+    ap (λ n. map Part (range_with_len 0 n)) c.len.ensures ∙ sym (steps_to_parts-Parts _ _ _ _ c.in-Parts.is) in
     subst (λ xs. IfOk c.numbered_steps.result (λ steps. steps ≡ xs)) steps c.numbered_steps.ensures

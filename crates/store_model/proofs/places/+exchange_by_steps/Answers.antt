@@ -31,37 +31,37 @@ returns-in-Boxed-Inside-clause-after t c =
 pub returns-clause-found : goal.returns-clause-found
 returns-clause-found t c =
     elim c.match-root.branch [
-    in-Parts-Part+else-index-len w ↦ (
-      let past : length w.in-Parts-Part.parts ≤ w.in-Parts-Part.number = search rules in
-      let none : part c.in-Some.step.now (datum_of c.args.root.now) ≡ None =
+      | in-Parts-Part+else-index-len w ↦ (
+          let past : length w.in-Parts-Part.parts ≤ w.in-Parts-Part.number = search rules in
+          let none : part c.in-Some.step.now (datum_of c.args.root.now) ≡ None =
           part-Parts _ _ _ _ _ _ w.in-Parts-Part.is-1 w.in-Parts-Part.is-0 ∙ ap (option_map datum_of) (slice_get_past _ _ past) in
-      rw w.result-is (absent-below _ _ _ _ c.in-Some.ensures.cases.0 none, refl)
-    )
-    | in_default-2 w ↦ (
-      let none = part-Parts-Inside _ _ _ _ _ w.in_default-2.is-1 w.in_default-2.is-0 in
-      rw w.result-is (absent-below _ _ _ _ c.in-Some.ensures.cases.0 none, refl)
-    )
-    | in_default-2-2 w ↦ (
-      let none = part-Boxed-Part _ _ _ _ _ _ w.in_default-2.is-1 w.in_default-2.is-0 in
-      rw w.result-is (absent-below _ _ _ _ c.in-Some.ensures.cases.0 none, refl)
-    )
-    | in_default-2-3 w ↦ (
-      let none = part-other _ _ w.in_default-2.not-Parts-0 w.in_default-2.not-Boxed-0 in
-      rw w.result-is (absent-below _ _ _ _ c.in-Some.ensures.cases.0 none, refl)
-    )
+          rw w.result-is (absent-below _ _ _ _ c.in-Some.ensures.cases.0 none, refl)
+          )
+      | in_default-2 w ↦ (
+          let none = part-Parts-Inside _ _ _ _ _ w.in_default-2.is-1 w.in_default-2.is-0 in
+          rw w.result-is (absent-below _ _ _ _ c.in-Some.ensures.cases.0 none, refl)
+          )
+      | in_default-2-2 w ↦ (
+          let none = part-Boxed-Part _ _ _ _ _ _ w.in_default-2.is-1 w.in_default-2.is-0 in
+          rw w.result-is (absent-below _ _ _ _ c.in-Some.ensures.cases.0 none, refl)
+          )
+      | in_default-2-3 w ↦ (
+          let none = part-other _ _ w.in_default-2.not-Parts-0 w.in_default-2.not-Boxed-0 in
+          rw w.result-is (absent-below _ _ _ _ c.in-Some.ensures.cases.0 none, refl)
+          )
     ]
 
 pub returns-clause-after : goal.returns-clause-after
 returns-clause-after t c =
     elim c.match-root.branch [
-    in-Parts-Part+else-index-len w ↦ (
-      let past : length w.in-Parts-Part.parts ≤ w.in-Parts-Part.number = search rules in
-      let a = w.in-Parts-Part in
-      let none = part-Parts c.in-Some.step.now (Parts a.variant-0 a.serial-0 a.parts) a.number a.variant-0 a.serial-0 a.parts a.is-1 refl ∙ ap (option_map datum_of) (slice_get_past a.parts a.number past) in
-      let same = same-below c.args.path.now c.in-Some.step.now c.in-Some.below.now (datum_of (Parts a.variant-0 a.serial-0 a.parts)) (datum_of c.args.value.now) c.in-Some.ensures.cases.0 none in
-      ap datum_of w.root-is ∙ rw (a.is-0, outs-Parts a.variant-0 a.serial-0 a.parts) same
-    )
-    | in_default-2 w ↦ ap datum_of w.root-is ∙ same-below _ _ _ _ _ c.in-Some.ensures.cases.0 (part-Parts-Inside _ _ _ _ _ w.in_default-2.is-1 w.in_default-2.is-0)
-    | in_default-2-2 w ↦ ap datum_of w.root-is ∙ same-below _ _ _ _ _ c.in-Some.ensures.cases.0 (part-Boxed-Part _ _ _ _ _ _ w.in_default-2.is-1 w.in_default-2.is-0)
-    | in_default-2-3 w ↦ ap datum_of w.root-is ∙ same-below _ _ _ _ _ c.in-Some.ensures.cases.0 (part-other _ _ w.in_default-2.not-Parts-0 w.in_default-2.not-Boxed-0)
+      | in-Parts-Part+else-index-len w ↦ (
+          let past : length w.in-Parts-Part.parts ≤ w.in-Parts-Part.number = search rules in
+          let a = w.in-Parts-Part in
+          let none = part-Parts c.in-Some.step.now (Parts a.variant-0 a.serial-0 a.parts) a.number a.variant-0 a.serial-0 a.parts a.is-1 refl ∙ ap (option_map datum_of) (slice_get_past a.parts a.number past) in
+          let same = same-below c.args.path.now c.in-Some.step.now c.in-Some.below.now (datum_of (Parts a.variant-0 a.serial-0 a.parts)) (datum_of c.args.value.now) c.in-Some.ensures.cases.0 none in
+          ap datum_of w.root-is ∙ rw (a.is-0, outs-Parts a.variant-0 a.serial-0 a.parts) same
+          )
+      | in_default-2 w ↦ ap datum_of w.root-is ∙ same-below _ _ _ _ _ c.in-Some.ensures.cases.0 (part-Parts-Inside _ _ _ _ _ w.in_default-2.is-1 w.in_default-2.is-0)
+      | in_default-2-2 w ↦ ap datum_of w.root-is ∙ same-below _ _ _ _ _ c.in-Some.ensures.cases.0 (part-Boxed-Part _ _ _ _ _ _ w.in_default-2.is-1 w.in_default-2.is-0)
+      | in_default-2-3 w ↦ ap datum_of w.root-is ∙ same-below _ _ _ _ _ c.in-Some.ensures.cases.0 (part-other _ _ w.in_default-2.not-Parts-0 w.in_default-2.not-Boxed-0)
     ]
