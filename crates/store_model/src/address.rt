@@ -79,7 +79,7 @@ impl AtPath {
 /// Where a value stands: in an entry of an activation, at the end of a path.
 #[derive(Debug, Drop)]
 pub struct Addr {
-    /// The number of the activation, from 0 for that of `main`.
+    /// The depth of the activation among those that have not ended.
     pub depth: u32,
     /// What the entry goes by.
     pub key: Key,

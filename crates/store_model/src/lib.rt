@@ -4,6 +4,7 @@
 #![tactic(auto)]
 
 mod address;
+mod copies;
 mod laws;
 mod parts;
 mod places;

@@ -123,6 +123,19 @@ fn what_stands_at_each_path(rt: HostRuntime) -> Result<(), Fail> {
 }
 
 #[test]
+fn copies_are_equal(rt: HostRuntime) -> Result<(), Fail> {
+    let alloc = rt.alloc();
+    for kind in 0..10u8 {
+        let value = sample(alloc, kind)?;
+        let copied = value.copy(alloc)?;
+        let first = format!(in alloc; "{value:?}")?;
+        let second = format!(in alloc; "{copied:?}")?;
+        assert_eq!(rt; first.as_str(), second.as_str());
+    }
+    Ok(())
+}
+
+#[test]
 fn what_put_answers(rt: HostRuntime) -> Result<(), Fail> {
     let alloc = rt.alloc();
     let mut root = partly_moved(alloc)?;
