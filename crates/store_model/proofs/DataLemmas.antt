@@ -1,5 +1,5 @@
 -- The plain data of values, by their variants, and of the parts of a list, by their numbers.
-use Rattle.std.proofs.Common.{◌≡◌, ℕ, zero, suc, List, [], ◌∷◌, length, Option, Some, None, map, refl, sym, ap, ◌∙◌}
+use Rattle.std.proofs.Common.{◌≡◌, ℕ, zero, suc, List, [], ◌∷◌, length, Option, map, refl, sym, ap, ◌∙◌}
 use Rattle.std.specs.Prelude.{option_map, slice_get, slice_set}
 use Rattle.std.specs.List.{range_with_len}
 use Rattle.std.specs.declared.boxed.Box.{Box as TheBox}
@@ -7,8 +7,8 @@ use Rattle.std.specs.declared.alloc.Global.{Global}
 use Rattle.store_model.specs.declared.address.At.TheVariants.{Part}
 use Rattle.store_model.specs.declared.value.Value.{Value, Value-F, fold-roll-Value}
 use Rattle.store_model.specs.declared.value.Value.TheVariants.{Parts, Boxed, rolls-Parts, rolls-Boxed}
-use Rattle.store_model.specs.Data.{Datum, Data, Aggregate, Box, a_part, data_from, datum_of, datum_of_layer}
-use Rattle.store_model.specs.Dropping.{count, part_count, steps_to_parts}
+use Rattle.store_model.specs.Data.{Datum, Aggregate, Box, a_part, data_from, datum_of, datum_of_layer}
+use Rattle.store_model.specs.Dropping.{count, steps_to_parts}
 use Rattle.store_model.specs.Places.{part_at, with_part_at}
 
 pub datum_of-Parts : (variant : ℕ) (serial : Option ℕ) (values : List Value) → datum_of (Parts variant serial values) ≡ Aggregate variant serial (data_from (map datum_of values))
@@ -32,10 +32,6 @@ with_part_at-data_from (value ∷ values) (suc number) new = ap (a_part (datum_o
 pub count-data_from : (values : List Value) → count (data_from (map datum_of values)) ≡ length values
 count-data_from [] = refl
 count-data_from (value ∷ values) = ap suc (count-data_from values)
-
-pub part_count-Parts : (value : Value) (variant : ℕ) (serial : Option ℕ) (values : List Value) → value ≡ Parts variant serial values → part_count (datum_of value) ≡ length values
-part_count-Parts value variant serial values is_value =
-    ap (λ v. part_count (datum_of v)) is_value ∙ ap part_count (datum_of-Parts variant serial values) ∙ count-data_from values
 
 pub steps_to_parts-Parts : (value : Value) (variant : ℕ) (serial : Option ℕ) (values : List Value) → value ≡ Parts variant serial values → steps_to_parts (datum_of value) ≡ map Part (range_with_len 0 (length values))
 steps_to_parts-Parts value variant serial values is_value =

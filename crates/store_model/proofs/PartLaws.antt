@@ -1,8 +1,8 @@
 -- The parts of a value after one of them was changed.
-use Rattle.std.proofs.Common.{◌≡◌, ◌≢◌, ℕ, zero, suc, Option, Some, None, refl, sym, ap, ◌∙◌}
+use Rattle.std.proofs.Common.{◌≡◌, ◌≢◌, ℕ, zero, suc, Some, refl, ap}
 use Rattle.store_model.specs.declared.address.At.{At}
 use Rattle.store_model.specs.declared.address.At.TheVariants.{Part, Inside}
-use Rattle.store_model.specs.Data.{Datum, Data, Gone, Number, Truth, UnitValue, Aggregate, Box, Address, no_part, a_part}
+use Rattle.store_model.specs.Data.{Datum, Data, Aggregate, Box, no_part, a_part}
 use Rattle.store_model.specs.Places.{part, with_part, part_at, with_part_at}
 
 pub part_at-with_part_at : (number : ℕ) (new old : Datum) (parts : Data) → part_at number parts ≡ Some old → part_at number (with_part_at number new parts) ≡ Some new

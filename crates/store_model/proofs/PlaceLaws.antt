@@ -1,10 +1,10 @@
 -- The laws of places: what stands at a path after something was put at another.
-use Rattle.std.proofs.Common.{◌≡◌, ◌≢◌, ◌↔◌, ◌⊎◌, inl, inr, ℕ, List, [], ◌∷◌, ◌++◌, Option, Some, None, refl, sym, ap, ◌∙◌, subst}
+use Rattle.std.proofs.Common.{◌≡◌, ◌≢◌, ◌⊎◌, inl, inr, List, [], ◌∷◌, ◌++◌, Option, Some, None, refl, sym, ap, ◌∙◌}
 use Rattle.std.proofs.lemmas.Bool.Decides.{eqb_tells}
 use Rattle.std.specs.Option.{option_and_then, option_map_or}
 use Rattle.store_model.specs.declared.address.At.{At}
 use Rattle.store_model.specs.declared.address.At.TheVariants.{Part, Inside}
-use Rattle.store_model.specs.Data.{Datum, Gone}
+use Rattle.store_model.specs.Data.{Datum}
 use Rattle.store_model.specs.Places.{part, with_part, standing_at, replaced, IsCutOff, AreApart}
 use Rattle.store_model.proofs.PartLaws.{part-with_part, with_part-part, with_part-with_part, part-with_part_other, with_part-swap}
 

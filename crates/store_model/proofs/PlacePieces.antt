@@ -1,5 +1,5 @@
 -- A path that is walked in two pieces.
-use Rattle.std.proofs.Common.{◌≡◌, ℕ, List, ◌++◌, take, drop, Bool, Option, Some, None, MatchBool, sym, ap, ◌∙◌, subst}
+use Rattle.std.proofs.Common.{◌≡◌, ℕ, List, ◌++◌, take, drop, Bool, Some, None, MatchBool, sym, ap, ◌∙◌, subst}
 use Rattle.std.specs.Option.{option_and_then}
 use Rattle.std.proofs.lemmas.List.{take-append-drop}
 use Rattle.store_model.specs.declared.address.At.{At}

@@ -1,5 +1,5 @@
 -- One step of a path, at a value of the program.
-use Rattle.std.proofs.Common.{◌≡◌, ℕ, List, ◌∷◌, Bool, Option, Some, None, MatchBool, map, refl, sym, ap, ◌∙◌, subst}
+use Rattle.std.proofs.Common.{◌≡◌, ℕ, List, ◌∷◌, Bool, Option, Some, None, MatchBool, refl, sym, ap, ◌∙◌, subst}
 use Rattle.std.specs.Prelude.{option_map, slice_get, slice_set}
 use Rattle.std.specs.Option.{option_and_then, option_map_or}
 use Rattle.std.specs.declared.boxed.Box.{Box as TheBox}
@@ -8,8 +8,8 @@ use Rattle.store_model.specs.declared.address.At.{At}
 use Rattle.store_model.specs.declared.address.At.TheVariants.{Part, Inside}
 use Rattle.store_model.specs.declared.value.Value.{Value, Value-F, out-Value, roll-Value, roll-out-Value, map-Value, fold_out-Value}
 use Rattle.store_model.specs.declared.value.Value.TheVariants.{Parts, Boxed, rolls-Parts, rolls-Boxed}
-use Rattle.store_model.specs.Data.{Datum, Aggregate, data_from, datum_of, datum_of_layer}
-use Rattle.store_model.specs.Places.{part, with_part, with_part_at, standing_at, replaced}
+use Rattle.store_model.specs.Data.{Datum, Aggregate, datum_of, datum_of_layer}
+use Rattle.store_model.specs.Places.{part, with_part, standing_at, replaced}
 use Rattle.store_model.proofs.DataLemmas.{datum_of-Parts, datum_of-Boxed, part_at-data_from, with_part_at-data_from}
 
 -- a step into an aggregate leads to the element of its list

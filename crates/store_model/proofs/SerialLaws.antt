@@ -1,5 +1,5 @@
 -- The laws of serial numbers, and of the steps in dropping order.
-use Rattle.std.proofs.Common.{◌≡◌, ◌↔◌, ◌<◌, inl, inr, ℕ, ◌+◌, zero, suc, List, [], ◌∷◌, ◌++◌, length, map, Option, Some, None, IsSome, Contains, refl, sym, ap, ◌∙◌, subst, arith, rules, get_or}
+use Rattle.std.proofs.Common.{◌≡◌, ◌↔◌, ◌<◌, inl, inr, ℕ, ◌+◌, zero, suc, List, [], ◌∷◌, ◌++◌, map, Option, Some, None, IsSome, Contains, refl, sym, ap, ◌∙◌, subst, arith, rules, get_or}
 use Rattle.std.specs.Option.{option_map_or, option_to_list}
 use Rattle.std.specs.List.{flat_map, range_with_len}
 use Rattle.std.specs.List.Sorted.{IsPermutation}

@@ -1,5 +1,5 @@
 -- The laws of whole values.
-use Rattle.std.proofs.Common.{◌≡◌, ◌↔◌, inl, inr, ℕ, zero, suc, List, [], ◌∷◌, Option, Some, None, refl, sym, ap, ◌∙◌, subst}
+use Rattle.std.proofs.Common.{◌≡◌, ◌↔◌, inl, inr, ℕ, zero, suc, List, [], ◌∷◌, Some, None, refl, sym, ◌∙◌, subst}
 use Rattle.std.specs.Option.{option_and_then}
 use Rattle.store_model.specs.declared.address.At.{At}
 use Rattle.store_model.specs.declared.address.At.TheVariants.{Part, Inside}

@@ -1,5 +1,5 @@
 -- How many values are left to be dropped, by which the loop that drops them is seen to end.
-use Rattle.std.specs.Prelude.{◌≡◌, ℕ, suc, ◌+◌, ◌<◌, ◌⊎◌, List, [], ◌∷◌, Option, Some, None, map}
+use Rattle.std.specs.Prelude.{◌≡◌, ℕ, suc, ◌+◌, ◌<◌, ◌⊎◌, List, Option, Some, None, map}
 use Rattle.store_model.specs.declared.value.Value.{Value}
 use Rattle.store_model.specs.Data.{Datum, Data, Aggregate, Box, no_part, a_part, data_from, datum_of}
 

@@ -10,12 +10,6 @@ abbrev pub count : Data → ℕ
 count no_part = 0
 count (a_part first rest) = suc (count rest)
 
--- how many parts a value has
-abbrev pub part_count : Datum → ℕ
-part_count (Aggregate variant serial parts) = count parts
-part_count (Box serial impl_no inside) = 1
-part_count datum = 0
-
 -- the steps to the parts of a value, in the order in which they are dropped: first to last
 abbrev pub steps_to_parts : Datum → List At
 steps_to_parts (Aggregate variant serial parts) = map Part (range_with_len 0 (count parts))

@@ -1,6 +1,6 @@
 -- The laws of places, of whole values and of serial numbers, which later proofs stand on.
-use Rattle.std.specs.Prelude.{◌≡◌, ◌↔◌, ◌⊎◌, ℕ, List, [], ◌∷◌, ◌++◌, Option, Some, None, IsSome, Contains}
-use Rattle.std.specs.Option.{option_and_then, option_to_list, option_map_or}
+use Rattle.std.specs.Prelude.{◌≡◌, ◌↔◌, ◌⊎◌, ℕ, List, [], ◌++◌, Some, None, IsSome, Contains}
+use Rattle.std.specs.Option.{option_and_then, option_map_or}
 use Rattle.std.specs.List.{flat_map}
 use Rattle.std.specs.List.Sorted.{IsPermutation}
 use Rattle.store_model.specs.declared.address.At.{At}

@@ -3,7 +3,7 @@ use Rattle.std.specs.Prelude.{◌≡◌, ◌≢◌, ℕ, zero, suc, List, [], �
 use Rattle.std.specs.Option.{option_and_then, option_map_or}
 use Rattle.store_model.specs.declared.address.At.{At}
 use Rattle.store_model.specs.declared.address.At.TheVariants.{Part, Inside}
-use Rattle.store_model.specs.Data.{Datum, Data, Gone, Number, Truth, UnitValue, Aggregate, Box, Address, no_part, a_part}
+use Rattle.store_model.specs.Data.{Datum, Data, Aggregate, Box, no_part, a_part}
 
 -- the part with this number, from 0
 abbrev pub part_at : ℕ → Data → Option Datum

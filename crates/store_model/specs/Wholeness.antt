@@ -1,5 +1,5 @@
 -- Which values are whole, and which have serial numbers.
-use Rattle.std.specs.Prelude.{ℕ, List, [], ◌∷◌, ◌++◌, Option, Some, None, IsSome}
+use Rattle.std.specs.Prelude.{ℕ, List, [], ◌∷◌, ◌++◌, IsSome}
 use Rattle.std.specs.Option.{option_to_list}
 use Rattle.store_model.specs.Data.{Datum, Data, Gone, Number, Truth, UnitValue, Aggregate, Box, Address, no_part, a_part}
 

@@ -1,4 +1,4 @@
-use Rattle.std.proofs.Common.{◌≡◌, ◌≤◌, length, Some, None, refl, ap, sym, ◌∙◌, rules}
+use Rattle.std.proofs.Common.{◌≡◌, ◌≤◌, length, Some, None, refl, ap, ◌∙◌, rules}
 use Rattle.std.specs.Prelude.{option_map, slice_get}
 use Rattle.store_model.specs.declared.value.Value.TheVariants.{Parts, outs-Parts, outs-Boxed}
 use Rattle.store_model.specs.Data.{datum_of}

@@ -1,4 +1,4 @@
-use Rattle.std.proofs.Common.{◌≡◌, Some, None, refl, arith}
+use Rattle.std.proofs.Common.{◌≡◌, Some, None, arith}
 use Rattle.std.proofs.lemmas.Grind.{common_steps}
 use Rattle.store_model.specs.Data.{datum_of}
 use Rattle.store_model.specs.Places.{standing_at}

@@ -1,4 +1,4 @@
-use Rattle.std.proofs.Common.{sym, ◌∙◌, refl}
+use Rattle.std.proofs.Common.{◌∙◌, refl}
 use Rattle.store_model.proofs.PlaceLaws.{IsCutOff-from_none, not_cut_off, replaced-nowhere}
 use Rattle.store_model.proofs.places.take.Goals as goal
 

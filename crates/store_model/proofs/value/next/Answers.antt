@@ -1,4 +1,4 @@
-use Rattle.std.proofs.Common.{◌≡◌, ◌+◌, Some, ap, ◌∙◌, arith}
+use Rattle.std.proofs.Common.{◌≡◌, ◌+◌, ap, ◌∙◌, arith}
 use Rattle.store_model.specs.Data.{datum_of}
 use Rattle.store_model.specs.Counts.{node_count, count_in, count_waiting}
 use Rattle.store_model.proofs.CountLemmas.{count_in-push}

@@ -1,4 +1,4 @@
-use Rattle.std.proofs.Common.{◌≡◌, Some, sym, ◌∙◌, ap}
+use Rattle.std.proofs.Common.{Some, sym, ◌∙◌, ap}
 use Rattle.store_model.specs.Data.{datum_of}
 use Rattle.store_model.specs.Counts.{node_count, IsNearerEnd}
 use Rattle.store_model.proofs.CountLemmas.{IsNearerEnd-Boxed, IsNearerEnd-Parts, IsNearerEnd-other, falls_nearer_end}
