@@ -1,8 +1,10 @@
 -- The parts of a value after one of them was changed.
-use Rattle.std.proofs.Common.{◌≡◌, ◌≢◌, ℕ, zero, suc, Some, refl, ap}
+use Rattle.std.proofs.Common.{◌≡◌, ◌≢◌, ℕ, zero, suc, List, [], ◌∷◌, length, Some, refl, ap}
+use Rattle.std.specs.Prelude.{slice_get, slice_set}
 use Rattle.store_model.specs.declared.address.At.{At}
 use Rattle.store_model.specs.declared.address.At.TheVariants.{Part, Inside}
-use Rattle.store_model.specs.Data.{Datum, Data, Aggregate, Box, no_part, a_part}
+use Rattle.store_model.specs.Data.{Datum, Data, Aggregate, Box, no_part, a_part, data_from}
+use Rattle.store_model.specs.Dropping.{count}
 use Rattle.store_model.specs.Places.{part, with_part, part_at, with_part_at}
 
 pub part_at-with_part_at : (number : ℕ) (new old : Datum) (parts : Data) → part_at number parts ≡ Some old → part_at number (with_part_at number new parts) ≡ Some new
@@ -33,6 +35,21 @@ with_part_at-swap zero zero new another (a_part first rest) differ = absurd (dif
 with_part_at-swap zero (suc other) new another (a_part first rest) differ = refl
 with_part_at-swap (suc number) zero new another (a_part first rest) differ = refl
 with_part_at-swap (suc number) (suc other) new another (a_part first rest) differ = ap (a_part first) (with_part_at-swap number other new another rest (λ e. differ (ap suc e)))
+
+-- the parts that a list gives, by their numbers
+pub part_at-data_from : (values : List Datum) (number : ℕ) → part_at number (data_from values) ≡ slice_get values number
+part_at-data_from [] number = refl
+part_at-data_from (value ∷ values) zero = refl
+part_at-data_from (value ∷ values) (suc number) = part_at-data_from values number
+
+pub with_part_at-data_from : (values : List Datum) (number : ℕ) (new : Datum) → with_part_at number new (data_from values) ≡ data_from (slice_set values number new)
+with_part_at-data_from [] number new = refl
+with_part_at-data_from (value ∷ values) zero new = refl
+with_part_at-data_from (value ∷ values) (suc number) new = ap (a_part value) (with_part_at-data_from values number new)
+
+pub count-data_from : (values : List Datum) → count (data_from values) ≡ length values
+count-data_from [] = refl
+count-data_from (value ∷ values) = ap suc (count-data_from values)
 
 -- the changed part stands where the step leads
 pub part-with_part : (step : At) (new old root : Datum) → part step root ≡ Some old → part step (with_part step new root) ≡ Some new

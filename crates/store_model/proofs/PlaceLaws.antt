@@ -4,7 +4,7 @@ use Rattle.std.proofs.lemmas.Bool.Decides.{eqb_tells}
 use Rattle.std.specs.Option.{option_and_then, option_map_or}
 use Rattle.store_model.specs.declared.address.At.{At}
 use Rattle.store_model.specs.declared.address.At.TheVariants.{Part, Inside}
-use Rattle.store_model.specs.Data.{Datum}
+use Rattle.store_model.specs.Data.{Datum, Gone}
 use Rattle.store_model.specs.Places.{part, with_part, standing_at, replaced, IsCutOff, AreApart}
 use Rattle.store_model.proofs.PartLaws.{part-with_part, with_part-part, with_part-with_part, part-with_part_other, with_part-swap}
 
@@ -95,6 +95,15 @@ standing_at-replaced (step ∷ path) new root old h =
 -- below the place stand the parts of what was put
 pub standing_at-replaced_above : (path below : List At) (new root old : Datum) → standing_at path root ≡ Some old → standing_at (path ++ below) (replaced path new root) ≡ standing_at below new
 standing_at-replaced_above path below new root old h = standing_at-below path below (replaced path new root) new (standing_at-replaced path new root old h)
+
+-- what is gone has no parts
+pub part-Gone : (step : At) → part step Gone ≡ None
+part-Gone (Part number) = refl
+part-Gone Inside = refl
+
+-- below a place that is gone nothing stands
+pub standing_at-below_Gone : (path below : List At) (step : At) (root : Datum) → standing_at path root ≡ Some Gone → standing_at (path ++ step ∷ below) root ≡ None
+standing_at-below_Gone path below step root h = standing_at-below path (step ∷ below) root Gone h ∙ standing_at-no_step step below Gone (part-Gone step)
 
 -- above the place stand the containers with what was put in them
 pub standing_at-replaced_below : (path below : List At) (new root old : Datum) → standing_at path root ≡ Some old → standing_at path (replaced (path ++ below) new root) ≡ Some (replaced below new old)

@@ -10,13 +10,13 @@ use Rattle.store_model.specs.declared.value.Value.{Value, Value-F, out-Value, ro
 use Rattle.store_model.specs.declared.value.Value.TheVariants.{Parts, Boxed, rolls-Parts, rolls-Boxed}
 use Rattle.store_model.specs.Data.{Datum, Aggregate, datum_of, datum_of_layer}
 use Rattle.store_model.specs.Places.{part, with_part, standing_at, replaced}
-use Rattle.store_model.proofs.DataLemmas.{datum_of-Parts, datum_of-Boxed, part_at-data_from, with_part_at-data_from}
+use Rattle.store_model.proofs.DataLemmas.{datum_of-Parts, datum_of-Boxed, part_at-values, with_part_at-values}
 
 -- a step into an aggregate leads to the element of its list
 pub part-Parts : (step : At) (root : Value) (number variant : ℕ) (serial : Option ℕ) (values : List Value) → step ≡ Part number → root ≡ Parts variant serial values →
     part step (datum_of root) ≡ option_map datum_of (slice_get values number)
 part-Parts step root number variant serial values is_step is_root =
-    ap (λ s. part s (datum_of root)) is_step ∙ ap (λ v. part (Part number) (datum_of v)) is_root ∙ ap (part (Part number)) (datum_of-Parts variant serial values) ∙ part_at-data_from values number
+    ap (λ s. part s (datum_of root)) is_step ∙ ap (λ v. part (Part number) (datum_of v)) is_root ∙ ap (part (Part number)) (datum_of-Parts variant serial values) ∙ part_at-values values number
 
 -- a step into a box leads to its content
 pub part-Boxed : (step : At) (root : Value) (serial : ℕ) (impl_no : Option ℕ) (inside : TheBox Value Global) → step ≡ Inside → root ≡ Boxed serial impl_no inside →
@@ -73,7 +73,7 @@ pub replaced-Parts : (path : List At) (step : At) (below : List At) (number vari
     slice_get values number ≡ Some inner → datum_of new ≡ replaced below given (datum_of inner) →
     datum_of (Parts variant serial (slice_set values number new)) ≡ replaced path given (datum_of (Parts variant serial values))
 replaced-Parts path step below number variant serial values inner new given is_path is_step is_inner h =
-    datum_of-Parts variant serial (slice_set values number new) ∙ ap (Aggregate variant serial) (sym (with_part_at-data_from values number new)) ∙
+    datum_of-Parts variant serial (slice_set values number new) ∙ ap (Aggregate variant serial) (sym (with_part_at-values values number new)) ∙
     ap (with_part (Part number) (datum_of new)) (sym (datum_of-Parts variant serial values)) ∙
     replaced-below path (Part number) below (datum_of (Parts variant serial values)) (datum_of inner) (datum_of new) given (is_path ∙ ap (λ s. s ∷ below) is_step)
     (part-Parts (Part number) (Parts variant serial values) number variant serial values refl refl ∙ ap (option_map datum_of) is_inner) h

@@ -8,10 +8,10 @@ use Rattle.std.proofs.lemmas.List.FromFn.{get_or-map-range_with_len, length-map-
 use Rattle.std.proofs.lemmas.List.Sorted.{IsPermutation-append, IsPermutation-append_comm, IsPermutation-refl, IsPermutation-trans, IsPermutation-sym}
 use Rattle.store_model.specs.declared.address.At.{At}
 use Rattle.store_model.specs.declared.address.At.TheVariants.{Part, Inside}
-use Rattle.store_model.specs.Data.{Datum, Data, Gone, Number, Truth, UnitValue, Aggregate, Box, Address, no_part, a_part}
+use Rattle.store_model.specs.Data.{Datum, Data, Gone, Number, Truth, UnitValue, Aggregate, Box, Address, no_part, a_part, data_from}
 use Rattle.store_model.specs.Dropping.{count, steps_to_parts}
 use Rattle.store_model.specs.Places.{part, with_part, part_at, with_part_at, standing_at, replaced}
-use Rattle.store_model.specs.Wholeness.{serials, serials_of_all, serial_before_parts, serial_after_parts}
+use Rattle.store_model.specs.Wholeness.{serials, serials_of_all, serial_before_parts, serial_after_parts, IsNumbered}
 use Rattle.store_model.proofs.PlaceLaws.{none_or_some, standing_at-step, standing_at-no_step, replaced-step, replaced-standing_at}
 
 -- the serial numbers of a value with another one in a place, as a function of what is put there
@@ -91,6 +91,22 @@ serials_of_all-steps variant serial all (a_part first rest) passed h =
     let further : (number : ℕ) → part_at (passed + 1 + number) all ≡ part_at number rest = λ number. ap (λ n. part_at n all) (let e : passed + 1 + number ≡ passed + suc number = omega arith in e) ∙ h (suc number) in
     ap (λ xs. serials first ++ xs) (serials_of_all-steps variant serial all rest (passed + 1) further)
     ∙ ap (λ o. option_map_or serials o [] ++ flat_map (λ step. option_map_or serials (part step (Aggregate variant serial all)) []) (map Part (range_with_len (passed + 1) (count rest)))) (sym here)
+
+-- a value is numbered exactly where it has a serial number of its own
+pub IsNumbered-iff_serial : (root : Datum) → IsNumbered root ↔ ((serial : ℕ) × (serial_before_parts root ++ serial_after_parts root ≡ serial ∷ []))
+IsNumbered-iff_serial Gone = (λ h. absurd h, λ w. cc)
+IsNumbered-iff_serial (Number number) = (λ h. absurd h, λ w. cc)
+IsNumbered-iff_serial (Truth truth) = (λ h. absurd h, λ w. cc)
+IsNumbered-iff_serial UnitValue = (λ h. absurd h, λ w. cc)
+IsNumbered-iff_serial (Aggregate variant None parts) = (λ h. absurd (cc), λ w. cc)
+IsNumbered-iff_serial (Aggregate variant (Some serial) parts) = (λ h. (serial, refl), λ w. refl)
+IsNumbered-iff_serial (Box serial impl_no inside) = (λ h. (serial, refl), λ w. tt)
+IsNumbered-iff_serial (Address address) = (λ h. absurd h, λ w. cc)
+
+-- the serial numbers of parts that a list gives
+pub serials_of_all-data_from : (values : List Datum) → serials_of_all (data_from values) ≡ flat_map serials values
+serials_of_all-data_from [] = refl
+serials_of_all-data_from (value ∷ values) = ap (λ xs. serials value ++ xs) (serials_of_all-data_from values)
 
 -- the serial numbers of a value are its own with those of its parts, along the steps in dropping order
 pub serials-along_steps : (root : Datum) → serials root ≡ serial_before_parts root ++ flat_map (λ step. option_map_or serials (part step root) []) (steps_to_parts root) ++ serial_after_parts root

@@ -1,9 +1,10 @@
 -- The laws of whole values.
-use Rattle.std.proofs.Common.{◌≡◌, ◌↔◌, inl, inr, ℕ, zero, suc, List, [], ◌∷◌, Some, None, refl, sym, ◌∙◌, subst}
+use Rattle.std.proofs.Common.{◌≡◌, ◌↔◌, inl, inr, ℕ, zero, suc, List, [], ◌∷◌, Some, None, refl, sym, ◌∙◌, subst, All}
 use Rattle.std.specs.Option.{option_and_then}
+use Rattle.std.proofs.lemmas.List.Elements.{All-nil, All-head, All-tail, All-cons}
 use Rattle.store_model.specs.declared.address.At.{At}
 use Rattle.store_model.specs.declared.address.At.TheVariants.{Part, Inside}
-use Rattle.store_model.specs.Data.{Datum, Data, Gone, Number, Truth, UnitValue, Aggregate, Box, Address, no_part, a_part}
+use Rattle.store_model.specs.Data.{Datum, Data, Gone, Number, Truth, UnitValue, Aggregate, Box, Address, no_part, a_part, data_from}
 use Rattle.store_model.specs.Places.{part, with_part, part_at, with_part_at, standing_at, replaced}
 use Rattle.store_model.specs.Wholeness.{IsWhole, AreWhole}
 use Rattle.store_model.proofs.PlaceLaws.{none_or_some, standing_at-step, standing_at-no_step, replaced-step, replaced-no_step, standing_at-replaced}
@@ -72,3 +73,10 @@ IsWhole-iff_no_gone root = (λ whole path. IsWhole-standing_at path root Gone wh
 -- a value from which something was taken is not whole
 pub not_whole-taken : (path : List At) (root old : Datum) → standing_at path root ≡ Some old → IsWhole (replaced path Gone root) → ⊥
 not_whole-taken path root old h whole = IsWhole-standing_at path (replaced path Gone root) Gone whole (standing_at-replaced path Gone root old h)
+
+-- parts that a list gives are whole exactly where each of the list is
+pub AreWhole-data_from : (values : List Datum) → AreWhole (data_from values) ↔ All IsWhole values
+AreWhole-data_from [] = (λ _. All-nil IsWhole, λ _. tt)
+AreWhole-data_from (value ∷ values) =
+    let rest = AreWhole-data_from values in
+    (λ w. All-cons IsWhole value values w.0 (rest.0 w.1), λ h. (All-head IsWhole value values h, rest.1 (All-tail IsWhole value values h)))

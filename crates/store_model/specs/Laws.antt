@@ -1,5 +1,5 @@
 -- The laws of places, of whole values and of serial numbers, which later proofs stand on.
-use Rattle.std.specs.Prelude.{◌≡◌, ◌↔◌, ◌⊎◌, ℕ, List, [], ◌++◌, Some, None, IsSome, Contains}
+use Rattle.std.specs.Prelude.{◌≡◌, ◌↔◌, ◌⊎◌, ℕ, List, [], ◌∷◌, ◌++◌, Some, None, IsSome, Contains}
 use Rattle.std.specs.Option.{option_and_then, option_map_or}
 use Rattle.std.specs.List.{flat_map}
 use Rattle.std.specs.List.Sorted.{IsPermutation}
@@ -7,7 +7,7 @@ use Rattle.store_model.specs.declared.address.At.{At}
 use Rattle.store_model.specs.Data.{Datum, Gone}
 use Rattle.store_model.specs.Dropping.{steps_to_parts}
 use Rattle.store_model.specs.Places.{part, standing_at, replaced, IsCutOff, AreApart}
-use Rattle.store_model.specs.Wholeness.{IsWhole, serials, serial_before_parts, serial_after_parts}
+use Rattle.store_model.specs.Wholeness.{IsWhole, IsNumbered, serials, serial_before_parts, serial_after_parts}
 
 -- a path may be walked in two pieces
 abbrev pub StandsAlong : Type 0
@@ -43,6 +43,10 @@ StandsAbove = (path below : List At) (new root old : Datum) → standing_at path
 -- apart from the place everything stands as before
 abbrev pub StandsApart : Type 0
 StandsApart = (path other : List At) (new root : Datum) → AreApart path other → standing_at other (replaced path new root) ≡ standing_at other root
+
+-- below a place that is gone nothing stands
+abbrev pub NothingBelowGone : Type 0
+NothingBelowGone = (path below : List At) (step : At) (root : Datum) → standing_at path root ≡ Some Gone → standing_at (path ++ step ∷ below) root ≡ None
 
 -- of two values put in one place the later stays
 abbrev pub LaterStays : Type 0
@@ -100,6 +104,10 @@ SerialsExchange = (path : List At) (new root old : Datum) → standing_at path r
 abbrev pub SerialsTaken : Type 0
 SerialsTaken = (path : List At) (root old : Datum) → standing_at path root ≡ Some old →
     IsPermutation (serials root) (serials old ++ serials (replaced path Gone root))
+
+-- a value is numbered exactly where it has a serial number of its own, and it has no more than one
+abbrev pub NumberedBySerial : Type 0
+NumberedBySerial = (root : Datum) → IsNumbered root ↔ ((serial : ℕ) × (serial_before_parts root ++ serial_after_parts root ≡ serial ∷ []))
 
 -- the serial numbers of a value are its own with those of its parts, along the steps in dropping order
 abbrev pub SerialsAlongSteps : Type 0

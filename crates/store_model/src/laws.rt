@@ -1,6 +1,6 @@
 //! The laws of places, of whole values and of serial numbers. Each is a clause of a function without
 //! parameters, and a lemma of `proofs/` that a proof above this crate cites.
-ghost use Rattle.store_model.specs.Laws.{StandsAlong, StandsUnlessCutOff, PathsCompare, KeepsWithoutPlace, StandsAtPlace, StandsBelow, StandsAbove, StandsApart, LaterStays, ContainerStays, KeepsWhatStood, GivesBack, ChangesWithin, ChangesApart, WholeWithoutGone, WholeBelow, WholeWithWhole, NotWholeWhereTaken, SerialsSplit, SerialsExchange, SerialsTaken, SerialsAlongSteps, StepsLead};
+ghost use Rattle.store_model.specs.Laws.{StandsAlong, StandsUnlessCutOff, PathsCompare, KeepsWithoutPlace, StandsAtPlace, StandsBelow, StandsAbove, StandsApart, LaterStays, ContainerStays, KeepsWhatStood, GivesBack, ChangesWithin, ChangesApart, WholeWithoutGone, WholeBelow, WholeWithWhole, NotWholeWhereTaken, NothingBelowGone, NumberedBySerial, SerialsSplit, SerialsExchange, SerialsTaken, SerialsAlongSteps, StepsLead};
 
 /// Where something stands, and how two paths lie to one another.
 pub fn law_of_paths()
@@ -17,6 +17,7 @@ pub fn law_of_what_stands()
     ensures below { StandsBelow }
     ensures above { StandsAbove }
     ensures apart { StandsApart }
+    ensures gone { NothingBelowGone }
 {}
 
 /// What becomes of a value by taking and putting twice.
@@ -39,6 +40,7 @@ pub fn law_of_wholeness()
 
 /// The serial numbers of a value in dropping order, and how taking and putting changes them.
 pub fn law_of_serials()
+    ensures numbered { NumberedBySerial }
     ensures split { SerialsSplit }
     ensures exchange { SerialsExchange }
     ensures taken { SerialsTaken }
