@@ -3,7 +3,7 @@ use Rattle.std.specs.Prelude.{◌≡◌, ℕ, suc, ◌+◌, ◌<◌, ◌⊎◌, 
 use Rattle.store_model.specs.declared.value.Value.{Value}
 use Rattle.store_model.specs.Data.{Datum, Data, Aggregate, Box, no_part, a_part, data_from, datum_of}
 
--- the number of values at and below a value, and in a list of them
+-- the number of values at and below a value, and at and below the parts of one
 abbrev mutual
   pub node_count : Datum → ℕ
   node_count (Aggregate variant serial parts) = suc (node_count_of_all parts)
@@ -14,6 +14,7 @@ abbrev mutual
   node_count_of_all no_part = 0
   node_count_of_all (a_part first rest) = node_count first + node_count_of_all rest
 
+-- the number of values at and below those of a list
 abbrev pub count_in : List Value → ℕ
 count_in values = node_count_of_all (data_from (map datum_of values))
 
@@ -22,6 +23,7 @@ abbrev pub count_waiting : Option (List Value) → ℕ
 count_waiting None = 0
 count_waiting (Some values) = suc (count_in values)
 
+-- the number of values at and below the next one and those that wait
 abbrev pub count_left : Value × Option (List Value) → ℕ
 count_left rest = node_count (datum_of rest.0) + count_waiting rest.1
 
