@@ -1,0 +1,9 @@
+use Rattle.std.proofs.Common.{◌+◌, ◌*◌, suc}
+use Rattle.store_model.specs.Data.{datum_of}
+use Rattle.store_model.specs.Counts.{node_count, count_left}
+use Rattle.store_model.proofs.value.Value.drop.Given as goal
+
+abbrev pub decreases-loop-self : goal.decreases-loop-self
+decreases-loop-self l =
+    let left = count_left (l.self, l.waiting) in
+    left * suc left + node_count (datum_of l.self)

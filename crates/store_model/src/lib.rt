@@ -1,0 +1,22 @@
+//! The values of the language as a run holds them: whole or with parts that are gone, boxed, or behind an
+//! address. A place in a value is reached by a path of steps; [`read`], [`take`] and [`put`] work at its
+//! end. Contracts see a value as plain data, `Datum` of `specs/Data.antt`.
+#![tactic(auto)]
+
+mod address;
+mod copies;
+mod laws;
+mod parts;
+mod places;
+mod value;
+
+pub use address::{Addr, At, AtPath};
+pub use laws::{
+    law_of_changes, law_of_paths, law_of_serials, law_of_what_stands, law_of_wholeness,
+};
+pub use parts::parts_in_order;
+pub use places::{put, read, take};
+pub use value::Value;
+
+#[cfg(test)]
+mod tests;
