@@ -6,10 +6,14 @@ ghost use Rattle.std.specs.Iterator.Runs.{EveryRun, ItemsAre};
 ghost use Rattle.std.specs.Slice.Iter.{iter_rest};
 ghost use Rattle.std.specs.Vec.Iter.{into_iter_items, into_iter_len, into_iter_steps};
 ghost use Rattle.std.specs.declared.alloc.Global.{Global as heap};
+ghost use Rattle.std.specs.Cmp.Lexicographic.{pointwise, lists_per, lists_equiv};
+ghost use Rattle.std.specs.Hash as fed;
+ghost use Rattle.std.specs.Hash.{items_Alike};
 ghost use Rattle.mir_base.specs.Lending.{LendsElement};
 
 use crate::NoMemory;
 use std::alloc::Global;
+use std::hash::{Hash, Hasher};
 use std::marker::Model;
 use std::slice::Iter;
 use std::vec::IntoIter;
@@ -172,5 +176,29 @@ impl<T> From<List<T>> for Vec<T> {
 
     fn from(list: List<T>) -> Vec<T> {
         list.into_vec()
+    }
+}
+
+impl<T: PartialEq> PartialEq for List<T> {
+    ghost eq = { pointwise T.eq };
+
+    ghost laws = { lists_per T.laws };
+
+    fn eq(&self, other: &List<T>) -> bool {
+        self.elements == other.elements
+    }
+}
+
+impl<T: Eq> Eq for List<T> {
+    ghost laws = { lists_equiv T.Eq.laws };
+}
+
+impl<T: Hash> Hash for List<T> {
+    ghost hash_input = { fed.slice T.hash_input };
+
+    ghost respects_eq = { (items_Alike (record { fed = T.respects_eq })).fed };
+
+    fn hash<H: Hasher>(&self, state: &mut H) {
+        self.elements.hash(state);
     }
 }
