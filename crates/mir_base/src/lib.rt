@@ -19,3 +19,6 @@ pub use name::Name;
 pub use place_in_text::{Key, NodeId, Pos};
 pub use rule::{Rule, RuleError};
 pub use trace::{End, Event, Why};
+
+#[cfg(test)]
+mod tests;

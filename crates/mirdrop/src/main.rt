@@ -20,7 +20,11 @@ fn words(rt: &(impl Env + AllocGlobal)) -> io::Result<Vec<String>> {
 
 /// The status where the runtime does not give the words: 5 for want of memory, else 7.
 fn status_without_words(error: &io::Error) -> u8 {
-    if error.kind() == io::ErrorKind::OutOfMemory { 5 } else { 7 }
+    if error.kind() == io::ErrorKind::OutOfMemory {
+        5
+    } else {
+        7
+    }
 }
 
 fn main(rt: HostRuntime) -> ExitCode {

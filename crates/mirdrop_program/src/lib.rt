@@ -7,6 +7,7 @@ ghost use Rattle.std.specs.Prelude.{◌≡◌, ◌≤◌, ◌<◌, ◌⊎◌, �
 ghost use Rattle.mir_edge.specs.Faults.{HasRisen};
 ghost use Rattle.mir_edge.specs.Told.{WhereTold};
 ghost use Rattle.mirdrop_program.specs.TopCall.{IsRun, HasAnswered, IsComplete, Delivered, Responded};
+ghost use Rattle.mirdrop_program.specs.First.Read.{OneProgramAText};
 
 use first::answer::answer_text;
 use mir_base::limits::MAX_TEXT_BYTES;
@@ -93,3 +94,13 @@ pub fn mirdrop<S: Source, K: Sink>(alloc: Global, words: &[String], source: &mut
         Err(ReadAllError::Memory) => 5,
     }
 }
+
+/// A text spells at most one first program, with its words at the same places: so there is one answer to
+/// each text.
+pub fn law_one_program_a_text()
+    ensures { OneProgramAText }
+{
+}
+
+#[cfg(test)]
+mod tests;

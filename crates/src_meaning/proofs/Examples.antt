@@ -3,9 +3,8 @@ use Rattle.std.proofs.Common.{◌≡◌, refl, [], ◌∷◌, pos}
 use Rattle.std.specs.Prelude.{codes}
 use Rattle.mir_base.specs.declared.trace.End.{End}
 use Rattle.mir_base.specs.declared.trace.Event.TheVariants.{Call as call, Return as return, Make as make, Dropped as drop, Printed as printed}
-use Rattle.mir_base.specs.Trace.{Trace}
 use Rattle.src_meaning.specs.First.Meaning.{run_of, trace_of, end_of}
-use Rattle.src_meaning.specs.First.Tree.{Let, Call, Print, Inner, Block, done, next, Item, Plain, Dropping, Function, Program}
+use Rattle.src_meaning.specs.First.Tree.{Let, Call, Print, Inner, Block, done, next, Dropping, Function, Program}
 
 abbrev let_d : Block → Block
 let_d = next (Let (codes "x") (codes "D") (pos 1))

@@ -107,3 +107,13 @@ keeps_limit text l first e read passed =
       spelled = subst (λ (ts : List Token). Spelled 0 ts l.places text) parsed.0 (lexed_spelled text l e);
       within_form = in_form_from first.items passed parsed.1;
     }, parsed.0)
+
+-- the words of a text determine its program, and the places of the words
+pub one_program : (text : List ℕ) (p q : Program) (places others : List ℕ) → Spells text p places → Spells text q others → (p ≡ q) × (places ≡ others)
+one_program text p q places others first second =
+    let found = spelled_lexed text (program_tokens p) places first.spelled (program_well_roled p) in
+    let words = words_of text found.0 q others found.1 second in
+    let same : program_tokens p ≡ program_tokens q = sym found.2 ∙ words.0 in
+    let reads = program_reads p (in_form_nests p first.within_form) in
+    let reads_too = program_reads q (in_form_nests q second.within_form) in
+    (cc (same, reads, reads_too), sym found.3 ∙ words.1)

@@ -96,12 +96,6 @@ makes_none name m scope found = record {
   items = refl;
 }
 
--- leaving a scope after something that changes no entry of it
-leave-in_scope : (p : Program) (e : Enters) (entries : List Entry) (o : Outcome) (f : List Entry → World → Scoped)
-    → leave p e (in_scope (scope_after entries o) f) ≡ and_then o (λ w. leave p e (f entries w))
-leave-in_scope p e entries (Goes w) f = refl
-leave-in_scope p e entries (Stops w) f = refl
-
 module _ (b : Block) (scope : List Entry) (m0 m1 m2 : Machine) where
   pub lets : (s : List ℕ) (after : List Entry) → HasMade s m0 scope m1 after → Pushed (Statements b after) m1 m2 → HasRunLet s b scope m0 m2 true
   lets s after made pushed =
@@ -111,58 +105,3 @@ module _ (b : Block) (scope : List Entry) (m0 m1 m2 : Machine) where
         stops = λ e. cc;
         items = items;
       }
-
-  pub prints : (n : ℤ) → Tells (Event.Printed n) m0 m1 → Pushed (Statements b scope) m1 m2 → HasRun (next (Print n) b) scope m0 m2 true
-  prints n tells pushed =
-      let items : m2.items.now ≡ m0.items.now = pushed.items ∙ tells.items in
-      record {
-        goes = λ _. sym (same_finish (program_of m2) (program_of m0) _ _ _ _ (ap (map the_item) items) (pushed.tasks ∙ ap (λ ts. Statements b scope ∷ ts) tells.tasks) (ap the_world pushed.world ∙ tells.world));
-        stops = λ e. cc;
-        items = items;
-      }
-
-  pub enters_inner : (inner : Block) → Pushed (Statements b scope) m0 m1 → Pushed (Statements inner []) m1 m2 → HasRun (next (Inner inner) b) scope m0 m2 true
-  enters_inner inner first second =
-      let items : m2.items.now ≡ m0.items.now = second.items ∙ first.items in
-      let p = program_of m0 in
-      let w = the_world m0.world in
-      record {
-        goes = λ _.
-            ap (λ o. and_then o (finish p (tasks_of m0.tasks))) (leave-in_scope p (enters p) scope (leave p (enters p) (run_statements p (enters p) inner [] w)) (run_statements p (enters p) b))
-            ∙ (and_then_assoc (leave p (enters p) (run_statements p (enters p) inner [] w)) _ (finish p (tasks_of m0.tasks))
-                ∙ sym (same_finish (program_of m2) p _ _ _ _ (ap (map the_item) items) (second.tasks ∙ ap (λ ts. Statements inner [] ∷ ts) first.tasks) (ap the_world (second.world ∙ first.world))));
-        stops = λ e. cc;
-        items = items;
-      }
-
-  pub calls_then : (f : List ℕ) (went : Bool) → Pushed (Statements b scope) m0 m1 → HasCalled f m1 m2 went → HasRun (next (Call f) b) scope m0 m2 went
-  calls_then f went first called =
-      let p = program_of m0 in
-      let w = the_world m0.world in
-      let same : program_of m1 ≡ p = ap (map the_item) first.items in
-      let world : the_world m1.world ≡ w = ap the_world first.world in
-      let whole : finish p (Statements (next (Call f) b) scope ∷ tasks_of m0.tasks) w
-          ≡ and_then (call (program_of m1) (enters (program_of m1)) (position (is_function f) (program_of m1)) (the_world m1.world)) (rest_of m1) =
-          ap (λ o. and_then o (finish p (tasks_of m0.tasks))) (leave-in_scope p (enters p) scope (call p (enters p) (position (is_function f) p) w) (run_statements p (enters p) b))
-          ∙ (and_then_assoc (call p (enters p) (position (is_function f) p) w) _ (finish p (tasks_of m0.tasks))
-              ∙ rw (same, world, first.tasks) refl) in
-      record {
-        goes = λ e. whole ∙ called.goes e;
-        stops = λ e. whole ∙ called.stops e;
-        items = called.items ∙ first.items;
-      }
-
-and_then-goes : (o : Outcome) → and_then o (λ w. Goes w) ≡ o
-and_then-goes (Goes w) = refl
-and_then-goes (Stops w) = refl
-
-same_call : (p : Program) (f : Option ℕ) (ticks : ℕ) → call p (entering p ticks) f (beginning ticks) ≡ call p (enters p) f (beginning ticks)
-same_call p None ticks = refl
-same_call p (Some f) ticks = refl
-
--- the call of `main` begins the run
-pub begins : (name : List ℕ) (ticks : ℕ) (m : Machine) → name ≡ codes "main" → the_world m.world ≡ beginning ticks → tasks_of m.tasks ≡ []
-    → run_of (program_of m) ticks ≡ and_then (call (program_of m) (enters (program_of m)) (position (is_function name) (program_of m)) (the_world m.world)) (rest_of m)
-begins name ticks m named world tasks =
-    same_call (program_of m) (position (is_function (codes "main")) (program_of m)) ticks
-    ∙ rw (named, world, tasks) (sym (and_then-goes (call (program_of m) (enters (program_of m)) (position (is_function (codes "main")) (program_of m)) (beginning ticks))))

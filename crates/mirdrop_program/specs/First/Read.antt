@@ -11,3 +11,8 @@ SpellsNone text = (p : Program) (places : List ℕ) → ¬ Spells text p places
 pub record IsRead (text : List ℕ) (r : Reading) : Type 0 where
   pub spells : Spells text (the_program r.first) r.places
   pub tokens : r.tokens ≡ program_tokens (the_program r.first)
+
+-- a text spells at most one program, at one list of places
+abbrev pub OneProgramAText : Type 0
+OneProgramAText =
+    (text : List ℕ) (p q : Program) (places others : List ℕ) → Spells text p places → Spells text q others → (p ≡ q) × (places ≡ others)

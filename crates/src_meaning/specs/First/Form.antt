@@ -1,5 +1,5 @@
 -- Which programs are first programs, and what the command `run` owes a text.
-use Rattle.std.specs.Prelude.{◌≡◌, ℕ, suc, ◌+◌, max, Bool, true, false, ◌||◌, ◌&&◌, not, ◌==◌, nat_le, List, [], ◌∷◌, ◌++◌, length, map, fold, take, Option, Some, None, IsTrue, codes, if◌then◌else◌}
+use Rattle.std.specs.Prelude.{◌≡◌, ℕ, suc, ◌+◌, max, Bool, true, false, ◌&&◌, not, ◌==◌, nat_le, List, [], ◌∷◌, ◌++◌, length, map, fold, take, Option, Some, None, IsTrue, codes, if◌then◌else◌}
 use Rattle.std.specs.Fmt.{decimal}
 use Rattle.std.specs.List.{list_any, list_all}
 use Rattle.mir_base.specs.declared.trace.End.{End}
@@ -8,7 +8,7 @@ use Rattle.src_meaning.specs.First.Meaning.{same_name, is_struct, is_function, i
 use Rattle.src_meaning.specs.declared.first.Token.{Token}
 use Rattle.src_meaning.specs.declared.first.Token.TheVariants.{Reads, Gives, NamesStruct, NamesFunction, Counts}
 use Rattle.src_meaning.specs.First.Spelling.{Spelled, program_tokens}
-use Rattle.src_meaning.specs.First.Tree.{Statement, Let, Call, Print, Inner, Block, done, next, Item, Plain, Dropping, Function, Program}
+use Rattle.src_meaning.specs.First.Tree.{Statement, Let, Call, Print, Inner, Block, done, next, Program}
 
 -- no two names are the same
 abbrev pub are_distinct : List (List ℕ) → Bool

@@ -1,11 +1,11 @@
 -- Which texts spell a first program, and where its words stand in the text.
-use Rattle.std.specs.Prelude.{◌≡◌, ℕ, zero, suc, ◌+◌, ◌*◌, ◌-◌, ◌≤◌, ℤ, pos, Bool, true, false, ◌||◌, ◌&&◌, not, ◌==◌, nat_le, List, [], ◌∷◌, ◌++◌, length, fold, Option, Some, None, IsTrue, codes}
+use Rattle.std.specs.Prelude.{◌≡◌, ℕ, ◌+◌, ◌*◌, ◌-◌, pos, Bool, false, ◌||◌, ◌&&◌, not, ◌==◌, nat_le, List, [], ◌∷◌, ◌++◌, length, fold, IsTrue, codes}
 use Rattle.std.specs.List.{list_any, list_all}
 use Rattle.src_meaning.specs.declared.first.TheConstants.{RESERVED_WORDS}
 use Rattle.src_meaning.specs.declared.first.Fixed.{Fixed}
 use Rattle.src_meaning.specs.declared.first.Token.{Token}
 use Rattle.src_meaning.specs.declared.first.Token.TheVariants.{Reads, Gives, NamesStruct, NamesFunction, Counts}
-use Rattle.src_meaning.specs.First.Meaning.{same_name, is_struct, is_function}
+use Rattle.src_meaning.specs.First.Meaning.{same_name}
 use Rattle.src_meaning.specs.First.Tree.{Statement, Let, Call, Print, Inner, Block, done, next, Item, Plain, Dropping, Function, Program}
 
 -- Bytes.
