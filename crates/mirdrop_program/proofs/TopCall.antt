@@ -1,13 +1,12 @@
 -- The words of the program, and its answers.
-use Rattle.std.proofs.Common.{◌≡◌, ℕ, ◌<◌, ◌≤◌, Bool, true, false, Option, Some, None, List, [], ◌∷◌, ◌++◌, length, take, get_or, refl, ap, sym, ◌∙◌, arith, inl, inr, subst, String, nat_eq, eq-eqb}
+use Rattle.std.proofs.Common.{◌≡◌, ℕ, ◌≤◌, true, Option, Some, List, [], ◌∷◌, ◌++◌, length, take, get_or, refl, ap, sym, ◌∙◌, arith, inl, inr, subst, String, nat_eq, eq-eqb}
 use Rattle.std.specs.Cmp.Lexicographic.{pointwise}
 use Rattle.std.proofs.lemmas.List.{append-nil}
 use Rattle.std.specs.declared.alloc.Global.{Global}
-use Rattle.std.specs.Prelude.{map, codes, string_bytes, ◌⊎◌}
+use Rattle.std.specs.Prelude.{map, string_bytes, ◌⊎◌}
 use Rattle.mir_base.specs.declared.trace.End.{End}
 use Rattle.src_meaning.specs.First.Form.{Owed, later, unknown, runs, status_of}
-use Rattle.src_meaning.specs.First.Meaning.{same_name}
-use Rattle.mirdrop_program.specs.TopCall.{IsRun, words_line, read_line, long_line, Due, wrong_words, not_read, too_long, answered, Answers, whole, part, no_memory, HasAnswered, IsComplete, Delivered, taken_whole, taken_part, Responded, owing, wanting}
+use Rattle.mirdrop_program.specs.TopCall.{IsRun, Due, wrong_words, not_read, too_long, answered, Answers, whole, part, no_memory, HasAnswered, IsComplete, Delivered, taken_whole, taken_part, Responded, owing, wanting}
 
 pub one_word : (words : List (String Global)) (w : String Global) → length words ≡ 1 → w ≡ get_or words 0 w → map string_bytes words ≡ string_bytes w ∷ []
 one_word [] w one is = absurd (omega arith)

@@ -1,5 +1,5 @@
 -- What the program owes its words and its text, and what it may answer.
-use Rattle.std.specs.Prelude.{◌≡◌, ℕ, ◌<◌, ◌≤◌, ◌⊎◌, List, [], ◌∷◌, ◌++◌, length, take, map, Option, Some, codes, string_bytes, String}
+use Rattle.std.specs.Prelude.{◌≡◌, ℕ, ◌<◌, ◌≤◌, ◌⊎◌, List, [], ◌∷◌, ◌++◌, length, take, Option, Some, codes}
 use Rattle.mir_base.specs.Lines.{line}
 use Rattle.src_meaning.specs.First.Form.{Owed}
 

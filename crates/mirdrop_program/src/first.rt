@@ -5,7 +5,6 @@
 //! the status and the text of all that.
 
 pub mod answer;
-
 mod form;
 mod lexer;
 mod machine;

@@ -10,8 +10,8 @@ ghost use Rattle.mirdrop_program.specs.TopCall.{IsRun, HasAnswered, IsComplete, 
 ghost use Rattle.mirdrop_program.specs.First.Read.{OneProgramAText};
 
 use first::answer::answer_text;
-use mir_base::limits::MAX_TEXT_BYTES;
 use mir_base::NoMemory;
+use mir_base::limits::MAX_TEXT_BYTES;
 use mir_edge::{ReadAllError, Sink, Source, read_all, write_whole};
 use std::alloc::Global;
 
@@ -64,7 +64,12 @@ fn respond<K: Sink>(alloc: Global, text: &[u8], sink: &mut K) -> u8
 /// | 5 | memory was wanted; nothing was written |
 /// | 6 | the source gave more than 131,072 bytes |
 /// | 12 | the program ran out of ticks |
-pub fn mirdrop<S: Source, K: Sink>(alloc: Global, words: &[String], source: &mut S, sink: &mut K) -> u8
+pub fn mirdrop<S: Source, K: Sink>(
+    alloc: Global,
+    words: &[String],
+    source: &mut S,
+    sink: &mut K,
+) -> u8
     // The counts of faults never fall, and each failure has its count.
     ensures source_faults { S.faults source.old ≤ S.faults source.new }
     ensures sink_faults { K.faults sink.old ≤ K.faults sink.new }
@@ -99,8 +104,7 @@ pub fn mirdrop<S: Source, K: Sink>(alloc: Global, words: &[String], source: &mut
 /// each text.
 pub fn law_one_program_a_text()
     ensures { OneProgramAText }
-{
-}
+{}
 
 #[cfg(test)]
 mod tests;

@@ -57,7 +57,8 @@ struct D(i32); impl Drop for D { fn drop(&mut self) { let e = E(0); f(); } } \
 fn f() { let x = E(1); } fn main() { let d = D(1); }";
 
 /// A destructor that runs itself again, through a value of its own type.
-const ENDLESS: &str = "struct D(i32); impl Drop for D { fn drop(&mut self) { let d = D(1); } } fn main() { let d = D(1); }";
+const ENDLESS: &str =
+    "struct D(i32); impl Drop for D { fn drop(&mut self) { let d = D(1); } } fn main() { let d = D(1); }";
 
 #[test]
 fn traces_of_programs(rt: HostRuntime) -> Result<(), Fail> {
@@ -94,7 +95,12 @@ fn traces_of_programs(rt: HostRuntime) -> Result<(), Fail> {
 #[test]
 fn scopes_from_the_inside_out(rt: HostRuntime) -> Result<(), Fail> {
     let alloc = rt.alloc();
-    let text = between(alloc, D, "fn main() { let a = D(1); { let b = D(2); { let c = D(3); } print(1); } print(2); }", "")?;
+    let text = between(
+        alloc,
+        D,
+        "fn main() { let a = D(1); { let b = D(2); { let c = D(3); } print(1); } print(2); }",
+        "",
+    )?;
     let outcome = outcome(alloc, &["run"], text.as_str())?;
     assert_eq!(rt; outcome.status, 0);
     let trace = "call main\nmake D#1\nmake D#2\nmake D#3\ndrop D#3\nreturn D::drop\nprint 1\n\
@@ -118,15 +124,45 @@ fn refusals(rt: HostRuntime) -> Result<(), Fail> {
         (&["run"], "fn main() { print(00000000001); }", 1, later),
         (&["run"], "fn main() { print(1x); }", 1, later),
         (&["run"], "fn main() {} fn main() {}", 1, later),
-        (&["run"], "struct D(i32); fn main() { let D = D(1); }", 1, later),
-        (&["run"], "struct D(i32); struct E(i32); impl Drop for D { fn drop(&mut self) {} } fn main() {}", 1, later),
+        (
+            &["run"],
+            "struct D(i32); fn main() { let D = D(1); }",
+            1,
+            later,
+        ),
+        (
+            &["run"],
+            "struct D(i32); struct E(i32); impl Drop for D { fn drop(&mut self) {} } fn main() {}",
+            1,
+            later,
+        ),
         (&["run"], "fn loop() {} fn main() {}", 1, later),
         (&["run"], "fnmain() {}", 1, later),
         (&["run"], "fn main() { é(); }", 1, later),
-        (&["run"], "fn main() { f(); }", 1, "refused: T01 UnknownName at 1:13\n"),
-        (&["run"], "fn main() {\n  g(); let x = S(1); }", 1, "refused: T01 UnknownName at 2:3\n"),
-        (&["run"], "fn f() { let x = S(1); } fn main() { g(); }", 1, "refused: T01 UnknownName at 1:18\n"),
-        (&["run"], "struct D(i32);\n", 1, "refused: T01 UnknownName at 2:1\n"),
+        (
+            &["run"],
+            "fn main() { f(); }",
+            1,
+            "refused: T01 UnknownName at 1:13\n",
+        ),
+        (
+            &["run"],
+            "fn main() {\n  g(); let x = S(1); }",
+            1,
+            "refused: T01 UnknownName at 2:3\n",
+        ),
+        (
+            &["run"],
+            "fn f() { let x = S(1); } fn main() { g(); }",
+            1,
+            "refused: T01 UnknownName at 1:18\n",
+        ),
+        (
+            &["run"],
+            "struct D(i32);\n",
+            1,
+            "refused: T01 UnknownName at 2:1\n",
+        ),
         (&["run"], "", 1, "refused: T01 UnknownName at 1:1\n"),
     ];
     for (words, text, status, written) in rows {
@@ -149,8 +185,17 @@ fn runs_out_of_ticks(rt: HostRuntime) -> Result<(), Fail> {
     // 9,999 destructors are entered after `main`, each within the one before.
     let drops = outcome(alloc, &["run"], ENDLESS)?;
     assert_eq!(rt; drops.status, 12);
-    assert!(rt; drops.written.as_str().starts_with("call main\nmake D#1\ndrop D#1\nmake D#2\ndrop D#2\n"));
-    assert!(rt; drops.written.as_str().ends_with("make D#9999\ndrop D#9999\nmake D#10000\nend: out of ticks\n"));
+    assert!(rt;
+        drops
+            .written
+            .as_str()
+            .starts_with("call main\nmake D#1\ndrop D#1\nmake D#2\ndrop D#2\n")
+    );
+    assert!(rt;
+        drops.written.as_str().ends_with(
+            "make D#9999\ndrop D#9999\nmake D#10000\nend: out of ticks\n"
+        )
+    );
     Ok(())
 }
 
@@ -158,17 +203,30 @@ fn runs_out_of_ticks(rt: HostRuntime) -> Result<(), Fail> {
 fn limits_of_a_body(rt: HostRuntime) -> Result<(), Fail> {
     let alloc = rt.alloc();
     // A statement, how often, what opens and closes round it, and the status.
-    for (statement, times, status) in [("print(1);", 500, 0), ("print(1);", 501, 1), ("{}", 500, 0), ("{}", 501, 1)] {
+    for (statement, times, status) in [
+        ("print(1);", 500, 0),
+        ("print(1);", 501, 1),
+        ("{}", 500, 0),
+        ("{}", 501, 1),
+    ] {
         let body = repeated(alloc, statement, times)?;
         let text = between(alloc, "fn main() {", body.as_str(), "}")?;
-        assert_eq!(rt; outcome(alloc, &["run"], text.as_str())?.status, status, "{times}");
+        assert_eq!(rt;
+            outcome(alloc, &["run"], text.as_str())?.status,
+            status,
+            "{times}"
+        );
     }
     // So many braces are open at once.
     for (depth, status) in [(32, 0), (33, 1), (50000, 1)] {
         let open = repeated(alloc, "{", depth)?;
         let close = repeated(alloc, "}", depth)?;
         let text = between(alloc, "fn main() ", open.as_str(), close.as_str())?;
-        assert_eq!(rt; outcome(alloc, &["run"], text.as_str())?.status, status, "{depth}");
+        assert_eq!(rt;
+            outcome(alloc, &["run"], text.as_str())?.status,
+            status,
+            "{depth}"
+        );
     }
     Ok(())
 }
@@ -204,7 +262,10 @@ fn faults(rt: HostRuntime) -> Result<(), Fail> {
         let mut source = MemSource::new(bytes, 4096, List::from_vec(reads.to_vec(alloc)?));
         let mut sink = MemSink::new(alloc, 4, List::from_vec(writes.to_vec(alloc)?));
         sink.reserve(64)?;
-        assert_eq!(rt; mirdrop(alloc, words.as_slice(), &mut source, &mut sink), status);
+        assert_eq!(rt;
+            mirdrop(alloc, words.as_slice(), &mut source, &mut sink),
+            status
+        );
         assert_eq!(rt; sink.bytes(), written);
     }
     Ok(())

@@ -1,6 +1,5 @@
 -- Whether names are distinct, from an index on.
-use Rattle.std.proofs.Common.{◌≡◌, ℕ, suc, ◌+◌, ◌<◌, Bool, true, false, ◌&&◌, ◌||◌, not, List, [], ◌∷◌, length, drop, get_or, refl, ap, sym, ◌∙◌, arith, add-one, drop-cons}
-use Rattle.std.specs.Prelude.{map}
+use Rattle.std.proofs.Common.{◌≡◌, ℕ, suc, ◌+◌, ◌<◌, Bool, true, false, ◌&&◌, ◌||◌, not, List, [], ◌∷◌, length, drop, get_or, refl, ap, sym, ◌∙◌, add-one, drop-cons}
 use Rattle.std.specs.List.{list_any}
 use Rattle.src_meaning.specs.declared.first.FirstItem.{FirstItem}
 use Rattle.src_meaning.specs.First.Form.{are_distinct}
@@ -29,7 +28,7 @@ module _ (items rest : List FirstItem) (i : ℕ) (item : FirstItem) (name : List
   at =
       step items i item within
       ∙ (ap (λ (x : FirstItem). not (list_any (λ other. same_name (item_name (the_item x)) (item_name (the_item other))) (drop (i + 1) items)) && are_distinct (names_of (drop (i + 1) items))) (sym item_is)
-          ∙ rw (← name_is, ← rest_is) refl)
+      ∙ rw (← name_is, ← rest_is) refl)
 
   pub stands_again : true ≡ again → are_distinct (names_of (drop i items)) ≡ false
   stands_again e = at ∙ rw (← e) refl

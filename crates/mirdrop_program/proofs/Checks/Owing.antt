@@ -1,5 +1,5 @@
 -- What is owed to a text, from what was read and what was written.
-use Rattle.std.proofs.Common.{◌≡◌, ℕ, Option, Some, None, List, subst, sym}
+use Rattle.std.proofs.Common.{◌≡◌, ℕ, Some, None, List, sym}
 use Rattle.std.specs.Prelude.{Result, Ok, Err, IfOk}
 use Rattle.src_meaning.specs.First.Form.{Spells, Owed, later, unknown, runs, later_line, unknown_line, missing_name, status_of, run_ticks}
 use Rattle.src_meaning.specs.First.Meaning.{end_of, run_of, text_of_run}

@@ -1,12 +1,12 @@
 -- Unknown names, by the items of the machine and by the definition.
-use Rattle.std.proofs.Common.{◌≡◌, ℕ, Bool, true, false, ◌||◌, not, Option, Some, None, List, [], ◌∷◌, length, refl, ap, sym, ◌∙◌}
+use Rattle.std.proofs.Common.{◌≡◌, ℕ, true, false, ◌||◌, not, Some, List, [], ◌∷◌, length, refl, ap, sym, ◌∙◌}
 use Rattle.std.specs.Prelude.{map, codes}
 use Rattle.std.specs.List.{list_any}
 use Rattle.src_meaning.specs.declared.first.FirstItem.{FirstItem}
 use Rattle.src_meaning.specs.declared.first.Token.{Token}
 use Rattle.src_meaning.specs.declared.first.Token.TheVariants.{Reads, Gives, NamesStruct, NamesFunction, Counts}
-use Rattle.src_meaning.specs.First.Form.{is_any_struct, is_any_function, is_unknown, first_unknown, missing_name}
-use Rattle.src_meaning.specs.First.Meaning.{is_struct, is_function}
+use Rattle.src_meaning.specs.First.Form.{is_any_function, is_unknown, first_unknown, missing_name}
+use Rattle.src_meaning.specs.First.Meaning.{is_function}
 use Rattle.src_meaning.specs.First.Spelling.{program_tokens}
 use Rattle.src_meaning.specs.First.Tree.{the_item}
 use Rattle.mirdrop_program.specs.First.Naming.{unknown_in, first_in}

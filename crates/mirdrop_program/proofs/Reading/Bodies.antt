@@ -1,11 +1,11 @@
 -- How reading a body goes on after each step.
-use Rattle.std.proofs.Common.{◌≡◌, ℕ, zero, suc, ◌+◌, ◌<◌, ◌≤◌, Bool, true, false, Option, Some, None, List, [], ◌∷◌, ◌++◌, length, drop, refl, ap, sym, ◌∙◌, arith, drop-drop, nat_lt}
+use Rattle.std.proofs.Common.{◌≡◌, ℕ, zero, suc, ◌+◌, ◌<◌, ◌≤◌, true, false, Some, None, List, [], ◌∷◌, ◌++◌, length, drop, refl, ◌∙◌, drop-drop, nat_lt}
 use Rattle.std.proofs.lemmas.Bool.{lt-ltb, le-ltb}
-use Rattle.src_meaning.specs.First.Tree.{Statement, Inner, Block, block_of, the_block}
+use Rattle.src_meaning.specs.First.Tree.{Statement, Inner, block_of, the_block}
 use Rattle.src_meaning.specs.declared.first.FirstBlock.{FirstBlock}
 use Rattle.src_meaning.specs.declared.first.Token.{Token}
 use Rattle.mirdrop_program.specs.declared.first.parser.OpenBlocks.{OpenBlocks}
-use Rattle.mirdrop_program.specs.First.Parsing.{step_of, Step, Takes, Opens, Closes, Wrong, body_of, Body, left, IsOpen, statements_of, blocks_of}
+use Rattle.mirdrop_program.specs.First.Parsing.{step_of, Takes, Opens, Closes, Wrong, body_of, left, IsOpen, statements_of, blocks_of}
 
 -- tokens that are passed over are no part of the rest
 passed_over : (k : ℕ) (ts : List Token) (inner : List Statement) (outer : List (List Statement))

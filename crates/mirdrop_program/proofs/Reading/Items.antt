@@ -1,12 +1,12 @@
 -- How reading an item goes on after its head.
-use Rattle.std.proofs.Common.{◌≡◌, ℕ, zero, suc, ◌+◌, ◌<◌, ◌≤◌, Bool, true, false, Option, Some, None, List, [], ◌∷◌, ◌++◌, length, drop, refl, ap, sym, ◌∙◌, arith, drop-drop, length-drop, subst}
+use Rattle.std.proofs.Common.{◌≡◌, ℕ, zero, suc, ◌+◌, ◌<◌, ◌≤◌, true, false, Some, None, List, [], ◌∷◌, ◌++◌, length, drop, refl, ap, sym, ◌∙◌, arith, drop-drop, length-drop, subst}
 use Rattle.src_meaning.specs.declared.first.Fixed.{Fixed}
 use Rattle.src_meaning.specs.declared.first.Token.{Token}
 use Rattle.src_meaning.specs.declared.first.Token.TheVariants.{Reads, Gives}
 use Rattle.src_meaning.specs.First.Meaning.{same_name}
 use Rattle.src_meaning.specs.First.Tree.{Block, Item, Dropping, Program}
 use Rattle.mirdrop_program.specs.declared.first.parser.TheConstants.{DROP_HEAD}
-use Rattle.mirdrop_program.specs.First.Parsing.{BeginsWith, Body, body_of, ItemAnd, drop_head_of, dropping_after, struct_after, begins_with_close, item_of, items_of, items_after, program_of}
+use Rattle.mirdrop_program.specs.First.Parsing.{BeginsWith, Body, body_of, drop_head_of, dropping_after, struct_after, begins_with_close, item_of, items_of, program_of}
 
 pub no_drop_head : (ts : List Token) → ¬ BeginsWith DROP_HEAD ts → None ≡ drop_head_of ts
 no_drop_head (Reads Fixed.Impl ∷ Reads Fixed.DropTrait ∷ Reads Fixed.For ∷ Gives s ∷ Reads Fixed.OpenBrace ∷ Reads Fixed.Fn ∷ Reads Fixed.DropMethod ∷ Reads Fixed.OpenParenthesis ∷ Reads Fixed.Ampersand ∷ Reads Fixed.Mut ∷ Reads Fixed.SelfWord ∷ Reads Fixed.CloseParenthesis ∷ Reads Fixed.OpenBrace ∷ rest) h =
@@ -54,6 +54,8 @@ goes_on_at tokens at size most items after item within fits below e is so_far =
     let some : 0 < length (drop at tokens) = omega (arith, length-drop at tokens) in
     let shorter : length (drop size (drop at tokens)) < length (drop at tokens) = omega (arith, length-drop size (drop at tokens), fits.0, fits.1) in
     let more = one_more (drop at tokens) (drop size (drop at tokens)) items item most some below e shorter in
-    let same : drop size (drop at tokens) ≡ drop (at + size) tokens = drop-drop size at tokens in
-    (more.0, subst (λ (ts : List Token). length ts < more.0) same more.1,
-        so_far ∙ (more.2 ∙ (ap (λ (ts : List Token). items_of more.0 (items ++ item ∷ []) ts) same ∙ ap (λ (xs : Program). items_of more.0 xs (drop (at + size) tokens)) (sym is))))
+    let same : drop size (drop at tokens) ≡ drop (at + size) tokens = drop-drop size at tokens in (
+      more.0,
+      subst (λ (ts : List Token). length ts < more.0) same more.1,
+      so_far ∙ (more.2 ∙ (ap (λ (ts : List Token). items_of more.0 (items ++ item ∷ []) ts) same ∙ ap (λ (xs : Program). items_of more.0 xs (drop (at + size) tokens)) (sym is))),
+    )

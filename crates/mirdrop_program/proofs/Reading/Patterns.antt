@@ -1,5 +1,5 @@
 -- What it means that tokens begin with a pattern.
-use Rattle.std.proofs.Common.{◌≡◌, ℕ, zero, suc, ◌<◌, ◌≤◌, List, [], ◌∷◌, length, drop, arith}
+use Rattle.std.proofs.Common.{ℕ, zero, suc, ◌<◌, ◌≤◌, List, [], ◌∷◌, length, drop, arith}
 use Rattle.std.proofs.Math.ListN.{drop_of_length-le}
 use Rattle.src_meaning.specs.declared.first.Token.{Token}
 use Rattle.mirdrop_program.specs.declared.first.parser.Slot.{Slot}

@@ -40,7 +40,7 @@ module _ (text : List ℕ) (l : Lexed) (w i : ℕ) (begun : w ≤ i) where
       let back : i - length (part text w i) ≡ w = rw (length-part (omega arith)) (omega arith) in
       rw (drop-cons text i 0)
       (scan_stop l (part text w i) i (get_or text i 0) (drop (suc i) text) h
-          ∙ rw (back, add-one) refl)
+      ∙ rw (back, add-one) refl)
 
   pub ends : i ≡ length text → scan l (part text w i) i (drop i text) ≡ closed l (part text w i) w
   ends h =

@@ -1,17 +1,16 @@
 -- Reading a text: its words, its program, its limits.
-use Rattle.std.proofs.Common.{◌≡◌, ℕ, Bool, true, false, ◌&&◌, ◌||◌, subst, Option, Some, None, List, [], ◌∷◌, refl, ap, sym, ◌∙◌}
+use Rattle.std.proofs.Common.{◌≡◌, ℕ, Bool, true, false, ◌&&◌, ◌||◌, subst, Some, None, List, [], ◌∷◌, refl, ap, sym, ◌∙◌}
 use Rattle.std.specs.Prelude.{map, not, nat_le}
 use Rattle.std.specs.List.{list_any, list_all}
 use Rattle.src_meaning.specs.declared.first.FirstItem.{FirstItem}
 use Rattle.src_meaning.specs.First.Form.{Spells, in_form, are_distinct, body_fits, is_any_struct, statements_count, statement_gives, statements_give}
-use Rattle.src_meaning.specs.First.Meaning.{item_name, body_of, is_struct}
+use Rattle.src_meaning.specs.First.Meaning.{body_of, is_struct}
 use Rattle.src_meaning.specs.First.Spelling.{program_tokens, Spelled}
 use Rattle.src_meaning.specs.First.Tree.{Program, Item, Statement, Let, Call, Print, Inner, Block, done, next, the_item, the_program}
 use Rattle.src_meaning.specs.declared.first.First.{First}
 use Rattle.src_meaning.specs.declared.first.Token.{Token}
 use Rattle.std.proofs.lemmas.Bool.{and_parts, and_from}
 use Rattle.mirdrop_program.specs.declared.first.lexer.Lexed.{Lexed}
-use Rattle.mirdrop_program.specs.declared.first.lexer.Role.TheVariants.{OfFunction}
 use Rattle.mirdrop_program.specs.First.Checking.{passes, item_passes, not_a_struct, names_of}
 use Rattle.mirdrop_program.specs.First.Lexing.{lexed}
 use Rattle.mirdrop_program.specs.First.Parsing.{program_of}
@@ -102,11 +101,13 @@ breaks_limit text l first e read fails p places h =
 pub keeps_limit : (text : List ℕ) (l : Lexed) (first : First) → lexed text ≡ Some l → Some (the_program first) ≡ program_of l.tokens → passes first.items ≡ true
     → Spells text (the_program first) l.places × (l.tokens ≡ program_tokens (the_program first))
 keeps_limit text l first e read passed =
-    let parsed = program_read l.tokens (the_program first) (sym read) in
-    (record {
-      spelled = subst (λ (ts : List Token). Spelled 0 ts l.places text) parsed.0 (lexed_spelled text l e);
-      within_form = in_form_from first.items passed parsed.1;
-    }, parsed.0)
+    let parsed = program_read l.tokens (the_program first) (sym read) in (
+      record {
+        spelled = subst (λ (ts : List Token). Spelled 0 ts l.places text) parsed.0 (lexed_spelled text l e);
+        within_form = in_form_from first.items passed parsed.1;
+      },
+      parsed.0,
+    )
 
 -- the words of a text determine its program, and the places of the words
 pub one_program : (text : List ℕ) (p q : Program) (places others : List ℕ) → Spells text p places → Spells text q others → (p ≡ q) × (places ≡ others)

@@ -1,10 +1,10 @@
 -- Words are ASCII.
-use Rattle.std.proofs.Common.{◌≡◌, ℕ, zero, suc, ◌<◌, ◌≤◌, Bool, true, false, ◌&&◌, List, [], ◌∷◌, get_or, arith}
+use Rattle.std.proofs.Common.{◌≡◌, ℕ, zero, suc, ◌<◌, Bool, true, false, ◌&&◌, List, [], ◌∷◌, get_or, arith}
 use Rattle.std.specs.List.{list_all}
-use Rattle.std.specs.Str.{IsAscii, IsUtf8}
+use Rattle.std.specs.Str.{IsUtf8}
 use Rattle.std.proofs.lemmas.Str.{IsUtf8-from_ascii}
 use Rattle.std.proofs.lemmas.Grind.{common_steps}
-use Rattle.src_meaning.specs.First.Spelling.{is_word_byte, is_identifier, is_name}
+use Rattle.src_meaning.specs.First.Spelling.{is_word_byte, is_name}
 
 word_byte_below : (b : ℕ) → is_word_byte b ≡ true → b < 128
 word_byte_below b h = grind (arith, common_steps)

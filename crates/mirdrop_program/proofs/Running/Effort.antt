@@ -1,11 +1,11 @@
 -- Each step of the machine leaves less to do.
-use Rattle.std.proofs.Common.{◌≡◌, ℕ, zero, suc, ◌+◌, ◌*◌, ◌<◌, ◌≤◌, Bool, true, false, Option, Some, None, List, [], ◌∷◌, length, refl, ap, sym, ◌∙◌, arith}
-use Rattle.std.specs.Prelude.{map, slice_get, position}
+use Rattle.std.proofs.Common.{◌≡◌, ℕ, zero, suc, ◌+◌, ◌*◌, ◌<◌, ◌≤◌, Bool, true, false, Option, Some, None, List, [], ◌∷◌, length, refl, ap, ◌∙◌, arith}
+use Rattle.std.specs.Prelude.{map, slice_get}
 use Rattle.mir_base.specs.declared.trace.Event.{Event}
-use Rattle.src_meaning.specs.First.Meaning.{World, with_ticks, Entry, Unnumbered, Numbered, telling, with_serial, Scoped, Within, Over, made, make, at_item, body_of, Enters, is_struct}
-use Rattle.src_meaning.specs.First.Tree.{Statement, Block, done, next, Item, Program, the_item}
+use Rattle.src_meaning.specs.First.Meaning.{World, Entry, Unnumbered, Numbered, telling, with_serial, Within, made, make, at_item, body_of, Enters}
+use Rattle.src_meaning.specs.First.Tree.{Block, done, Program, the_item}
 use Rattle.mirdrop_program.specs.declared.first.machine.Machine.{Machine}
-use Rattle.mirdrop_program.specs.First.Running.{Task, Statements, Drops, Ends, ticked, tasks_of, the_world, program_of, Pushed, Tells, HasMade, enters, block_size, weight, total, body_sizes, heaviest, effort_of}
+use Rattle.mirdrop_program.specs.First.Running.{Task, Statements, Ends, ticked, tasks_of, the_world, program_of, Pushed, Tells, HasMade, enters, block_size, weight, total, body_sizes, heaviest, effort_of}
 use Rattle.mirdrop_program.proofs.Running.Steps.{body_in}
 
 -- no body is larger than all of them together
@@ -20,7 +20,7 @@ effort_at ticks ticks' weight weight' p p' e f g = cc
 pub pushed_effort : (t : Task) (m0 m1 : Machine) → Pushed t m0 m1 → effort_of m1 ≡ effort_of m0 + weight t
 pushed_effort t m0 m1 h =
     let e = effort_at m1.world.ticks m0.world.ticks (total (tasks_of m1.tasks)) (weight t + total (tasks_of m0.tasks)) (program_of m1) (program_of m0)
-        (ap (λ w. w.ticks) h.world) (ap total h.tasks) (ap (map the_item) h.items) in
+    (ap (λ w. w.ticks) h.world) (ap total h.tasks) (ap (map the_item) h.items) in
     e ∙ omega arith
 
 pub told_effort : (event : Event) (m0 m1 : Machine) → Tells event m0 m1 → effort_of m1 ≡ effort_of m0
@@ -43,7 +43,7 @@ entered_effort item m0 m1 m2 m3 m4 event ticks tasks items tells ends body =
     let size = block_size (body_in m3 item) in
     let fits : size ≤ body_sizes p = rw same (body_within p item) in
     let last : effort_of m4 ≡ t * heaviest p + rest + 1 + (2 * size + 2) =
-        pushed_effort _ m3 m4 body ∙ omega (arith, pushed_effort _ m2 m3 ends, told_effort event m1 m2 tells, first) in
+    pushed_effort _ m3 m4 body ∙ omega (arith, pushed_effort _ m2 m3 ends, told_effort event m1 m2 tells, first) in
     rw (last, before) (one_tick t (heaviest p) rest size (omega arith))
 
 same_world : (es after : List Entry) (u v : World) → Within es u ≡ Within after v → v ≡ u

@@ -1,9 +1,8 @@
 -- As many nested bodies as there are ticks are enough, so entering a body is one equation without a bound.
-use Rattle.std.proofs.Common.{◌≡◌, ℕ, zero, suc, ◌≤◌, ◌<◌, Bool, true, false, Option, Some, None, List, [], ◌∷◌, refl, ap, sym, ◌∙◌, arith}
-use Rattle.std.specs.Prelude.{position, slice_get}
+use Rattle.std.proofs.Common.{◌≡◌, ℕ, zero, suc, ◌≤◌, Bool, true, false, Option, Some, None, List, [], ◌∷◌, refl, ap, sym, ◌∙◌, arith}
 use Rattle.mir_base.specs.declared.trace.Event.{Event}
-use Rattle.src_meaning.specs.First.Meaning.{World, Outcome, Goes, Stops, and_then, ticking, with_ticks, telling, Entry, Unnumbered, Numbered, Scoped, Within, Over, in_scope, scope_after, Enters, drop_value, drop_entries, leave, made, make, call, run_statement, run_statements, run_block, entering, at_item, body_of, is_struct, is_function, has_drop_body}
-use Rattle.src_meaning.specs.First.Tree.{Statement, Let, Call, Print, Inner, Block, done, next, Item, Program}
+use Rattle.src_meaning.specs.First.Meaning.{World, Outcome, Goes, Stops, and_then, ticking, with_ticks, telling, Entry, Unnumbered, Numbered, Scoped, Within, Over, in_scope, scope_after, Enters, drop_value, drop_entries, leave, made, make, call, run_statement, run_statements, run_block, entering}
+use Rattle.src_meaning.specs.First.Tree.{Statement, Let, Call, Print, Inner, Block, done, next, Program}
 use Rattle.mirdrop_program.specs.First.Running.{enters}
 
 -- a run has no more ticks left than it began with
@@ -165,7 +164,7 @@ entering_agree p k (suc n) zero h j event body block w below = stopped p (suc n)
 entering_agree p k (suc n) (suc m) h j event body block w below =
     same_ticking w w.ticks _ _
     (λ v one_less. ap (λ o. and_then o (λ w. Goes (telling (Event.Return body) w)))
-        (block_same p (entering p n) (entering p m) (entering_falls p n) v.ticks (entering_agree p v.ticks n m (omega arith) (omega arith)) block (telling event v) (le_refl v.ticks)))
+    (block_same p (entering p n) (entering p m) (entering_falls p n) v.ticks (entering_agree p v.ticks n m (omega arith) (omega arith)) block (telling event v) (le_refl v.ticks)))
 
 enters_agree : (p : Program) (n : ℕ) → Agree n (entering p n) (enters p)
 enters_agree p n event body block w below = entering_agree p w.ticks n w.ticks below (le_refl w.ticks) event body block w (le_refl w.ticks)
@@ -175,7 +174,7 @@ enters_at : (p : Program) (t : ℕ) (event : Event) (body : ℕ) (block : Block)
 enters_at p zero event body block w h = refl
 enters_at p (suc n) event body block w h =
     rw h (ap (λ o. and_then o (λ v. Goes (telling (Event.Return body) v)))
-        (block_same p (entering p n) (enters p) (entering_falls p n) n (enters_agree p n) block (telling event (with_ticks n w)) (le_refl n)))
+    (block_same p (entering p n) (enters p) (entering_falls p n) n (enters_agree p n) block (telling event (with_ticks n w)) (le_refl n)))
 
 -- entering a body: one tick, its line, its block, its last line
 pub enters_is : (p : Program) (event : Event) (body : ℕ) (block : Block) (w : World)

@@ -1,15 +1,14 @@
 -- One step of the machine leaves what is left of the run.
-use Rattle.std.proofs.Common.{◌≡◌, ℕ, zero, suc, Bool, true, false, not, cond, ℤ, ◌+◌, length, Option, Some, None, List, [], ◌∷◌, ◌++◌, refl, ap, sym, ◌∙◌, arith}
-use Rattle.std.specs.Prelude.{map, reverse, slice_get, position, codes}
+use Rattle.std.proofs.Common.{◌≡◌, ℕ, suc, Bool, true, not, cond, ◌+◌, Some, None, List, [], ◌∷◌, refl, ap, sym, ◌∙◌}
+use Rattle.std.specs.Prelude.{map, slice_get, position}
 use Rattle.std.specs.List.{prefix_len}
 use Rattle.std.specs.Prelude.{Result, Ok, Err, IfOk}
 use Rattle.std.proofs.lemmas.List.{length-map}
 use Rattle.mir_base.specs.declared.trace.Event.{Event}
-use Rattle.src_meaning.specs.First.Meaning.{World, Outcome, Goes, Stops, and_then, ticking, with_ticks, telling, Entry, Unnumbered, Numbered, Scoped, Within, Over, in_scope, scope_after, leave, run_statement, run_statements, run_block, at_item, body_of, is_function, is_struct, has_drop_body, call, Enters, entering, beginning, run_of}
-use Rattle.src_meaning.specs.First.Tree.{Statement, Let, Call, Print, Inner, Block, done, next, Item, Program, the_item}
-use Rattle.mirdrop_program.specs.declared.first.machine.Task.{Task as RunTask}
+use Rattle.src_meaning.specs.First.Meaning.{World, Outcome, Goes, Stops, and_then, ticking, with_ticks, telling, Entry, run_block, at_item, body_of, is_function, is_struct}
+use Rattle.src_meaning.specs.First.Tree.{Block, done, Program, the_item}
 use Rattle.mirdrop_program.specs.declared.first.machine.Machine.{Machine}
-use Rattle.mirdrop_program.specs.First.Running.{Task, Statements, Drops, Ends, finish, enters, ticked, tasks_of, the_task, the_world, program_of, outcome_of, Pushed, Tells, Leaves, HasEntered, HasCalled, HasDrawn, HasMadeOf, HasMade, HasRun, HasRunLet, rest_of}
+use Rattle.mirdrop_program.specs.First.Running.{Task, Statements, Ends, finish, enters, ticked, tasks_of, the_world, program_of, Pushed, Tells, Leaves, HasEntered, HasCalled, HasMadeOf, HasMade, HasRunLet, rest_of}
 use Rattle.mirdrop_program.proofs.Running.Steady.{enters_is}
 
 pub and_then_assoc : (o : Outcome) (f g : World → Outcome) → and_then (and_then o f) g ≡ and_then o (λ w. and_then (f w) g)
@@ -26,7 +25,7 @@ pub enter_goes : (p : Program) (event : Event) (item : ℕ) (block : Block) (tas
 enter_goes p event item block tasks w v u ticks is =
     rw (enters_is, is)
     (ap (λ o. and_then o (finish p tasks)) (ticking_at w v w.ticks _ ticks.0 ticks.1)
-        ∙ and_then_assoc (run_block p (enters p) block (telling event v)) _ (finish p tasks))
+    ∙ and_then_assoc (run_block p (enters p) block (telling event v)) _ (finish p tasks))
 
 pub enter_stops : (p : Program) (event : Event) (item : ℕ) (block : Block) (tasks : List Task) (w : World) → w.ticks ≡ 0
     → and_then (enters p event item block w) (finish p tasks) ≡ Stops w
@@ -47,7 +46,7 @@ module _ (event : Event) (item : ℕ) (m0 m1 m2 m3 m4 : Machine) where
       let items3 : m3.items.now ≡ m0.items.now = ends.items ∙ (tells.items ∙ items) in
       let tasks3 : tasks_of m3.tasks ≡ Ends item ∷ tasks_of m0.tasks = ends.tasks ∙ ap (λ ts. Ends item ∷ ts) (tells.tasks ∙ ap tasks_of tasks) in
       let tasks4 : tasks_of m4.tasks ≡ Statements (body_in m0 item) [] ∷ Ends item ∷ tasks_of m0.tasks =
-          body.tasks ∙ (ap (λ (is : List _). Statements (at_item done body_of (slice_get (map the_item is) item)) [] ∷ tasks_of m3.tasks) items3 ∙ ap (λ ts. Statements (body_in m0 item) [] ∷ ts) tasks3) in
+      body.tasks ∙ (ap (λ (is : List _). Statements (at_item done body_of (slice_get (map the_item is) item)) [] ∷ tasks_of m3.tasks) items3 ∙ ap (λ ts. Statements (body_in m0 item) [] ∷ ts) tasks3) in
       let world4 : the_world m4.world ≡ telling event (the_world m1.world) = ap the_world (body.world ∙ ends.world) ∙ tells.world in
       record {
         goes = λ _.

@@ -1,6 +1,5 @@
-use Rattle.std.proofs.Common.{◌≡◌, List, ℕ, ◌<◌, refl, arith, inl, inr}
-use Rattle.std.specs.Prelude.{map, string_bytes, ◌⊎◌}
-use Rattle.mirdrop_program.specs.TopCall.{IsRun, wrong_words, not_read, too_long}
+use Rattle.std.proofs.Common.{refl}
+use Rattle.mirdrop_program.specs.TopCall.{wrong_words, not_read, too_long}
 use Rattle.mirdrop_program.proofs.TopCall.{delivers, wants_memory, answers_text, completes, response, long_is_no_answer}
 use Rattle.mirdrop_program.proofs.mirdrop.Goals as goal
 
@@ -29,7 +28,7 @@ pub returns-in-Ok-clause-complete : goal.returns-in-Ok-clause-complete
 returns-in-Ok-clause-complete g c =
     completes _ _ _ _ _ _ c.respond.result
     (answers_text _ _ _ _ _ _ c.in-Ok.text c.respond.result (c.if-not-is_run.ensures.0 refl) (λ told e. c.in-Ok.ensures.whole told e) c.in-Ok.ensures.within
-        (rw c.as_slice.ensures at c.respond.ensures.done))
+    (rw c.as_slice.ensures at c.respond.ensures.done))
 
 pub returns-in-Err-ReadFault-clause-answer : goal.returns-in-Err-ReadFault-clause-answer
 returns-in-Err-ReadFault-clause-answer g c =

@@ -1,6 +1,6 @@
 -- How the parser reads the tokens of a body and of a program. That these are the tokens which the
 -- program is spelled with is proved in `proofs/`.
-use Rattle.std.specs.Prelude.{◌≡◌, ℕ, zero, suc, ◌+◌, ℤ, nat_lt, Bool, true, false, List, [], ◌∷◌, ◌++◌, length, Option, Some, None, if◌then◌else◌, map, reverse, drop, option_map}
+use Rattle.std.specs.Prelude.{◌≡◌, ℕ, zero, suc, ℤ, nat_lt, Bool, true, false, List, [], ◌∷◌, ◌++◌, length, Option, Some, None, if◌then◌else◌, map, reverse, drop}
 use Rattle.src_meaning.specs.declared.first.Fixed.{Fixed}
 use Rattle.src_meaning.specs.declared.first.FirstStmt.{FirstStmt}
 use Rattle.src_meaning.specs.declared.first.FirstBlock.{FirstBlock}

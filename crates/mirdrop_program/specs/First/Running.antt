@@ -1,7 +1,7 @@
 -- How the machine runs a first program: a list of tasks, the next one first, that are left to do.
-use Rattle.std.specs.Prelude.{◌≡◌, ℕ, zero, suc, ◌+◌, ◌*◌, Bool, true, false, List, [], ◌∷◌, ◌++◌, length, map, reverse, Option, Some, None, slice_get, position}
-use Rattle.src_meaning.specs.First.Meaning.{World, Outcome, Goes, Stops, and_then, ticking, telling, with_ticks, Entry, Unnumbered, Numbered, Scoped, Within, Over, in_scope, Enters, entering, leave, run_statements, run_block, drop_entries, at_item, body_of, call, made, make, has_drop_body, drop_value, is_function, is_struct, with_serial}
-use Rattle.src_meaning.specs.First.Tree.{Statement, Let, Call, Print, Inner, Block, done, next, Item, Program, block_of, the_statement, the_item}
+use Rattle.std.specs.Prelude.{◌≡◌, ℕ, suc, ◌+◌, ◌*◌, Bool, true, false, List, [], ◌∷◌, length, map, reverse, slice_get, position}
+use Rattle.src_meaning.specs.First.Meaning.{World, Outcome, Goes, Stops, and_then, telling, with_ticks, Entry, Unnumbered, Numbered, Within, in_scope, Enters, entering, leave, run_statements, drop_entries, at_item, body_of, call, made, make, has_drop_body, drop_value, is_function, is_struct, with_serial}
+use Rattle.src_meaning.specs.First.Tree.{Statement, Let, Call, Print, Inner, Block, done, next, Program, block_of, the_statement, the_item}
 use Rattle.mir_base.specs.declared.trace.Event.{Event}
 use Rattle.mirdrop_program.specs.declared.first.machine.Entry.{Entry as RunEntry}
 use Rattle.mirdrop_program.specs.declared.first.machine.Task.{Task as RunTask}

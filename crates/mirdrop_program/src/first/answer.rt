@@ -39,7 +39,12 @@ fn run_answer(alloc: Global, first: &First, ticks: u64) -> Result<Answer, NoMemo
     ensures text { IfOk result (λ a. string_bytes a.text ≡ text_of_run (the_program first.now) (run_of (the_program first.now) run_ticks)) }
 {
     let told = run(alloc, first, ticks)?;
-    let text = trace_text(alloc, first.items.as_slice(), told.trace.as_slice(), &told.end)?;
+    let text = trace_text(
+        alloc,
+        first.items.as_slice(),
+        told.trace.as_slice(),
+        &told.end,
+    )?;
     Ok(Answer {
         status: end_status(&told.end),
         text,
@@ -57,7 +62,13 @@ fn answer_of(alloc: Global, text: &[u8], read: &Reading) -> Result<Answer, NoMem
     requires { IsRead text.now read.now }
     ensures { IfOk result (λ a. Owed text.now a.status (string_bytes a.text)) }
 {
-    match missing(alloc, &read.first, read.tokens.as_slice(), read.places.as_slice(), text)? {
+    match missing(
+        alloc,
+        &read.first,
+        read.tokens.as_slice(),
+        read.places.as_slice(),
+        text,
+    )? {
         Some(place) => Ok(Answer {
             status: 1,
             text: unknown_name_line(alloc, text, place)?,

@@ -97,7 +97,8 @@ fn body_fits(items: &[FirstItem], item: &FirstItem) -> bool
     match item {
         FirstItem::Plain(_) => true,
         FirstItem::Dropping(_, block) | FirstItem::Function(_, block) => {
-            left_after_block(block, MAX_STATEMENTS).is_some() && block_variables_are_free(items, block)
+            left_after_block(block, MAX_STATEMENTS).is_some()
+                && block_variables_are_free(items, block)
         }
     }
 }

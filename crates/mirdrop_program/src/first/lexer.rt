@@ -119,7 +119,11 @@ fn number(word: &[u8]) -> Option<i32>
         return None;
     }
     let value = digits_value(word);
-    if value <= 2147483647 { Some(value as i32) } else { None }
+    if value <= 2147483647 {
+        Some(value as i32)
+    } else {
+        None
+    }
 }
 
 /// The word that stands for itself and is spelled so, if there is one.
@@ -258,7 +262,14 @@ impl Lexed {
     }
 
     /// Closes the word that begins at `from`, and takes in the byte after it.
-    fn end_word(&mut self, alloc: Global, word: &[u8], from: usize, byte: u8, place: usize) -> Result<bool, NoMemory>
+    fn end_word(
+        &mut self,
+        alloc: Global,
+        word: &[u8],
+        from: usize,
+        byte: u8,
+        place: usize,
+    ) -> Result<bool, NoMemory>
         ensures { IfOk result (Follows (then_lexed (closed self.old word.now from) (separated byte place)) self.new) }
     {
         if self.close(alloc, word, from)? {

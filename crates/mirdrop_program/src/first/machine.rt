@@ -243,7 +243,12 @@ impl<'a> Machine<'a> {
     }
 
     /// Makes the value of a variable, whatever its name and its number, and leaves the rest of the block.
-    fn let_statement(&mut self, made: &Name, rest: &'a [FirstStmt], scope: List<Entry>) -> Result<bool, NoMemory>
+    fn let_statement(
+        &mut self,
+        made: &Name,
+        rest: &'a [FirstStmt],
+        scope: List<Entry>,
+    ) -> Result<bool, NoMemory>
         ensures done { IfOk result (HasRunLet made.now (block_of (map the_statement rest.now)) (scope_of scope) self.old self.new) }
         ensures lighter { IfOk result (λ went. went ≡ true → effort_of self.new < effort_of self.old + (2 * (block_size (block_of (map the_statement rest.now)) + 1) + length (scope_of scope) + 2)) }
     {
@@ -253,7 +258,13 @@ impl<'a> Machine<'a> {
     }
 
     /// Does the first of the statements that are left of a block.
-    fn statement(&mut self, alloc: Global, stmt: &'a FirstStmt, rest: &'a [FirstStmt], scope: List<Entry>) -> Result<bool, NoMemory>
+    fn statement(
+        &mut self,
+        alloc: Global,
+        stmt: &'a FirstStmt,
+        rest: &'a [FirstStmt],
+        scope: List<Entry>,
+    ) -> Result<bool, NoMemory>
         ensures done { IfOk result (HasRun (next (the_statement stmt.now) (block_of (map the_statement rest.now))) (scope_of scope) self.old self.new) }
         ensures lighter { IfOk result (λ went. went ≡ true → effort_of self.new < effort_of self.old + weight (Statements (next (the_statement stmt.now) (block_of (map the_statement rest.now))) (scope_of scope))) }
     {
@@ -276,7 +287,12 @@ impl<'a> Machine<'a> {
         }
     }
 
-    fn statements(&mut self, alloc: Global, stmts: &'a [FirstStmt], scope: List<Entry>) -> Result<bool, NoMemory>
+    fn statements(
+        &mut self,
+        alloc: Global,
+        stmts: &'a [FirstStmt],
+        scope: List<Entry>,
+    ) -> Result<bool, NoMemory>
         ensures done { IfOk result (HasRun (block_of (map the_statement stmts.now)) (scope_of scope) self.old self.new) }
         ensures lighter { IfOk result (λ went. went ≡ true → effort_of self.new < effort_of self.old + weight (Statements (block_of (map the_statement stmts.now)) (scope_of scope))) }
     {

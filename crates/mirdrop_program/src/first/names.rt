@@ -48,7 +48,13 @@ fn first_unknown_name(items: &[FirstItem], tokens: &[Token], places: &[usize]) -
 }
 
 /// Where a name is missing: the end of the text for `main`, else the first name that is unknown.
-pub fn missing(alloc: Global, first: &First, tokens: &[Token], places: &[usize], text: &[u8]) -> Result<Option<usize>, NoMemory>
+pub fn missing(
+    alloc: Global,
+    first: &First,
+    tokens: &[Token],
+    places: &[usize],
+    text: &[u8],
+) -> Result<Option<usize>, NoMemory>
     requires { tokens.now ≡ program_tokens (the_program first.now) }
     ensures { IfOk result (λ place. place ≡ missing_name (the_program first.now) places.now text.now) }
 {
@@ -81,7 +87,11 @@ fn place_after(before: &[u8]) -> (usize, usize)
 fn text_before(text: &[u8], place: usize) -> &[u8]
     ensures { result.now ≡ take place text.now }
 {
-    if place <= text.len() { &text[..place] } else { text }
+    if place <= text.len() {
+        &text[..place]
+    } else {
+        text
+    }
 }
 
 fn unknown_name_at(alloc: Global, line: usize, column: usize) -> Result<String, NoMemory>

@@ -47,7 +47,9 @@ fn name_at(tokens: &[Token], index: usize) -> Option<&Name>
     ensures { option_copied result ≡ token_name (slice_get tokens.now index) }
 {
     match tokens.get(index) {
-        Some(Token::Gives(name) | Token::NamesStruct(name) | Token::NamesFunction(name)) => Some(name),
+        Some(Token::Gives(name) | Token::NamesStruct(name) | Token::NamesFunction(name)) => Some(
+            name,
+        ),
         _ => None,
     }
 }
@@ -162,7 +164,11 @@ fn next_step(alloc: Global, tokens: &[Token]) -> Result<Step, NoMemory>
     if begins(tokens, &OPEN) {
         return Ok(Step::Open);
     }
-    if begins(tokens, &CLOSE) { Ok(Step::Close) } else { Ok(Step::Wrong) }
+    if begins(tokens, &CLOSE) {
+        Ok(Step::Close)
+    } else {
+        Ok(Step::Wrong)
+    }
 }
 
 fn inner_block(stmts: List<FirstStmt>) -> FirstStmt

@@ -62,7 +62,12 @@ fn word_of(why: Why) -> &'static str
 }
 
 /// A line on a body: a word and the body's name.
-fn write_body_line(out: &mut String, word: &str, items: &[FirstItem], body: u32) -> Result<(), NoMemory>
+fn write_body_line(
+    out: &mut String,
+    word: &str,
+    items: &[FirstItem],
+    body: u32,
+) -> Result<(), NoMemory>
     ensures { OnOk result (string_bytes out.new ≡ string_bytes out.old ++ ((word.now ++ body_names items.now body) ++ codes "\n")) }
 {
     out.push_str(word)?;
@@ -82,7 +87,11 @@ fn write_event(out: &mut String, items: &[FirstItem], event: &Event) -> Result<(
         Event::Boxed(serial) => write!(out, "box #{serial}\n")?,
         Event::Dropped { adt, serial } => write!(out, "drop {}#{serial}\n", adt_name(items, *adt))?,
         Event::Freed(serial) => write!(out, "free #{serial}\n")?,
-        Event::ForgotMade { adt, serial } => write!(out, "forget {}#{serial}\n", adt_name(items, *adt))?,
+        Event::ForgotMade { adt, serial } => write!(
+            out,
+            "forget {}#{serial}\n",
+            adt_name(items, *adt)
+        )?,
         Event::ForgotBox(serial) => write!(out, "forget #{serial}\n")?,
         Event::Printed(number) => write!(out, "print {number}\n")?,
         Event::Asked(number) => write!(out, "ask {number}\n")?,
@@ -105,7 +114,12 @@ fn write_end(out: &mut String, end: &End) -> Result<(), NoMemory>
 }
 
 /// The text of what a run of these items told.
-pub fn trace_text(alloc: Global, items: &[FirstItem], trace: &[Event], end: &End) -> Result<String, NoMemory>
+pub fn trace_text(
+    alloc: Global,
+    items: &[FirstItem],
+    trace: &[Event],
+    end: &End,
+) -> Result<String, NoMemory>
     ensures { IfOk result (λ text. string_bytes text ≡ text_of (body_names items.now) (adt_names items.now) trace.now end.now) }
 {
     let mut out = String::new(alloc);

@@ -1,5 +1,4 @@
-use Rattle.std.proofs.Common.{◌≡◌, ◌+◌, ◌<◌, true, false, Some, None, length, get_or, sym, ◌∙◌, arith}
-use Rattle.src_meaning.specs.First.Spelling.{is_word_byte}
+use Rattle.std.proofs.Common.{sym, ◌∙◌, arith}
 use Rattle.mirdrop_program.proofs.Reading.Scanning.{goes_on, goes_on_after, fails_after, ends_after, ends_failing}
 use Rattle.mirdrop_program.proofs.first.lexer.lex.Goals as goal
 

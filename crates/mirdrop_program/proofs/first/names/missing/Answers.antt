@@ -1,4 +1,4 @@
-use Rattle.std.proofs.Common.{◌∙◌, refl}
+use Rattle.std.proofs.Common.{◌∙◌}
 use Rattle.mirdrop_program.proofs.Checks.Unknown.{main_is_there, main_is_missing}
 use Rattle.mirdrop_program.proofs.first.names.missing.Goals as goal
 

@@ -1,7 +1,7 @@
-use Rattle.std.proofs.Common.{◌≡◌, ◌≤◌, ◌∙◌, ◌-◌, length, drop, arith, sym, length-drop}
+use Rattle.std.proofs.Common.{◌≤◌, ◌∙◌, length, drop, arith, sym, length-drop}
 use Rattle.std.proofs.lemmas.List.{length-reverse, length-map}
 use Rattle.src_meaning.specs.First.Tree.{the_statement}
-use Rattle.mirdrop_program.specs.First.Parsing.{statements_of, blocks_of, step_size, IsStep, step_of}
+use Rattle.mirdrop_program.specs.First.Parsing.{statements_of, blocks_of}
 use Rattle.mirdrop_program.proofs.Reading.Bodies.{takes_at, opens_at, leaves_at, ends_at}
 use Rattle.mirdrop_program.proofs.first.parser.body.Goals as goal
 
@@ -40,5 +40,5 @@ pub returns-in-Some-clause-read : goal.returns-in-Some-clause-read
 returns-in-Some-clause-read c =
     let k = c.loop-at in
     sym (k.invariant.so_far
-        ∙ ends_at c.args.tokens.now k.at (statements_of k.blocks.inner) (blocks_of k.blocks.outer) c.leave.new.self c.in-Some.block
-        (rw (c.in-Close.is, c.tokens_from.ensures) at c.in_ok-stmt.ensures.read) (rw c.in-Some.is at c.in_ok-block-in-Close.ensures))
+    ∙ ends_at c.args.tokens.now k.at (statements_of k.blocks.inner) (blocks_of k.blocks.outer) c.leave.new.self c.in-Some.block
+    (rw (c.in-Close.is, c.tokens_from.ensures) at c.in_ok-stmt.ensures.read) (rw c.in-Some.is at c.in_ok-block-in-Close.ensures))

@@ -1,9 +1,9 @@
-use Rattle.std.proofs.Common.{◌≡◌, Some, ◌∙◌, ◌<◌, ◌≤◌, ◌+◌, length, drop, arith, sym, ap, refl, length-drop, drop-drop}
+use Rattle.std.proofs.Common.{◌≡◌, Some, ◌∙◌, ◌<◌, ◌≤◌, length, drop, arith, sym, ap, length-drop}
 use Rattle.std.specs.Prelude.{map}
 use Rattle.std.proofs.Math.ListN.{drop_of_length-le}
 use Rattle.std.proofs.lemmas.List.{map-append}
 use Rattle.src_meaning.specs.First.Tree.{the_item}
-use Rattle.mirdrop_program.specs.First.Parsing.{items_of, item_of}
+use Rattle.mirdrop_program.specs.First.Parsing.{item_of}
 use Rattle.mirdrop_program.proofs.Reading.Items.{goes_on_at, no_more, no_item}
 use Rattle.mirdrop_program.proofs.first.parser.program.Goals as goal
 

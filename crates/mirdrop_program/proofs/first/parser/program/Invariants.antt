@@ -1,4 +1,4 @@
-use Rattle.std.proofs.Common.{◌≡◌, ℕ, ◌<◌, ◌≤◌, ◌-◌, List, [], drop, length}
+use Rattle.std.proofs.Common.{◌≡◌, ℕ, ◌<◌, ◌≤◌, ◌-◌, drop, length}
 use Rattle.std.specs.Prelude.{map}
 use Rattle.src_meaning.specs.First.Tree.{the_item}
 use Rattle.mirdrop_program.specs.First.Parsing.{items_of, program_of}

@@ -1,6 +1,5 @@
-use Rattle.std.proofs.Common.{◌≡◌, sym, ◌∙◌, true, false, Some}
+use Rattle.std.proofs.Common.{◌≡◌, sym, ◌∙◌, Some}
 use Rattle.src_meaning.specs.First.Tree.{the_program}
-use Rattle.mirdrop_program.specs.First.Checking.{passes}
 use Rattle.mirdrop_program.specs.First.Parsing.{program_of}
 use Rattle.mirdrop_program.proofs.Reading.Texts.{no_words, no_program, breaks_limit, keeps_limit}
 use Rattle.mirdrop_program.proofs.first.reader.read.Goals as goal
@@ -23,5 +22,5 @@ pub returns : goal.returns
 returns c =
     let read : Some (the_program c.in-Some-2.first) ≡ program_of c.in-Some.lexed.tokens = rw (c.in-Some-2.is, c.as_slice.ensures) at c.in_ok-first.ensures in
     let kept = keeps_limit c.args.text.now c.in-Some.lexed c.in-Some-2.first (sym c.in_ok-lexed.ensures ∙ c.in-Some.is) read
-        (sym (rw c.as_slice-2.ensures at c.if-not-keeps_limits.ensures)) in
+    (sym (rw c.as_slice-2.ensures at c.if-not-keeps_limits.ensures)) in
     record { spells = kept.0; tokens = kept.1 }

@@ -1,4 +1,4 @@
-use Rattle.std.proofs.Common.{sym, ap, ◌∙◌, Some}
+use Rattle.std.proofs.Common.{ap, ◌∙◌, Some}
 use Rattle.mirdrop_program.proofs.Running.Steps.{calls, calls_none, if_ok_more}
 use Rattle.mirdrop_program.proofs.first.machine.Machine.call.Goals as goal
 

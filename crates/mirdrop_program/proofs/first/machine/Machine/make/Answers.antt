@@ -7,7 +7,7 @@ pub returns-in_ok-adt-in-Some : goal.returns-in_ok-adt-in-Some
 returns-in_ok-adt-in-Some c =
     if_ok_more c.make_of.result _ _
     (λ after. makes c.args.name.now c.in_ok-adt-in-Some.adt c.args.self.now c.make_of.new.self (scope_of c.args.scope) (scope_of after)
-        (ap Some c.in_ok-adt-in-Some.ensures ∙ c.in-Some.ensures))
+    (ap Some c.in_ok-adt-in-Some.ensures ∙ c.in-Some.ensures))
     c.make_of.ensures
 
 pub returns-in-None : goal.returns-in-None
