@@ -1,0 +1,10 @@
+pub mod Callers
+pub mod ItemLemmas
+pub mod KnownLemmas
+pub mod ListLemmas
+pub mod Rounds
+pub mod Rules
+pub mod Shows
+pub mod TableLemmas
+pub mod TyEq
+pub mod TypeLists

@@ -1,0 +1,17 @@
+use Rattle.mir_ty.proofs.TableLemmas.{copies_behind_adt, drops_behind_adt, tables_adt}
+use Rattle.mir_ty.proofs.items.Items.add_adt.Goals as goal
+
+pub bring_up_to_date-requires-clause-copies : goal.bring_up_to_date-requires-clause-copies
+bring_up_to_date-requires-clause-copies c =
+    rw (c.in_ok-push.ensures.pushed, c.in_ok-number.ensures.number, c.len.ensures) (copies_behind_adt c.self.inside c.self.invariant c.args.adt)
+
+pub bring_up_to_date-requires-clause-drops : goal.bring_up_to_date-requires-clause-drops
+bring_up_to_date-requires-clause-drops c =
+    rw (c.in_ok-push.ensures.pushed, c.in_ok-number.ensures.number, c.len.ensures) (drops_behind_adt c.self.inside c.self.invariant c.args.adt)
+
+pub invariant_of-self-2 : goal.invariant_of-self-2
+invariant_of-self-2 c =
+    let pushed = c.in_ok-push.ensures.pushed in
+    let up = c.bring_up_to_date.ensures in
+    rw pushed (tables_adt c.self.inside c.self.invariant c.args.adt (rw (← c.self.view_is) at c.requires) c.in_ok-check_adt.ensures (rw (← c.self.view_is) at c.in_ok-number.ensures.short)
+    c.bring_up_to_date.new.copies c.bring_up_to_date.new.drops up.copies_length up.drops_length (rw pushed at up.copies) (rw pushed at up.drops))

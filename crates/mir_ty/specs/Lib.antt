@@ -1,0 +1,7 @@
+pub mod AreItems
+pub mod Facts
+pub mod ItemTable
+pub mod Known
+pub mod Named
+pub mod Parts
+pub mod Tables

@@ -1,0 +1,23 @@
+//! The types of a program by number, its structs, enums, traits, impls, closures and bodies in one table,
+//! and the facts on which drop elaboration lives: which types are Copy, which need dropping, and which
+//! parts a type has.
+#![tactic(auto)]
+
+mod adt;
+mod def;
+mod duplicate;
+mod facts;
+mod items;
+mod line;
+mod sizes;
+mod ty;
+mod type_table;
+
+pub use adt::{Adt, Variant};
+pub use def::{ClosureDef, ImplDef, Sig, TraitDef};
+pub use items::Items;
+pub use line::event_line;
+pub use ty::{Ty, TyId};
+
+#[cfg(test)]
+mod tests;
