@@ -1,5 +1,5 @@
 //! What every crate of `mirdrop` speaks of: positions, numbers of nodes and entries, integer kinds,
-//! the events of a run, the typing rules, want of memory, the limits, and two small owned types,
+//! operators, the events of a run, the typing rules, want of memory, the limits, and two small owned types,
 //! [`List`] and [`Name`], that contracts see as the lists that they hold.
 #![tactic(auto)]
 
@@ -8,6 +8,7 @@ pub mod limits;
 mod list;
 mod memory;
 mod name;
+mod operator;
 mod place_in_text;
 mod rule;
 mod trace;
@@ -16,6 +17,7 @@ pub use int_kind::{IntKind, greatest, least};
 pub use list::List;
 pub use memory::NoMemory;
 pub use name::Name;
+pub use operator::{Cmp, Math};
 pub use place_in_text::{Key, NodeId, Pos};
 pub use rule::{Rule, RuleError};
 pub use trace::{End, Event, Why};

@@ -1,5 +1,5 @@
 //! How many members the lists of items can have, so that each of them has a number of 32 bits.
-ghost use Rattle.std.specs.Prelude.{◌≡◌, ◌+◌, ◌-◌, ◌^◌, ◌<◌, All, IfOk, OnOk, length};
+ghost use Rattle.std.specs.Prelude.{◌≡◌, ◌+◌, ◌-◌, ◌^◌, ◌<◌, IfOk, OnOk, length};
 ghost use Rattle.mir_ty.specs.AreItems.{IsShort, AdtIsShort, TraitIsShort, types_in};
 
 use crate::{Adt, Sig, TraitDef, Ty, Variant};

@@ -1,8 +1,8 @@
 //! One program's items, as a table: every call with ample memory, and every kind of line.
-ghost use Rattle.std.specs.Prelude.{◌≡◌, ◌<◌, ◌∷◌, [], IsTrue, IfOk, OnOk, All, length, string_bytes};
+ghost use Rattle.std.specs.Prelude.{◌≡◌, ◌<◌, ◌∷◌, [], IsTrue, IfOk, All, length};
 ghost use Rattle.mir_ty.specs.ItemTable.{type_at};
 ghost use Rattle.mir_ty.specs.Named.{IsEventOf};
-ghost use Rattle.mir_ty.specs.AreItems.{AreTypes, IsTy, IsVariant, IsAdt, IsSig, IsMethod, IsSelfTy};
+ghost use Rattle.mir_ty.specs.AreItems.{AreTypes, IsTy, IsVariant, IsSig, IsMethod, IsSelfTy};
 
 use crate::{Adt, ClosureDef, ImplDef, Items, Sig, TraitDef, Ty, TyId, Variant, event_line};
 use mir_base::{Event, IntKind, List, Name, NoMemory, Why};
