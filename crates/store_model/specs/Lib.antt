@@ -1,6 +1,14 @@
+pub mod Acting
 pub mod Counts
 pub mod Data
+pub mod DropAt
 pub mod Dropping
+pub mod Effects
+pub mod Free
 pub mod Laws
+pub mod NamedPlace
 pub mod Places
+pub mod Presence
+pub mod Standing
 pub mod Wholeness
+pub mod World

@@ -1,0 +1,100 @@
+-- What one statement, operand or terminator does to what a run holds. The evaluation rules of the source and the steps
+-- of a graph are stated over these effects, so that one proof joins them, whatever the effects are: those on values
+-- (`Acting`), or those on what is present and gone (`Free`).
+use Rattle.std.specs.Prelude.{ℕ, ℤ, Bool, List}
+use Rattle.mir_base.specs.declared.int_kind.IntKind.{IntKind}
+use Rattle.mir_base.specs.declared.operator.Cmp.{Cmp}
+use Rattle.mir_base.specs.declared.operator.Math.{Math}
+use Rattle.mir_base.specs.declared.trace.Why.{Why}
+use Rattle.store_model.specs.NamedPlace.{Place}
+
+-- a place with the number of the node that uses it, which a refused use names
+pub record Site : Type 0 where
+  pub node : ℕ
+  pub place : Place
+
+pub data Operand : Type 0 where
+  Copied : (site : Site) → Operand
+  Moved : (site : Site) → Operand
+  Number : (value : ℤ) (kind : IntKind) → Operand
+  Truth : (value : Bool) → Operand
+  UnitValue : Operand
+
+-- what an aggregate is
+pub data Kind : Type 0 where
+  OfTuple : Kind
+  OfArray : Kind
+  OfVariant : (adt variant : ℕ) → Kind
+  OfClosure : (closure : ℕ) → Kind
+
+pub data Action : Type 0 where
+  Put : (to : Site) (from : Operand) → Action
+  Compare : (to : Site) (operator : Cmp) (left right : Operand) → Action
+  Not : (to : Site) (operand : Operand) → Action
+  Build : (to : Site) (kind : Kind) (parts : List Operand) → Action
+  NewBox : (to : Site) (content : Operand) → Action
+  Unsize : (to : Site) (trait_no : ℕ) (operand : Operand) → Action
+  Borrow : (to : Site) (unique : Bool) (base : Site) → Action
+  Touch : (base : Site) → Action
+  Print : (operand : Operand) → Action
+  Forget : (operand : Operand) → Action
+  Free : (box : Site) → Action
+  Compute : (to : Site) (operator : Math) (left right : Operand) → Action
+  Negate : (to : Site) (operand : Operand) → Action
+  Bounds : (index : Operand) (length : ℕ) → Action
+  Call : (to : Site) (body : ℕ) (args : List Operand) → Action
+  CallVirtual : (to : Site) (trait_no method : ℕ) (args : List Operand) → Action
+  Ask : (to : Site) → Action
+
+pub data Test : Type 0 where
+  IsTrue : (operand : Operand) → Test
+  HasVariant : (site : Site) (variant : ℕ) → Test
+
+-- a drop before a panic, and one that is made while a panic unwinds
+pub data Mode : Type 0 where
+  Calm : Mode
+  Unwinding : Mode
+
+-- Why a run halts at once, with no further drops: a second panic while unwinding, no tick, no step that the rules give
+-- (in a block of a graph, once that is known), and in a free run a refused use of a place, an item that is missing,
+-- an item that no run takes, or a point past which no run comes.
+pub data Halt : Type 0 where
+  Aborted : Halt
+  OutOfTicks : Halt
+  NoStep : Halt
+  StuckAt : (body block : ℕ) → Halt
+  BadUse : (site : Site) → Halt
+  BadStore : (site : Site) → Halt
+  NoItem : Halt
+  NoRun : Halt
+  PastTheEnd : Halt
+
+-- an effect goes on, a panic unwinds from it, or the run halts
+pub data Out (W : Type 0) : Type 0 where
+  Go : (w : W) → Out W
+  Unwind : (w : W) → Out W
+  Halts : (halt : Halt) (w : W) → Out W
+
+pub data Choice (W : Type 0) : Type 0 where
+  Yes : (w : W) → Choice W
+  No : (w : W) → Choice W
+  Neither : (halt : Halt) (w : W) → Choice W
+
+pub record Effects (W : Type 0) : Type 0 where
+  pub act : Action → W → Out W
+  pub choose : Test → W → Choice W
+  pub drop : Mode → Site → W → Out W
+  pub panic : Why → W → W
+  pub tick : W → Out W
+
+-- what comes next, where an effect goes on
+abbrev pub on_go : {W : Type 0} → Out W → (W → Out W) → Out W
+on_go (Go w) next = next w
+on_go (Unwind w) next = Unwind w
+on_go (Halts halt w) next = Halts halt w
+
+-- a panic that unwinds out of a drop made while unwinding aborts the run
+abbrev pub aborting : {W : Type 0} → Out W → (W → Out W) → Out W
+aborting (Go w) next = next w
+aborting (Unwind w) next = Halts Aborted w
+aborting (Halts halt w) next = Halts halt w
