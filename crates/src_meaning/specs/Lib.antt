@@ -1,1 +1,6 @@
+pub mod Evaluation
 pub mod First
+pub mod Forms
+pub mod Programs
+pub mod Scopes
+pub mod Shape

@@ -4,6 +4,7 @@ pub mod Data
 pub mod DropAt
 pub mod Dropping
 pub mod Effects
+pub mod Entering
 pub mod Free
 pub mod Laws
 pub mod NamedPlace

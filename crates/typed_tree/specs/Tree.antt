@@ -19,10 +19,10 @@ mutual
     Number : (value : ℤ) → Form
     Truth : (value : Bool) → Form
     UnitValue : Form
-    -- places: a part goes through so many references and boxes first
+    -- places: each reference and box on the way to a field or a method is gone through by a node of its own
     Variable : (key : ℕ) → Form
     Captured : (closure part : ℕ) → Form
-    Field : (base : Node) (through part : ℕ) → Form
+    Field : (base : Node) (part : ℕ) → Form
     Index : (base index : Node) (length : ℕ) → Form
     Deref : (base : Node) → Form
     -- operators and assignment
@@ -33,10 +33,10 @@ mutual
     And : (left right : Node) → Form
     Or : (left right : Node) → Form
     Assign : (place value : Node) → Form
-    -- calls: a receiver goes through so many references and boxes first
+    -- calls: a receiver that is borrowed is a node that borrows
     Call : (body : ℕ) (args : Nodes) → Form
-    MethodCall : (body : ℕ) (receiver : Node) (through : ℕ) (args : Nodes) → Form
-    VirtualCall : (trait_no method : ℕ) (receiver : Node) (through : ℕ) (args : Nodes) → Form
+    MethodCall : (body : ℕ) (receiver : Node) (args : Nodes) → Form
+    VirtualCall : (trait_no method : ℕ) (receiver : Node) (args : Nodes) → Form
     ClosureCall : (body : ℕ) (callee : Node) (args : Nodes) → Form
     -- constructors: the fields of a struct or a variant in the order in which they are written
     Make : (adt variant : ℕ) (fields : Fields) → Form

@@ -59,10 +59,10 @@ pub enum Form {
         closure: Key,
         part: u32,
     },
-    /// A field, after going through so many references and boxes.
+    /// A field of a struct, a tuple or a closure. Each box and reference that it goes through is a node
+    /// `Deref` around the base.
     Field {
         base: Box<Node, Global>,
-        through: u32,
         part: u32,
     },
     /// An element of an array of this length.
@@ -104,12 +104,12 @@ pub enum Form {
         body: u32,
         args: List<Node>,
     },
-    /// A method of a known type. The receiver goes through so many references and boxes; its use says
-    /// whether it is borrowed, moved or copied.
+    /// A method of a known type, called on a receiver: a node `Borrow` where the method takes `self` by
+    /// reference, and a place or a value otherwise. Each box and reference that the receiver goes through
+    /// is a node `Deref`.
     MethodCall {
         body: u32,
         receiver: Box<Node, Global>,
-        through: u32,
         args: List<Node>,
     },
     /// A method of a trait object.
@@ -117,7 +117,6 @@ pub enum Form {
         trait_no: u32,
         method: u32,
         receiver: Box<Node, Global>,
-        through: u32,
         args: List<Node>,
     },
     /// A call of a closure with this body; its value is the first argument.

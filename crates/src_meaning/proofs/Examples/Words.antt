@@ -1,0 +1,42 @@
+-- Words in which the examples write typed trees and items.
+use Rattle.std.specs.Prelude.{ℕ, List, [], ◌∷◌, Option, Some, None, Bool, true, false, codes}
+use Rattle.mir_base.specs.declared.place_in_text.Pos.{Pos}
+use Rattle.mir_ty.specs.declared.adt.Adt.{Adt}
+use Rattle.mir_ty.specs.declared.adt.Variant.{Variant}
+use Rattle.mir_ty.specs.declared.def.Sig.{Sig}
+use Rattle.mir_ty.specs.declared.ty.TyId.{TyId}
+use Rattle.typed_tree.specs.declared.node.Use.{Use}
+use Rattle.typed_tree.specs.Tree.{Node, node, Form, ParamTree}
+
+-- The examples have no text, so all nodes stand at one place.
+abbrev here : Pos
+here = record { line = 1; col = 1 }
+
+abbrev pub n : ℕ → TyId → Form → Node
+n id ty form = node id here ty None form
+
+abbrev pub used : ℕ → TyId → Use → Form → Node
+used id ty by form = node id here ty (Some by) form
+
+abbrev pub param : Node → TyId → ParamTree
+param pattern ty = record { pattern = pattern; ty = ty }
+
+abbrev pub ty_no : ℕ → TyId
+ty_no k = record { 0 = k }
+
+abbrev field_names : {A : Type 0} → List A → List (List ℕ)
+field_names [] = []
+field_names (a ∷ as_) = codes "f" ∷ field_names as_
+
+abbrev pub variant : List ℕ → List TyId → Variant
+variant name fields = record { name = name; fields = fields; field_names = field_names fields }
+
+abbrev pub struct : List ℕ → List TyId → Option ℕ → Adt
+struct name fields drop_body =
+    record { name = name; is_enum = false; variants = variant name fields ∷ []; copy = false; drop_body = drop_body }
+
+abbrev pub enum : List ℕ → List Variant → Adt
+enum name variants = record { name = name; is_enum = true; variants = variants; copy = false; drop_body = None }
+
+abbrev pub head : List ℕ → List TyId → TyId → Sig
+head name params answer = record { name = name; params = params; result = answer }
