@@ -24,38 +24,38 @@ bool = ty_no 2
 abbrev never : TyId
 never = ty_no 3
 
-abbrev d : TyId
-d = ty_no 4
+abbrev d_ty : TyId
+d_ty = ty_no 4
 
-abbrev unique_d : TyId
-unique_d = ty_no 5
+abbrev unique_d_ty : TyId
+unique_d_ty = ty_no 5
 
-abbrev shared_d : TyId
-shared_d = ty_no 6
+abbrev shared_d_ty : TyId
+shared_d_ty = ty_no 6
 
 abbrev items : ItemTable
 items = record {
-  types = Ty.Int IntKind.I32 ∷ Ty.Unit ∷ Ty.Bool ∷ Ty.Never ∷ Ty.Adt 0 ∷ Ty.Unique d ∷ Ty.Shared d ∷ [];
+  types = Ty.Int IntKind.I32 ∷ Ty.Unit ∷ Ty.Bool ∷ Ty.Never ∷ Ty.Adt 0 ∷ Ty.Unique d_ty ∷ Ty.Shared d_ty ∷ [];
   adts = struct (codes "D") (i32 ∷ []) (Some 0) ∷ [];
   traits = [];
   impls = [];
   closures = [];
   bodies =
-      head (codes "D::drop") (unique_d ∷ []) unit
-        ∷ head (codes "take") (d ∷ []) unit
+      head (codes "D::drop") (unique_d_ty ∷ []) unit
+        ∷ head (codes "take") (d_ty ∷ []) unit
         ∷ head (codes "main") ([]) unit
         ∷ [];
 }
 
 abbrev drop_d : BodyTree
-drop_d = record { number = 0; params = param (used 0 unique_d Use.Copy Binding) unique_d ∷ []; answer = unit; block = (n 1 unit (Block no_node absent)) }
+drop_d = record { number = 0; params = param (used 0 unique_d_ty Use.Copy Binding) unique_d_ty ∷ []; answer = unit; block = (n 1 unit (Block no_node absent)) }
 
 abbrev take : BodyTree
-take = record { number = 1; params = param (used 0 d Use.Move Binding) d ∷ []; answer = unit; block = (n 1 unit (Block no_node absent)) }
+take = record { number = 1; params = param (used 0 d_ty Use.Move Binding) d_ty ∷ []; answer = unit; block = (n 1 unit (Block no_node absent)) }
 
 -- fn main() { let a = D(1); let b = D(2); }
 abbrev main_two : BodyTree
-main_two = record { number = 2; params = []; answer = unit; block = (n 0 unit (Block (a_node (n 1 unit (Let (used 2 d Use.Move Binding) (present (n 3 d (Make 0 0 (a_field 0 (n 4 i32 (Number (pos 1))) no_field)))))) (a_node (n 5 unit (Let (used 6 d Use.Move Binding) (present (n 7 d (Make 0 0 (a_field 0 (n 8 i32 (Number (pos 2))) no_field)))))) no_node)) absent)) }
+main_two = record { number = 2; params = []; answer = unit; block = (n 0 unit (Block (a_node (n 1 unit (Let (used 2 d_ty Use.Move Binding) (present (n 3 d_ty (Make 0 0 (a_field 0 (n 4 i32 (Number (pos 1))) no_field)))))) (a_node (n 5 unit (Let (used 6 d_ty Use.Move Binding) (present (n 7 d_ty (Make 0 0 (a_field 0 (n 8 i32 (Number (pos 2))) no_field)))))) no_node)) absent)) }
 
 abbrev two : ProgramTree
 two = record { items = items; bodies = drop_d ∷ take ∷ main_two ∷ [] }
@@ -78,7 +78,7 @@ out_of_ticks_at_once = refl
 
 -- fn main() { let mut x = D(1); take(x); x = D(2); take(x); }
 abbrev main_again : BodyTree
-main_again = record { number = 2; params = []; answer = unit; block = (n 0 unit (Block (a_node (n 1 unit (Let (used 2 d Use.Move Binding) (present (n 3 d (Make 0 0 (a_field 0 (n 4 i32 (Number (pos 1))) no_field)))))) (a_node (n 5 unit (Evaluate (n 6 unit (Call 1 (a_node (used 7 d Use.Move (Variable 2)) no_node))))) (a_node (n 8 unit (Evaluate (n 9 unit (Assign (used 10 d Use.Store (Variable 2)) (n 11 d (Make 0 0 (a_field 0 (n 12 i32 (Number (pos 2))) no_field))))))) (a_node (n 13 unit (Evaluate (n 14 unit (Call 1 (a_node (used 15 d Use.Move (Variable 2)) no_node))))) no_node)))) absent)) }
+main_again = record { number = 2; params = []; answer = unit; block = (n 0 unit (Block (a_node (n 1 unit (Let (used 2 d_ty Use.Move Binding) (present (n 3 d_ty (Make 0 0 (a_field 0 (n 4 i32 (Number (pos 1))) no_field)))))) (a_node (n 5 unit (Evaluate (n 6 unit (Call 1 (a_node (used 7 d_ty Use.Move (Variable 2)) no_node))))) (a_node (n 8 unit (Evaluate (n 9 unit (Assign (used 10 d_ty Use.Store (Variable 2)) (n 11 d_ty (Make 0 0 (a_field 0 (n 12 i32 (Number (pos 2))) no_field))))))) (a_node (n 13 unit (Evaluate (n 14 unit (Call 1 (a_node (used 15 d_ty Use.Move (Variable 2)) no_node))))) no_node)))) absent)) }
 
 abbrev again : ProgramTree
 again = record { items = items; bodies = drop_d ∷ take ∷ main_again ∷ [] }
