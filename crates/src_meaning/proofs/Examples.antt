@@ -1,10 +1,15 @@
 -- Programs that were worked out by hand, and runs of them closed by computation.
 mod Boxes
+mod Closures
 mod Conditions
 mod First
+mod FreeRuns
 mod Locals
+mod Loops
 mod Operands
+mod Operators
 mod Panics
 mod Patterns
 mod Temporaries
+mod TraitObjects
 pub mod Words
