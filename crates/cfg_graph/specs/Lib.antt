@@ -1,0 +1,11 @@
+pub mod Broken
+pub mod Cleanup
+pub mod Edges
+pub mod Faults
+pub mod ItemFaults
+pub mod LineFaults
+pub mod NameFaults
+pub mod Places
+pub mod TypeFaults
+pub mod Typing
+pub mod Uses

@@ -90,11 +90,11 @@ pub struct Place {
 /// What a statement or a terminator takes as a value.
 #[derive(Debug, Drop)]
 pub enum Operand {
-    /// The value of a place of a Copy type, which stays there.
+    /// The value of a place, which stays there.
     Copied(Place),
     /// The value of a place, which is gone then.
     Moved(Place),
-    /// A number, which the type of this kind must hold.
+    /// A number of an integer type.
     Number(i128, IntKind),
     /// `true` or `false`.
     Truth(bool),
