@@ -1,0 +1,15 @@
+pub mod Actions
+pub mod BadUses
+pub mod Broken
+pub mod Cleanup
+pub mod Edges
+pub mod Faults
+pub mod Gone
+pub mod ItemFaults
+pub mod LineFaults
+pub mod NameFaults
+pub mod Paths
+pub mod Places
+pub mod TypeFaults
+pub mod Typing
+pub mod Uses

@@ -1,0 +1,16 @@
+//! The graphs of bodies: blocks of statements over named places, each block ended by a terminator with its ways
+//! out. When a graph is well formed, which paths a body has, and which uses of places are bad on them, is stated
+//! in `specs/`. The rustc development guide calls such graphs MIR ("The MIR").
+#![tactic(auto)]
+
+mod graph;
+mod place;
+mod statement;
+mod terminator;
+
+pub use graph::{Block, Body, Graph, GraphFault, Kind, rank};
+pub use mir_base::{Cmp, Math};
+pub use place::{Operand, Place, Step, Steps};
+pub use statement::Stmt;
+pub use terminator::{Term, Unwind};
+
