@@ -20,7 +20,7 @@ use Rattle.typed_tree.specs.Nodes.{number_of, nodes_of, body_nodes}
 use Rattle.typed_tree.specs.Tree as tree
 use Rattle.typed_tree.specs.Tree.{Node, node, Form, ParamTree, BodyTree, ProgramTree}
 use Rattle.src_meaning.specs.Evaluation.{meaning}
-use Rattle.src_meaning.specs.Forms.{Destination, Into, Around, Does, Meaning, bind}
+use Rattle.src_meaning.specs.Forms.{Destination, Into, Around, Does, bind, site_of_key}
 use Rattle.src_meaning.specs.Scopes.{Entry, Scope, Scopes, innermost, entered, with_entry, with_pending, all_entries, Exit, Value, Breaks, Continues, Returns, Panics, Run, At, Over, on_value, entry_site, leave}
 use Rattle.src_meaning.specs.Shape.{shape}
 
@@ -48,13 +48,13 @@ module _ {W : Type 0} (items : ItemTable) (p : Effects W) (most_turns : ℕ) whe
   unwinds [] w = Unwind w
   unwinds (e ∷ es) w = aborting (p.drop Unwinding (entry_site e) w) (unwinds es)
 
-  abbrev body_end : Run W → Out W
-  body_end (At Value S w) = Go w
-  body_end (At (Breaks loop) S w) = Halts NoStep w
-  body_end (At (Continues loop) S w) = Halts NoStep w
-  body_end (At Returns S w) = Go w
-  body_end (At Panics S w) = unwinds (all_entries S) w
-  body_end (Over halt w) = Halts halt w
+  abbrev body_end : ℕ → Run W → Out W
+  body_end answer (At Value S w) = p.give (site_of_key answer) w
+  body_end answer (At (Breaks loop) S w) = Halts NoStep w
+  body_end answer (At (Continues loop) S w) = Halts NoStep w
+  body_end answer (At Returns S w) = p.give (site_of_key answer) w
+  body_end answer (At Panics S w) = unwinds (all_entries S) w
+  body_end answer (Over halt w) = Halts halt w
 
   abbrev around_body : BodyTree → Around W
   around_body body = record {
@@ -72,7 +72,7 @@ module _ {W : Type 0} (items : ItemTable) (p : Effects W) (most_turns : ℕ) whe
   -- a body within its activation: the parameters, the block into the result, and the leaving of all scopes
   abbrev pub activation : BodyTree → W → Out W
   activation body w =
-      body_end (leave p (on_value (params_entered body.params (entered true (answer_scope body)) w)
+      body_end (answer_key body) (leave p (on_value (params_entered body.params (entered true (answer_scope body)) w)
           ((meaning items p most_turns body.block).evaluate (around_body body) false (Into (answer_key body)))))
 
 -- The types under the keys of a body.

@@ -1,7 +1,7 @@
 -- The effects on values: what a run of a program or of a graph does (The Rust Reference, "Expressions"; the rustc
 -- development guide, "The MIR"). A value that is used must be whole. Where there is nothing that the rules allow, as
 -- at a place that is gone, there is no step.
-use Rattle.std.specs.Prelude.{ℕ, zero, suc, ◌==◌, ℤ, pos, negsuc, ◌+ℤ◌, ◌-ℤ◌, ◌*ℤ◌, neg_ℤ, int_lt, int_le, int_div, int_rem, Bool, true, false, ◌&&◌, ◌||◌, not, List, [], ◌∷◌, ◌++◌, Option, Some, None, length, slice_get, position, option_and_then}
+use Rattle.std.specs.Prelude.{ℕ, suc, ◌==◌, ℤ, pos, ◌+ℤ◌, ◌-ℤ◌, ◌*ℤ◌, neg_ℤ, int_lt, int_le, int_div, int_rem, Bool, true, false, ◌&&◌, ◌||◌, not, List, [], ◌∷◌, ◌++◌, Option, Some, None, length, slice_get, position, option_and_then}
 use Rattle.std.specs.Option.{option_map_or}
 use Rattle.mir_base.specs.declared.int_kind.IntKind.{IntKind}
 use Rattle.mir_base.specs.declared.operator.Cmp.{Cmp}
@@ -11,7 +11,6 @@ use Rattle.mir_base.specs.declared.trace.Why.{Why}
 use Rattle.mir_base.specs.IntKind.{least_of, greatest_of}
 use Rattle.mir_ty.specs.declared.ty.Ty.{Ty}
 use Rattle.mir_ty.specs.declared.ty.TyId.{TyId}
-use Rattle.mir_ty.specs.declared.def.ImplDef.{ImplDef}
 use Rattle.mir_ty.specs.ItemTable.{ItemTable, type_at}
 use Rattle.store_model.specs.declared.address.At.TheVariants.{Part, Inside}
 use Rattle.store_model.specs.Data.{Datum, Data, Gone, Number, Truth, UnitValue, Aggregate, Box, Address, no_part, a_part, data_from}
@@ -346,6 +345,10 @@ module _ (setting : Setting) where
         taking_all args w (λ values w. called to (virtual_body trait_no method w values) values w)
     act (effects.Ask to) w = asked to w.asked w
 
+    -- the result of a body is whole
+    abbrev pub give : Site → World → Out World
+    give site w = or_no_step (used w site) (λ s. Go w) w
+
     -- in the strict meaning what is dropped is whole; otherwise what remains of it is dropped
     abbrev dropped_if : ℕ → Bool → Mode → Standing → World → Out World
     dropped_if bound true mode s w = drop_at setting run bound Begins s mode w
@@ -362,4 +365,4 @@ module _ (setting : Setting) where
         (nothing_if setting.strict w) (Halts NoStep w)
 
     abbrev pub on_values : ℕ → Effects World
-    on_values bound = record { act = act; choose = choose; drop = drop bound; panic = panics; tick = tick }
+    on_values bound = record { act = act; choose = choose; drop = drop bound; panic = panics; tick = tick; give = give }

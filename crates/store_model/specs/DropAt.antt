@@ -2,17 +2,15 @@
 -- elaboration"): the `Drop` body of the type, if it has one, then the parts as they stand then, a box after its
 -- content, and then the place is gone. What is gone is not dropped. After the first panic the rest is dropped while
 -- unwinding, and a panic out of a drop made while unwinding aborts the run at once.
-use Rattle.std.specs.Prelude.{ℕ, zero, suc, ◌==◌, Bool, true, false, List, [], ◌∷◌, ◌++◌, Option, Some, None, slice_get}
+use Rattle.std.specs.Prelude.{ℕ, zero, suc, ◌==◌, Bool, true, false, [], ◌∷◌, Option, Some, None, slice_get}
 use Rattle.std.specs.Option.{option_map_or}
 use Rattle.mir_base.specs.declared.trace.Event.{Event}
 use Rattle.mir_ty.specs.declared.ty.Ty.{Ty}
-use Rattle.mir_ty.specs.declared.adt.Adt.{Adt}
 use Rattle.mir_ty.specs.ItemTable.{ItemTable}
-use Rattle.store_model.specs.declared.address.Addr.{Addr}
 use Rattle.store_model.specs.declared.address.At.TheVariants.{Part, Inside}
 use Rattle.store_model.specs.Data.{Datum, Data, Gone, Number, Truth, UnitValue, Aggregate, Box, Address, no_part, a_part}
-use Rattle.store_model.specs.Effects.{Mode, Calm, Unwinding, Halt, Aborted, OutOfTicks, NoStep, Out, Go, Unwind, Halts, on_go}
-use Rattle.store_model.specs.Standing.{Setting, Found, As, AsObject, concrete_ty, found_part, Standing, into, standing_at_address, stored_at}
+use Rattle.store_model.specs.Effects.{Mode, Calm, Unwinding, Aborted, OutOfTicks, NoStep, Out, Go, Unwind, Halts}
+use Rattle.store_model.specs.Standing.{Setting, Found, As, AsObject, concrete_ty, Standing, into, standing_at_address, stored_at}
 use Rattle.store_model.specs.World.{World, telling, Answer, Returns, Unwinds, HaltsIn, Bodies}
 
 -- how a `Drop` body ends in a mode

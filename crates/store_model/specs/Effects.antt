@@ -86,6 +86,7 @@ pub record Effects (W : Type 0) : Type 0 where
   pub drop : Mode → Site → W → Out W
   pub panic : Why → W → W
   pub tick : W → Out W
+  pub give : Site → W → Out W  -- a body ends with the value of its result
 
 -- what comes next, where an effect goes on
 abbrev pub on_go : {W : Type 0} → Out W → (W → Out W) → Out W

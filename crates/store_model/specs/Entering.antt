@@ -1,10 +1,10 @@
 -- How a body is entered and left, and the run of a whole program: the same for the source and for a graph, whatever
 -- is done within a body (The Rust Reference, "Functions"; "Destructors").
-use Rattle.std.specs.Prelude.{ℕ, zero, suc, ℤ, Bool, true, false, List, [], ◌∷◌, Option, Some, None}
+use Rattle.std.specs.Prelude.{ℕ, zero, suc, ℤ, Bool, true, false, List, [], ◌∷◌}
 use Rattle.mir_base.specs.declared.trace.End.{End}
 use Rattle.mir_base.specs.declared.trace.Event.{Event}
 use Rattle.mir_base.specs.Trace.{Trace}
-use Rattle.store_model.specs.Acting.{is_whole, on_values}
+use Rattle.store_model.specs.Acting.{on_values}
 use Rattle.store_model.specs.Data.{Datum}
 use Rattle.store_model.specs.Effects.{Halt, Aborted, OutOfTicks, NoStep, StuckAt, BadUse, BadStore, NoItem, NoRun, PastTheEnd, Out, Go, Unwind, Halts, Effects}
 use Rattle.store_model.specs.Standing.{Setting}
@@ -14,16 +14,9 @@ abbrev pub cells_of_youngest : List Activation → Cells
 cells_of_youngest [] = []
 cells_of_youngest (a ∷ older) = a.cells
 
-abbrev returned_if : Bool → ℕ → Datum → World → Answer
-returned_if true body value w = Returns value (telling (Event.Return body) (left w))
-returned_if false body value w = HaltsIn NoStep w
-
-abbrev returned : ℕ → Datum → World → Answer
-returned body value w = returned_if (is_whole value) body value w
-
--- a body ends: it returns the whole value of its result, or it unwinds; its line is the last
+-- a body ends: it returns the value of its result, or it unwinds; its line is the last
 abbrev pub ended : ℕ → ℕ → Out World → Answer
-ended body answer (Go w) = returned body (cell answer (cells_of_youngest w.activations)) w
+ended body answer (Go w) = Returns (cell answer (cells_of_youngest w.activations)) (telling (Event.Return body) (left w))
 ended body answer (Unwind w) = Unwinds (telling (Event.Unwind body) (left w))
 ended body answer (Halts halt w) = HaltsIn halt w
 
@@ -45,8 +38,8 @@ abbrev pub run_body : Setting → Code → ℕ → Bodies
 run_body setting code zero event body args w = HaltsIn OutOfTicks w
 run_body setting code (suc n) event body args w =
     after_tick (tick w) (λ w. ended body (code.answer body)
-        (code.within (on_values setting (run_body setting code n) (suc n)) n body
-            (entered (record { body = body; cells = code.arguments body args }) (telling event w))))
+    (code.within (on_values setting (run_body setting code n) (suc n)) n body
+    (entered (record { body = body; cells = code.arguments body args }) (telling event w))))
 
 -- how a run ends. A run of a source, and a free run, have no block to be stuck in
 abbrev end_of_halt : Halt → End

@@ -1,7 +1,7 @@
 -- The effects of a free run: what is present and gone, without values. A condition may go either way, and what can
 -- panic may panic: a list of items answers, 1 for true and for a panic. Called bodies are not entered. A run ends at
 -- the first use of a place that is refused (The Rust Reference, "Moved and copied types"; rustc's error E0382).
-use Rattle.std.specs.Prelude.{ℕ, ◌==◌, Bool, true, false, List, [], ◌∷◌, Option, Some, None, option_and_then, if◌then◌else◌}
+use Rattle.std.specs.Prelude.{ℕ, ◌==◌, Bool, true, false, List, [], ◌∷◌, Option, Some, option_and_then, if◌then◌else◌}
 use Rattle.std.specs.Option.{option_map_or}
 use Rattle.mir_ty.specs.declared.ty.Ty.{Ty}
 use Rattle.mir_ty.specs.declared.ty.TyId.{TyId}
@@ -9,7 +9,7 @@ use Rattle.mir_ty.specs.Facts.{needs_drop}
 use Rattle.mir_ty.specs.ItemTable.{ItemTable, type_at}
 use Rattle.store_model.specs.Effects as effects
 use Rattle.store_model.specs.Effects.{Site, Operand, Action, Test, Mode, Calm, Unwinding, Halt, Aborted, BadUse, BadStore, NoItem, NoRun, PastTheEnd, Out, Go, Unwind, Halts, Choice, Yes, No, Neither, Effects}
-use Rattle.store_model.specs.NamedPlace.{place_ty, Watched, Reach, Whole, ThroughReference, ByElement, watched}
+use Rattle.store_model.specs.NamedPlace.{place_ty, Watched, Whole, ThroughReference, ByElement, watched}
 use Rattle.store_model.specs.Presence.{Presence, is_present, is_gone, after_action, containers_present, is_whole_at, is_there_at}
 
 -- what is known of the locals of a body, each gone where nothing is named; and the items that are left
@@ -158,7 +158,7 @@ module _ (table : ItemTable) (local_ty : ℕ → Option TyId) where
   tick w = item w.items w Go (Halts NoRun)
 
   abbrev pub on_presence : Effects Free
-  on_presence = record { act = act; choose = choose; drop = drop; panic = λ why w. w; tick = tick }
+  on_presence = record { act = act; choose = choose; drop = drop; panic = λ why w. w; tick = tick; give = λ site w. Go w }
 
 abbrev pub params_present : List ℕ → List (ℕ × Presence)
 params_present [] = []

@@ -2,16 +2,14 @@
 -- place; then nothing stands there.
 use Rattle.std.specs.Prelude.{ℕ, ◌==◌, pos, Bool, true, false, ◌||◌, List, [], ◌∷◌, ◌++◌, Option, Some, None, length, slice_get, option_and_then}
 use Rattle.std.specs.Option.{option_map_or}
-use Rattle.mir_base.specs.declared.place_in_text.Key.{Key}
 use Rattle.mir_ty.specs.declared.ty.Ty.{Ty}
 use Rattle.mir_ty.specs.declared.ty.TyId.{TyId}
-use Rattle.mir_ty.specs.declared.def.ImplDef.{ImplDef}
 use Rattle.mir_ty.specs.ItemTable.{ItemTable, type_at}
 use Rattle.mir_ty.specs.Parts.{parts_of}
 use Rattle.store_model.specs.declared.address.Addr.{Addr}
 use Rattle.store_model.specs.declared.address.At.{At}
 use Rattle.store_model.specs.declared.address.At.TheVariants.{Part, Inside}
-use Rattle.store_model.specs.Data.{Datum, Data, Gone, Number, Truth, UnitValue, Aggregate, Box, Address}
+use Rattle.store_model.specs.Data.{Datum, Gone, Number, Aggregate, Box, Address}
 use Rattle.store_model.specs.Places.{part, replaced}
 use Rattle.store_model.specs.NamedPlace.{Step, ToPart, ToField, ToContent, ToElement, Place}
 use Rattle.store_model.specs.World.{World, Activation, Cells, cell, at_depth, with_cell_at}

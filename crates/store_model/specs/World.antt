@@ -4,7 +4,7 @@ use Rattle.std.specs.Prelude.{ℕ, zero, suc, ◌==◌, ℤ, List, [], ◌∷◌
 use Rattle.mir_base.specs.declared.trace.Event.{Event}
 use Rattle.mir_base.specs.Trace.{Trace}
 use Rattle.store_model.specs.Data.{Datum, Gone}
-use Rattle.store_model.specs.Effects.{Halt, Out, Go, Unwind, Halts, OutOfTicks}
+use Rattle.store_model.specs.Effects.{Halt, Out, Go, Halts, OutOfTicks}
 
 -- what the locals of a body hold: gone where nothing is named
 abbrev pub Cells : Type 0
@@ -19,7 +19,7 @@ pub record World : Type 0 where
   pub asked : List ℤ
   pub ticks : ℕ
   pub serial : ℕ
-  pub activations : List Activation    -- the youngest first; an activation's depth is the number of older ones
+  pub activations : List Activation  -- the youngest first; an activation's depth is the number of older ones
   pub trace : Trace
 
 abbrev pub cell : ℕ → Cells → Datum
