@@ -1,0 +1,6 @@
+-- Graphs that were worked out by hand, and runs of them closed by computation.
+mod Objects
+mod Parts
+mod Short
+mod Unwinding
+pub mod Words

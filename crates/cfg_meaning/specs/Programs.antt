@@ -1,0 +1,56 @@
+-- What a graph does when it runs: strictly, so that a value that is dropped is whole; and as a raw graph, which has
+-- scheduled drops, each of which drops what remains. And what its free walks are.
+use Rattle.std.specs.Prelude.{ℕ, suc, ℤ, Bool, true, false, List, [], ◌∷◌, length, position, slice_get, Option, Some, None, option_and_then, nat_eq, codes}
+use Rattle.std.specs.Cmp.Lexicographic.{pointwise}
+use Rattle.std.specs.List.{range_with_len}
+use Rattle.std.specs.Option.{option_map_or}
+use Rattle.mir_base.specs.declared.trace.End.{End}
+use Rattle.mir_base.specs.Trace.{Trace}
+use Rattle.mir_ty.specs.ItemTable.{ItemTable}
+use Rattle.cfg_graph.specs.declared.graph.Body.{Body}
+use Rattle.cfg_graph.specs.declared.graph.Graph.{Graph}
+use Rattle.cfg_meaning.specs.Walk.{walk}
+use Rattle.store_model.specs.Data.{Datum}
+use Rattle.store_model.specs.Effects.{NoStep, Out, Halts}
+use Rattle.store_model.specs.Entering.{Code, run_of}
+use Rattle.store_model.specs.Free.{Free, at_start, on_presence}
+use Rattle.store_model.specs.Standing.{Setting}
+use Rattle.store_model.specs.World.{Cells}
+
+-- the arguments are the locals from 1 on
+abbrev pub arguments_from : ℕ → List Datum → Cells
+arguments_from local [] = []
+arguments_from local (arg ∷ args) = (local, arg) ∷ arguments_from (suc local) args
+
+abbrev no_node : ℕ → ℕ → ℕ
+no_node block line = 0
+
+abbrev pub setting_of : Bool → Graph → Setting
+setting_of strict graph = record {
+  items = graph.items;
+  local_ty = λ n local. option_and_then (λ body. slice_get body.locals local) (slice_get graph.bodies n);
+  strict = strict;
+}
+
+abbrev pub code_of : Graph → Code
+code_of graph = record {
+  arguments = λ n args. arguments_from 1 args;
+  answer = λ n. 0;
+  within = λ p turns n w. option_map_or (λ body. walk p n no_node body turns 0 w) (slice_get graph.bodies n) (Halts NoStep w);
+}
+
+abbrev pub main_of : ItemTable → ℕ
+main_of items = option_map_or (λ n. n) (position (λ sig. pointwise nat_eq sig.name (codes "main")) items.bodies) 0
+
+-- the trace and the end of a graph, with these numbers to be asked and so many ticks
+abbrev pub graph_run : Graph → List ℤ → ℕ → Trace × End
+graph_run graph asked ticks = run_of (setting_of true graph) (code_of graph) (main_of graph.items) asked ticks
+
+-- the same where a drop drops what remains of its place
+abbrev pub raw_graph_run : Graph → List ℤ → ℕ → Trace × End
+raw_graph_run graph asked ticks = run_of (setting_of false graph) (code_of graph) (main_of graph.items) asked ticks
+
+-- the walk of a body that takes these items, where each line stands for a node of the source
+abbrev pub free_walk : ItemTable → (ℕ → ℕ → ℕ) → Body → List Bool → Out Free
+free_walk items node body list =
+    walk (on_presence items (λ local. slice_get body.locals local)) 0 node body (length list) 0 (at_start (range_with_len 1 body.params) list)
