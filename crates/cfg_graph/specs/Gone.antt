@@ -51,15 +51,15 @@ reaches_whole w = elim w.reach [ Whole ↦ true | ThroughReference ↦ false | B
 
 module _ (items : ItemTable) (body : Body) where
   -- what is done behind a reference, or at a place with an index step, counts for no place
-  abbrev counts : Place → Bool
+  abbrev pub counts : Place → Bool
   counts place = reaches_whole (watched items (slice_get body.locals place.local) place.steps)
 
   -- what an action leaves of a place, if it was on the place or on a container of it
-  abbrev left_by : Place → Action → Option Bool
+  abbrev pub left_by : Place → Action → Option Bool
   left_by place action = if counts action.place && is_at_or_above action.place place then leaves_gone action.how else None
 
   -- what the last such action left
-  abbrev last_left : Place → List Action → Option Bool
+  abbrev pub last_left : Place → List Action → Option Bool
   last_left place [] = None
   last_left place (action ∷ later) = option_or (last_left place later) (left_by place action)
 

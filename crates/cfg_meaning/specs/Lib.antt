@@ -1,3 +1,4 @@
 pub mod Actions
+pub mod Forward
 pub mod Programs
 pub mod Walk

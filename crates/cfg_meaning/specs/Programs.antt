@@ -53,4 +53,4 @@ raw_graph_run graph asked ticks = run_of (setting_of false graph) (code_of graph
 -- the walk of a body that takes these items, where each line stands for a node of the source
 abbrev pub free_walk : ItemTable → (ℕ → ℕ → ℕ) → Body → List Bool → Out Free
 free_walk items node body list =
-    walk (on_presence items (λ local. slice_get body.locals local)) 0 node body (length list) 0 (at_start (range_with_len 1 body.params) list)
+    walk (on_presence items (λ local. slice_get body.locals local)) 0 node body (suc (length list)) 0 (at_start (range_with_len 1 body.params) list)

@@ -132,21 +132,22 @@ module _ {W : Type 0} (p : Effects W) (number : ℕ) (node : ℕ → ℕ → ℕ
   abbrev pub entered : Next W → Next W
   entered next n w = if_there (slice_get body.blocks n) n (λ block. by_kind block.kind n block (λ n. does_turn n block next) (λ n. does_block n block next)) w
 
-  -- At most so many blocks, where it is given what a turn does. Each edge but one to a turn block lowers the rank, so
-  -- a bound greater than the rank is never met.
+  -- At most so many blocks up to the next turn block, where it is given what a turn does. Each edge but one to a turn
+  -- block lowers the rank, so a bound greater than the rank is never met.
   abbrev pub blocks : Next W → ℕ → Next W
-  blocks turn zero n w = Halts NoStep w
+  blocks turn zero n w = if_there (slice_get body.blocks n) n (λ block. by_kind block.kind n block turn (λ n. Halts NoStep)) w
   blocks turn (suc most) n w =
       if_there (slice_get body.blocks n) n (λ block. by_kind block.kind n block turn (λ n. does_block n block (blocks turn most))) w
 
   abbrev from_rank : Next W → Next W
   from_rank turn n w = blocks turn (suc (rank_at n)) n w
 
-  -- at most so many turns: each spends a tick, or takes an item
+  -- fewer turns than so many: each spends a tick, or takes an item, so a bound greater than what is left of these is
+  -- never met
   abbrev pub turns : ℕ → Next W
   turns zero n w = Halts OutOfTicks w
   turns (suc most) n w = if_there (slice_get body.blocks n) n (λ block. does_turn n block (from_rank (turns most))) w
 
-  -- the walk of a body from a block on, with at most so many turns
+  -- the walk of a body from a block on, with fewer turns than so many
   abbrev pub walk : ℕ → Next W
   walk most = from_rank (turns most)

@@ -1,3 +1,7 @@
 //! What a graph means: the effect of each statement and terminator, the walk of a body, and the strict and the
-//! raw run of a whole graph, in `specs/`.
+//! raw run of a whole graph, in `specs/`. Its laws are the clauses of functions without parameters.
 #![tactic(auto)]
+
+mod laws;
+
+pub use laws::law_of_what_is_gone;

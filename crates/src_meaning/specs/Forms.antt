@@ -360,8 +360,8 @@ module _ {W : Type 0} (items : ItemTable) (p : Effects W) where
   turned id S0 (At Panics S w) next = At Panics S w
   turned id S0 (Over halt w) next = Over halt w
 
-  -- at most so many turns. Each spends a tick, or takes an item, so a bound that is at least what is left of these
-  -- never ends a loop by itself
+  -- fewer turns than so many. Each spends a tick, or takes an item, so a bound that is greater than what is left of
+  -- these never ends a loop by itself
   abbrev pub turns : ℕ → ℕ → Does W → Does W
   turns zero id turn S w = Over OutOfTicks w
   turns (suc n) id turn S w = ticked (p.tick w) (λ w. turned id S (turn S w) (turns n id turn))

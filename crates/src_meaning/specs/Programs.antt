@@ -1,6 +1,6 @@
 -- What a typed program does when it runs, what its free runs are, and when it is accepted (The Rust Reference,
 -- "Functions", "Destructors"; for accepted uses "Moved and copied types" and rustc's errors E0381, E0382).
-use Rattle.std.specs.Prelude.{◌≡◌, ℕ, ◌==◌, ℤ, Bool, true, false, List, [], ◌∷◌, ◌⊎◌, length, map, find, position, slice_get, Option, Some, None, option_and_then, codes, if◌then◌else◌}
+use Rattle.std.specs.Prelude.{◌≡◌, ℕ, ◌==◌, ℤ, Bool, true, false, List, [], ◌∷◌, suc, length, map, find, position, slice_get, Option, Some, None, option_and_then, codes, if◌then◌else◌}
 use Rattle.std.specs.Cmp.Lexicographic.{pointwise}
 use Rattle.std.specs.Option.{option_map_or}
 use Rattle.std.specs.Prelude.{nat_eq}
@@ -132,7 +132,7 @@ source program asked ticks = run_of (setting_of program) (code_of program) (main
 
 abbrev pub free_run : ItemTable → BodyTree → List Bool → Out Free
 free_run items body list =
-    activation items (on_presence items (key_ty items body)) (length list) body (at_start (param_keys body.params) list)
+    activation items (on_presence items (key_ty items body)) (suc (length list)) body (at_start (param_keys body.params) list)
 
 -- the refused use at which a run has halted, if all items are taken
 abbrev use_if_taken : Site → List Bool → Option Site

@@ -33,12 +33,13 @@ pub record Code : Type 0 where
   pub within : Effects World → ℕ → ℕ → World → Out World
 
 -- One tick is spent at each entry, before the line of it. Bodies are nested no deeper than the bound, which is at least
--- the ticks that are left, so it never ends a run by itself; neither do the bounds on turns and on drops.
+-- the ticks that are left, so it never ends a run by itself; neither do the bounds on turns and on drops, which are
+-- greater than the ticks that are left.
 abbrev pub run_body : Setting → Code → ℕ → Bodies
 run_body setting code zero event body args w = HaltsIn OutOfTicks w
 run_body setting code (suc n) event body args w =
     after_tick (tick w) (λ w. ended body (code.answer body)
-    (code.within (on_values setting (run_body setting code n) (suc n)) n body
+    (code.within (on_values setting (run_body setting code n) (suc n)) (suc n) body
     (entered (record { body = body; cells = code.arguments body args }) (telling event w))))
 
 -- how a run ends. A run of a source, and a free run, have no block to be stuck in

@@ -89,3 +89,10 @@ endless = body 0 (unit ∷ []) (block Kind.Plain 1 [] (Term.Goto 1) ∷ block Ki
 
 turns_spend_ticks : graph_run (record { items = items; bodies = drop_d ∷ endless ∷ [] }) [] 1000 ≡ (call 1 ∷ [], End.OutOfTicks)
 turns_spend_ticks = refl
+
+-- a loop whose turn block follows a block of the least rank
+abbrev endless_from_the_least : Body
+endless_from_the_least = body 0 (unit ∷ []) (block Kind.Plain 0 [] (Term.Goto 1) ∷ block Kind.Turn 0 [] (Term.Goto 1) ∷ [])
+
+a_turn_block_needs_no_lower_rank : graph_run (record { items = items; bodies = drop_d ∷ endless_from_the_least ∷ [] }) [] 3 ≡ (call 1 ∷ [], End.OutOfTicks)
+a_turn_block_needs_no_lower_rank = refl
