@@ -1,4 +1,5 @@
 -- Programs that were worked out by hand, and runs of them closed by computation.
+mod Assignments
 mod Boxes
 mod Closures
 mod Conditions
@@ -12,4 +13,5 @@ mod Panics
 mod Patterns
 mod Temporaries
 mod TraitObjects
+mod Unwinding
 pub mod Words

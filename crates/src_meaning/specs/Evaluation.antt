@@ -1,15 +1,13 @@
 -- What a typed node does: one line a form, over any effects (The Rust Reference, "Expressions", "Statements",
 -- "Patterns"). The lines are made of the rules of `Forms`.
-use Rattle.std.specs.Prelude.{ℕ, ◌==◌, nat_lt, ℤ, Bool, true, false, List, [], ◌∷◌, map, Option, Some, None, if◌then◌else◌}
+use Rattle.std.specs.Prelude.{ℕ, nat_lt, Bool, true, false, List, [], ◌∷◌, map, Option, Some, None, if◌then◌else◌}
 use Rattle.mir_base.specs.declared.trace.Why.{Why}
-use Rattle.mir_ty.specs.declared.ty.TyId.{TyId}
 use Rattle.mir_ty.specs.ItemTable.{ItemTable}
 use Rattle.store_model.specs.Effects as effects
 use Rattle.store_model.specs.Effects.{Site, Operand, Action, OfTuple, OfArray, OfVariant, OfClosure, Effects}
-use Rattle.store_model.specs.NamedPlace.{Place, whole_local}
 use Rattle.typed_tree.specs.Tree as tree
 use Rattle.typed_tree.specs.Tree.{Node, node, Form, Nodes, no_node, a_node, Fields, no_field, a_field, MaybeNode, absent, present}
-use Rattle.src_meaning.specs.Scopes.{Scopes, Exit, Value, Breaks, Continues, Returns, Panics, Run, At, on_value, in_scopes}
+use Rattle.src_meaning.specs.Scopes.{Value, Breaks, Continues, Returns, Panics, At, on_value, in_scopes}
 use Rattle.src_meaning.specs.Shape.{Head, Shape, kind_of, shape_of}
 use Rattle.src_meaning.specs.Forms as forms
 use Rattle.src_meaning.specs.Forms.{Destination, Into, coerced, Around, in_loop, loop_destination, Does, Meaning, moved, all_moved, is_never}

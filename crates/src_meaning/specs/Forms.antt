@@ -1,7 +1,7 @@
 -- How the forms of expressions and statements are evaluated, each from the meanings of its parts (The Rust Reference,
 -- "Expressions", "Statements", "Destructors"). All of it is over any effects: those on values give what a program
 -- does, those on what is present and gone give its free runs.
-use Rattle.std.specs.Prelude.{ℕ, zero, suc, ◌==◌, nat_lt, ℤ, Bool, true, false, List, [], ◌∷◌, map, Option, Some, None, if◌then◌else◌, option_and_then}
+use Rattle.std.specs.Prelude.{ℕ, zero, suc, ◌==◌, Bool, true, false, not, ◌||◌, List, [], ◌∷◌, map, Option, Some, None, if◌then◌else◌}
 use Rattle.std.specs.Option.{option_map_or}
 use Rattle.mir_base.specs.declared.operator.Cmp.{Cmp}
 use Rattle.mir_base.specs.declared.trace.Why.{Why}
@@ -9,9 +9,9 @@ use Rattle.mir_ty.specs.declared.ty.Ty.{Ty}
 use Rattle.mir_ty.specs.declared.ty.TyId.{TyId}
 use Rattle.mir_ty.specs.Facts.{needs_drop}
 use Rattle.mir_ty.specs.ItemTable.{ItemTable, type_at}
-use Rattle.store_model.specs.Effects.{Site, Operand, Moved, Copied, Number, Truth, UnitValue, Action, Put, Compare, Touch, Bounds, Borrow, Unsize, Test, IsTrue, HasVariant, Calm, Halt, NoStep, OutOfTicks, Out, Go, Unwind, Halts, Choice, Yes, No, Neither, Effects, on_go}
+use Rattle.store_model.specs.Effects.{Site, Operand, Moved, Copied, Number, Truth, UnitValue, Action, Put, Compare, Touch, Bounds, Borrow, Unsize, IsTrue, HasVariant, Calm, NoStep, OutOfTicks, Out, Go, Unwind, Halts, Choice, Yes, No, Neither, Effects, on_go}
 use Rattle.store_model.specs.NamedPlace.{Place, whole_local, before_element}
-use Rattle.src_meaning.specs.Scopes.{Entry, Scope, Scopes, entered, innermost, around_innermost, nearest_temporary, with_entry, with_pending, without_pending, without_operands, Exit, Value, Breaks, Continues, Returns, Panics, Run, At, Over, on_value, in_scopes, entry_site, leave, then_or_leave}
+use Rattle.src_meaning.specs.Scopes.{Entry, Scope, Scopes, entered, innermost, around_innermost, nearest_temporary, with_entry, with_pending, without_pending, without_operands, Exit, Value, Breaks, Continues, Returns, Panics, Run, At, Over, on_value, in_scopes, leave, then_or_leave}
 use Rattle.src_meaning.specs.Shape.{Head, Shape, Aliases, PatternTest, IsVariant, IsNumber, IsTruth, AnyOf, PatternTests, no_test, a_test, Alternatives, no_alternative, an_alternative, Bound, site_at, operand_at}
 
 -- where a value is made: in the entry with a key; or in one of its own, from which a box is coerced to a trait object
@@ -107,7 +107,7 @@ module _ {W : Type 0} (items : ItemTable) (p : Effects W) where
   deliver h action (Into key) S w = in_scopes S (p.act (action (record { node = h.id; place = whole_local key })) w)
   deliver h action (Coerced key trait_no to) S w =
       in_scopes S (on_go (p.act (action (record { node = h.id; place = whole_local key })) w)
-          (p.act (Unsize (record { node = h.id; place = whole_local to }) trait_no (moved key))))
+      (p.act (Unsize (record { node = h.id; place = whole_local to }) trait_no (moved key))))
 
   -- a node that is a scope for temporaries of its own
   abbrev pub in_own_scope : Bool → Does W → Does W
@@ -156,8 +156,8 @@ module _ {W : Type 0} (items : ItemTable) (p : Effects W) where
   reach_element h shape base index length around S w =
       on_value (base.reach around S w)
       (λ S w. on_value (index.evaluate around false (Into index.head.id) S w)
-          (λ S w. in_scopes S (on_go (p.act (Touch (site_at h (array_around (shape.place around.aliases)))) w)
-              (p.act (Bounds (Copied (site_of_key index.head.id)) length)))))
+      (λ S w. in_scopes S (on_go (p.act (Touch (site_at h (array_around (shape.place around.aliases)))) w)
+      (p.act (Bounds (Copied (site_of_key index.head.id)) length)))))
 
   abbrev pub borrowing : Head → Bool → Meaning W → Around W → Bool → Destination → Does W
   borrowing h unique base around own to S w =
@@ -184,9 +184,9 @@ module _ {W : Type 0} (items : ItemTable) (p : Effects W) where
   abbrev pub assigning : Head → Meaning W → Meaning W → Around W → Bool → Destination → Does W
   assigning h place value around own to S w =
       leave p (on_value (operand around value (entered own S) w)
-          (λ S w. on_value (place.reach around S w)
-              (λ S w. on_value (replacing (site_of place around) value.head.id S (dropped_first (needs_drop items place.head.ty) (site_of place around) w))
-                  (deliver h (λ site. Put site UnitValue) to))))
+      (λ S w. on_value (place.reach around S w)
+      (λ S w. on_value (replacing (site_of place around) value.head.id S (dropped_first (needs_drop items place.head.ty) (site_of place around) w))
+      (deliver h (λ site. Put site UnitValue) to))))
 
   -- Conditions and branches.
 
@@ -265,8 +265,8 @@ module _ {W : Type 0} (items : ItemTable) (p : Effects W) where
   if_taken around pattern scrutinee body otherwise S w =
       then_or_leave p (scrutinised around scrutinee (entered true S) w)
       (λ S w. chosen (all_hold (pattern.shape.tests (scrutinee.shape.place around.aliases)) w)
-          (λ w. leave p (on_value (bind innermost (pattern.shape.bindings (scrutinee.shape.place around.aliases)) S w) body))
-          (λ w. on_value (leave p (At Value S w)) otherwise))
+      (λ w. leave p (on_value (bind innermost (pattern.shape.bindings (scrutinee.shape.place around.aliases)) S w) body))
+      (λ w. on_value (leave p (At Value S w)) otherwise))
 
   -- no arm is left
   abbrev no_arm : Does W
@@ -279,7 +279,7 @@ module _ {W : Type 0} (items : ItemTable) (p : Effects W) where
   abbrev pub matching : Meaning W → List (Meaning W) → Around W → Bool → Destination → Does W
   matching scrutinee arms around own to S w =
       in_own_scope own (λ S w. on_value (scrutinised around scrutinee S w)
-          (arms_in_order arms (record around { matched = scrutinee.shape.place around.aliases }) to)) S w
+      (arms_in_order arms (record around { matched = scrutinee.shape.place around.aliases }) to)) S w
 
   -- an arm that is taken: its names are entries of the arm, and its body is a scope for temporaries
   abbrev taken_arm : Around W → List Bound → Meaning W → Destination → Does W
@@ -314,23 +314,19 @@ module _ {W : Type 0} (items : ItemTable) (p : Effects W) where
   abbrev pub evaluating : Meaning W → Around W → Does W
   evaluating m around S w =
       leave p (on_value (m.evaluate around false (Into m.head.id) (innermost (with_pending items (entry_of m.head)) (entered true S)) w)
-          (λ S w. At Value (innermost (becomes_entry (entry_of m.head)) S) w))
+      (λ S w. At Value (innermost (becomes_entry (entry_of m.head)) S) w))
 
   -- `let` of one name: the value is pending in the statement's scope, and then the youngest entry of the block
   abbrev let_name : Head → Meaning W → Around W → Does W
   let_name x m around S w =
       leave p (on_value (m.evaluate around false (Into x.id) (innermost (with_pending items (entry_of x)) (entered true S)) w)
-          (λ S w. At Value (around_innermost (with_entry items (entry_of x)) (innermost (without_pending (entry_of x)) S)) w))
+      (λ S w. At Value (around_innermost (with_entry items (entry_of x)) (innermost (without_pending (entry_of x)) S)) w))
 
-  abbrev pending_value : Bool → Head → Scopes → Scopes
-  pending_value true h S = S
-  pending_value false h S = innermost (with_pending items (entry_of h)) S
-
-  -- `let` of another pattern: from a place, or from a temporary of the statement
+  -- `let` of another pattern: from a place, or from a temporary of the statement, which is pending until it is complete
   abbrev let_parts : Meaning W → Meaning W → Around W → Does W
   let_parts pattern m around S w =
-      leave p (on_value (m.reach around (pending_value m.shape.is_place m.head (entered true S)) w)
-          (bind around_innermost (pattern.shape.bindings (m.shape.place around.aliases))))
+      leave p (on_value (m.reach around (when (not (m.shape.is_place || m.shape.in_destination)) (innermost (with_pending items (entry_of m.head))) (entered true S)) w)
+      (bind around_innermost (pattern.shape.bindings (m.shape.place around.aliases))))
 
   -- `let` without a value: its names are entries that are gone. One whose type needs dropping is gone already, since it
   -- is new or was dropped with its scope; another may hold the value of the turn of a loop before

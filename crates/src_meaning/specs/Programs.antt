@@ -15,13 +15,12 @@ use Rattle.store_model.specs.Entering.{Code, run_of}
 use Rattle.store_model.specs.Free.{Free, at_start, on_presence}
 use Rattle.store_model.specs.NamedPlace.{whole_local}
 use Rattle.store_model.specs.Standing.{Setting}
-use Rattle.store_model.specs.World.{Cells, World}
-use Rattle.typed_tree.specs.Nodes.{number_of, nodes_of, body_nodes}
-use Rattle.typed_tree.specs.Tree as tree
-use Rattle.typed_tree.specs.Tree.{Node, node, Form, ParamTree, BodyTree, ProgramTree}
+use Rattle.store_model.specs.World.{Cells}
+use Rattle.typed_tree.specs.Nodes.{number_of, body_nodes}
+use Rattle.typed_tree.specs.Tree.{Node, node, ParamTree, BodyTree, ProgramTree}
 use Rattle.src_meaning.specs.Evaluation.{meaning}
-use Rattle.src_meaning.specs.Forms.{Destination, Into, Around, Does, bind, site_of_key}
-use Rattle.src_meaning.specs.Scopes.{Entry, Scope, Scopes, innermost, entered, with_entry, with_pending, all_entries, Exit, Value, Breaks, Continues, Returns, Panics, Run, At, Over, on_value, entry_site, leave}
+use Rattle.src_meaning.specs.Forms.{Into, Around, Does, bind, site_of_key}
+use Rattle.src_meaning.specs.Scopes.{Entry, Scopes, innermost, entered, with_entry, with_pending, all_entries, Value, Breaks, Continues, Returns, Panics, Run, At, Over, on_value, entry_site, leave}
 use Rattle.src_meaning.specs.Shape.{shape}
 
 -- The key of a parameter is its pattern's number, that of the result the block's.
@@ -73,7 +72,7 @@ module _ {W : Type 0} (items : ItemTable) (p : Effects W) (most_turns : ℕ) whe
   abbrev pub activation : BodyTree → W → Out W
   activation body w =
       body_end (answer_key body) (leave p (on_value (params_entered body.params (entered true (answer_scope body)) w)
-          ((meaning items p most_turns body.block).evaluate (around_body body) false (Into (answer_key body)))))
+      ((meaning items p most_turns body.block).evaluate (around_body body) false (Into (answer_key body)))))
 
 -- The types under the keys of a body.
 

@@ -4,7 +4,7 @@ use Rattle.std.specs.Prelude.{ℕ, ◌==◌, Bool, true, false, List, [], ◌∷
 use Rattle.mir_ty.specs.declared.ty.TyId.{TyId}
 use Rattle.mir_ty.specs.Facts.{needs_drop}
 use Rattle.mir_ty.specs.ItemTable.{ItemTable}
-use Rattle.store_model.specs.Effects.{Site, Calm, Unwinding, Halt, Aborted, NoStep, Out, Go, Unwind, Halts, Effects}
+use Rattle.store_model.specs.Effects.{Site, Calm, Unwinding, Halt, Aborted, Out, Go, Unwind, Halts, Effects}
 use Rattle.store_model.specs.NamedPlace.{whole_local}
 
 -- a parameter, variable, operand or temporary, or a destination that is not complete

@@ -1,6 +1,6 @@
 -- What a node is by its form alone: a place, a value, or a pattern with its tests and its bindings (The Rust
 -- Reference, "Expressions", "Place Expressions and Value Expressions", and "Patterns").
-use Rattle.std.specs.Prelude.{ℕ, suc, ◌==◌, ℤ, Bool, true, false, List, [], ◌∷◌, ◌++◌, Option, Some, None, if◌then◌else◌, option_and_then}
+use Rattle.std.specs.Prelude.{ℕ, suc, ◌==◌, ℤ, Bool, true, false, List, [], ◌∷◌, ◌++◌, Option, Some, if◌then◌else◌}
 use Rattle.mir_base.specs.declared.int_kind.IntKind.{IntKind}
 use Rattle.mir_ty.specs.declared.ty.Ty.{Ty}
 use Rattle.mir_ty.specs.declared.ty.TyId.{TyId}
@@ -57,10 +57,10 @@ pub record Bound : Type 0 where
 
 pub record Shape : Type 0 where
   pub is_place : Bool
-  pub in_destination : Bool    -- a block, branch or loop, whose value is made in a destination that is pending
-  pub is_binding : Bool    -- a pattern that is one name
-  pub is_literal : Bool    -- a pattern that is one literal: its entry holds what the comparison gives
-  pub place : Aliases → Place    -- a value stands in a temporary under its own number
+  pub in_destination : Bool  -- a block, branch or loop, whose value is made in a destination that is pending
+  pub is_binding : Bool  -- a pattern that is one name
+  pub is_literal : Bool  -- a pattern that is one literal: its entry holds what the comparison gives
+  pub place : Aliases → Place  -- a value stands in a temporary under its own number
   pub tests : Place → PatternTests
   pub bindings : Place → List Bound
 

@@ -54,9 +54,9 @@ items = record {
   closures = [];
   bodies =
       head (codes "D::drop") (unique_d_ty ∷ []) unit
-        ∷ head (codes "take") (d_ty ∷ []) unit
-        ∷ head (codes "main") ([]) unit
-        ∷ [];
+      ∷ head (codes "take") (d_ty ∷ []) unit
+      ∷ head (codes "main") ([]) unit
+      ∷ [];
 }
 
 abbrev drop_d : BodyTree
@@ -73,8 +73,11 @@ abbrev part : ProgramTree
 part = record { items = items; bodies = drop_d ∷ take ∷ main_part ∷ [] }
 
 a_box_is_freed_without_a_moved_part : source part ([]) 100
-    ≡ (call 2 ∷ make 0 1 ∷ make 0 2 ∷ box 3 ∷ call 1 ∷ drop 0 1 ∷ return 0 ∷ return 1 ∷ drop 0 2 ∷ return 0 ∷ 
-      free 3 ∷ return 2 ∷ [], End.Returned)
+    ≡ (
+      call 2 ∷ make 0 1 ∷ make 0 2 ∷ box 3 ∷ call 1 ∷ drop 0 1 ∷ return 0 ∷ return 1 ∷ drop 0 2 ∷ return 0 ∷
+          free 3 ∷ return 2 ∷ [],
+      End.Returned,
+    )
 a_box_is_freed_without_a_moved_part = refl
 
 -- fn main() { forget((D(1), Box::new(D(2)))); }

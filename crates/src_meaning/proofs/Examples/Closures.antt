@@ -45,10 +45,10 @@ items = record {
   closures = (record { captures = d_ty ∷ d_ty ∷ []; body = 3 }) ∷ [];
   bodies =
       head (codes "D::drop") (unique_d_ty ∷ []) unit
-        ∷ head (codes "take") (d_ty ∷ []) unit
-        ∷ head (codes "main") ([]) unit
-        ∷ head (codes "main::closure#1") (closure_ty ∷ i32 ∷ []) unit
-        ∷ [];
+      ∷ head (codes "take") (d_ty ∷ []) unit
+      ∷ head (codes "main") ([]) unit
+      ∷ head (codes "main::closure#1") (closure_ty ∷ i32 ∷ []) unit
+      ∷ [];
 }
 
 abbrev drop_d : BodyTree
@@ -75,8 +75,11 @@ abbrev dropped : ProgramTree
 dropped = record { items = items; bodies = drop_d ∷ take ∷ main_dropped ∷ closure_1 ∷ [] }
 
 a_call_takes_the_closure : source called ([]) 100
-    ≡ (call 2 ∷ make 0 1 ∷ make 0 2 ∷ call 3 ∷ printed (pos 4) ∷ call 1 ∷ drop 0 1 ∷ return 0 ∷ return 1 ∷ 
-      drop 0 2 ∷ return 0 ∷ return 3 ∷ return 2 ∷ [], End.Returned)
+    ≡ (
+      call 2 ∷ make 0 1 ∷ make 0 2 ∷ call 3 ∷ printed (pos 4) ∷ call 1 ∷ drop 0 1 ∷ return 0 ∷ return 1 ∷
+          drop 0 2 ∷ return 0 ∷ return 3 ∷ return 2 ∷ [],
+      End.Returned,
+    )
 a_call_takes_the_closure = refl
 
 captures_are_dropped_in_the_order_of_the_list : source dropped ([]) 100

@@ -3,12 +3,11 @@ use Rattle.std.proofs.Common.{◌≡◌, refl, [], ◌∷◌, pos}
 use Rattle.std.specs.Prelude.{ℕ, List, Option, Some, None, Bool, true, false, codes}
 use Rattle.mir_base.specs.declared.int_kind.IntKind.{IntKind}
 use Rattle.mir_base.specs.declared.operator.Cmp.{Cmp}
-use Rattle.mir_base.specs.declared.trace.Event.TheVariants.{Dropped as drop, Panicked as panic}
 use Rattle.mir_ty.specs.declared.ty.Ty.{Ty}
 use Rattle.mir_ty.specs.declared.ty.TyId.{TyId}
 use Rattle.mir_ty.specs.ItemTable.{ItemTable}
 use Rattle.typed_tree.specs.declared.node.Use.{Use}
-use Rattle.typed_tree.specs.Tree.{no_node, a_node, no_field, a_field, absent, present, Number, Variable, Field, Comparison, Assign, Call, Make, Tuple, Ask, Block, Let, Evaluate, If, Loop, Binding, BodyTree}
+use Rattle.typed_tree.specs.Tree.{no_node, a_node, no_field, a_field, absent, present, Number, Variable, Field, Comparison, Assign, Call, Make, Tuple, Ask, Block, Let, Evaluate, If, Match, Arm, Loop, Wildcard, Binding, TuplePattern, BodyTree}
 use Rattle.src_meaning.proofs.Examples.Words.{n, used, param, ty_no, struct, head}
 use Rattle.std.specs.Prelude.{zero, suc, ◌&&◌, is_none}
 use Rattle.store_model.specs.Effects.{Site}
@@ -47,9 +46,9 @@ items = record {
   closures = [];
   bodies =
       head (codes "D::drop") (unique_d_ty ∷ []) unit
-        ∷ head (codes "take") (d_ty ∷ []) unit
-        ∷ head (codes "main") ([]) unit
-        ∷ [];
+      ∷ head (codes "take") (d_ty ∷ []) unit
+      ∷ head (codes "main") ([]) unit
+      ∷ [];
 }
 
 -- all lists of so many items
@@ -113,3 +112,17 @@ a_store_into_what_is_gone = refl
 
 no_longer_list : reaches_none_within main_part 0 ≡ false
 no_longer_list = refl
+
+-- fn main() { let t = (D(1), D(2)); take(t.0); match t { (_, _) => {} } }
+abbrev main_scrutinee : BodyTree
+main_scrutinee = record { number = 2; params = []; answer = unit; block = (n 0 unit (Block (a_node (n 1 unit (Let (used 2 tuple_d_d_ty Use.Move Binding) (present (n 3 tuple_d_d_ty (Tuple (a_node (n 4 d_ty (Make 0 0 (a_field 0 (n 5 i32 (Number (pos 1))) no_field))) (a_node (n 6 d_ty (Make 0 0 (a_field 0 (n 7 i32 (Number (pos 2))) no_field))) no_node))))))) (a_node (n 8 unit (Evaluate (n 9 unit (Call 1 (a_node (used 10 d_ty Use.Move (Field (n 11 tuple_d_d_ty (Variable 2)) 0)) no_node))))) no_node)) (present (n 12 unit (Match (used 13 tuple_d_d_ty Use.Borrow (Variable 2)) (a_node (n 14 unit (Arm (n 15 tuple_d_d_ty (TuplePattern (a_node (n 16 d_ty Wildcard) (a_node (n 17 d_ty Wildcard) no_node)))) absent (n 18 unit (Block no_node absent)))) no_node)))))) }
+
+a_scrutinee_is_borrowed_whole : node_of (reached_by items main_scrutinee (false ∷ [])) ≡ Some 13
+a_scrutinee_is_borrowed_whole = refl
+
+-- fn main() { let t = (D(1), D(2)); take(t.0); let (_, b) = t; }
+abbrev main_let : BodyTree
+main_let = record { number = 2; params = []; answer = unit; block = (n 0 unit (Block (a_node (n 1 unit (Let (used 2 tuple_d_d_ty Use.Move Binding) (present (n 3 tuple_d_d_ty (Tuple (a_node (n 4 d_ty (Make 0 0 (a_field 0 (n 5 i32 (Number (pos 1))) no_field))) (a_node (n 6 d_ty (Make 0 0 (a_field 0 (n 7 i32 (Number (pos 2))) no_field))) no_node))))))) (a_node (n 8 unit (Evaluate (n 9 unit (Call 1 (a_node (used 10 d_ty Use.Move (Field (n 11 tuple_d_d_ty (Variable 2)) 0)) no_node))))) (a_node (n 12 unit (Let (n 13 tuple_d_d_ty (TuplePattern (a_node (n 14 d_ty Wildcard) (a_node (used 15 d_ty Use.Move Binding) no_node)))) (present (n 16 tuple_d_d_ty (Variable 2))))) no_node))) absent)) }
+
+a_let_uses_only_what_it_takes : reaches_none_within main_let 5 ≡ true
+a_let_uses_only_what_it_takes = refl

@@ -42,9 +42,9 @@ items = record {
   closures = [];
   bodies =
       head (codes "D::drop") (unique_d_ty ∷ []) unit
-        ∷ head (codes "take") (d_ty ∷ []) unit
-        ∷ head (codes "main") ([]) unit
-        ∷ [];
+      ∷ head (codes "take") (d_ty ∷ []) unit
+      ∷ head (codes "main") ([]) unit
+      ∷ [];
 }
 
 abbrev drop_d : BodyTree
@@ -84,6 +84,9 @@ abbrev again : ProgramTree
 again = record { items = items; bodies = drop_d ∷ take ∷ main_again ∷ [] }
 
 a_moved_variable_is_assigned_again : source again ([]) 100
-    ≡ (call 2 ∷ make 0 1 ∷ call 1 ∷ drop 0 1 ∷ return 0 ∷ return 1 ∷ make 0 2 ∷ call 1 ∷ drop 0 2 ∷ 
-      return 0 ∷ return 1 ∷ return 2 ∷ [], End.Returned)
+    ≡ (
+      call 2 ∷ make 0 1 ∷ call 1 ∷ drop 0 1 ∷ return 0 ∷ return 1 ∷ make 0 2 ∷ call 1 ∷ drop 0 2 ∷
+          return 0 ∷ return 1 ∷ return 2 ∷ [],
+      End.Returned,
+    )
 a_moved_variable_is_assigned_again = refl

@@ -1,6 +1,6 @@
 -- Jumps out of loops, and what a turn holds.
 use Rattle.std.proofs.Common.{◌≡◌, refl, [], ◌∷◌, pos}
-use Rattle.std.specs.Prelude.{Some, None, true, false, codes}
+use Rattle.std.specs.Prelude.{Some, true, false, codes}
 use Rattle.mir_base.specs.declared.int_kind.IntKind.{IntKind}
 use Rattle.mir_base.specs.declared.operator.Cmp.{Cmp}
 use Rattle.mir_base.specs.declared.trace.End.{End}
@@ -46,10 +46,10 @@ items = record {
   closures = [];
   bodies =
       head (codes "D::drop") (unique_d_ty ∷ []) unit
-        ∷ head (codes "take") (d_ty ∷ []) unit
-        ∷ head (codes "main") ([]) unit
-        ∷ head (codes "j") (shared_d_ty ∷ []) j_ty
-        ∷ [];
+      ∷ head (codes "take") (d_ty ∷ []) unit
+      ∷ head (codes "main") ([]) unit
+      ∷ head (codes "j") (shared_d_ty ∷ []) j_ty
+      ∷ [];
 }
 
 abbrev drop_d : BodyTree
@@ -85,8 +85,11 @@ abbrev while_let : ProgramTree
 while_let = record { items = items; bodies = drop_d ∷ take ∷ main_while_let ∷ j ∷ [] }
 
 temporaries_live_to_the_end_of_the_turn : source while_let (pos 0 ∷ pos 1 ∷ []) 100
-    ≡ (call 2 ∷ make 0 1 ∷ call 3 ∷ asked (pos 0) ∷ return 3 ∷ printed (pos 7) ∷ drop 0 1 ∷ return 0 ∷ 
-      make 0 2 ∷ call 3 ∷ asked (pos 1) ∷ return 3 ∷ drop 0 2 ∷ return 0 ∷ return 2 ∷ [], End.Returned)
+    ≡ (
+      call 2 ∷ make 0 1 ∷ call 3 ∷ asked (pos 0) ∷ return 3 ∷ printed (pos 7) ∷ drop 0 1 ∷ return 0 ∷
+          make 0 2 ∷ call 3 ∷ asked (pos 1) ∷ return 3 ∷ drop 0 2 ∷ return 0 ∷ return 2 ∷ [],
+      End.Returned,
+    )
 temporaries_live_to_the_end_of_the_turn = refl
 
 -- fn main() { while ask() == 0 { let x = D(1); continue; } }
@@ -97,6 +100,9 @@ abbrev continuing : ProgramTree
 continuing = record { items = items; bodies = drop_d ∷ take ∷ main_continue ∷ j ∷ [] }
 
 a_continue_leaves_the_body : source continuing (pos 0 ∷ pos 0 ∷ pos 1 ∷ []) 100
-    ≡ (call 2 ∷ asked (pos 0) ∷ make 0 1 ∷ drop 0 1 ∷ return 0 ∷ asked (pos 0) ∷ make 0 2 ∷ drop 0 2 ∷ 
-      return 0 ∷ asked (pos 1) ∷ return 2 ∷ [], End.Returned)
+    ≡ (
+      call 2 ∷ asked (pos 0) ∷ make 0 1 ∷ drop 0 1 ∷ return 0 ∷ asked (pos 0) ∷ make 0 2 ∷ drop 0 2 ∷
+          return 0 ∷ asked (pos 1) ∷ return 2 ∷ [],
+      End.Returned,
+    )
 a_continue_leaves_the_body = refl

@@ -49,15 +49,15 @@ items = record {
   closures = [];
   bodies =
       head (codes "D::drop") (unique_d_ty ∷ []) unit
-        ∷ head (codes "take") (d_ty ∷ []) unit
-        ∷ head (codes "a") ([]) d_ty
-        ∷ head (codes "t") ([]) d_ty
-        ∷ head (codes "g") (shared_d_ty ∷ []) d_ty
-        ∷ head (codes "f") (d_ty ∷ d_ty ∷ d_ty ∷ []) unit
-        ∷ head (codes "main") ([]) unit
-        ∷ head (codes "f2") (d_ty ∷ i32 ∷ i32 ∷ []) unit
-        ∷ head (codes "g2") (shared_d_ty ∷ []) i32
-        ∷ [];
+      ∷ head (codes "take") (d_ty ∷ []) unit
+      ∷ head (codes "a") ([]) d_ty
+      ∷ head (codes "t") ([]) d_ty
+      ∷ head (codes "g") (shared_d_ty ∷ []) d_ty
+      ∷ head (codes "f") (d_ty ∷ d_ty ∷ d_ty ∷ []) unit
+      ∷ head (codes "main") ([]) unit
+      ∷ head (codes "f2") (d_ty ∷ i32 ∷ i32 ∷ []) unit
+      ∷ head (codes "g2") (shared_d_ty ∷ []) i32
+      ∷ [];
 }
 
 abbrev drop_d : BodyTree
@@ -94,8 +94,11 @@ abbrev break_in_operands : ProgramTree
 break_in_operands = record { items = items; bodies = drop_d ∷ take ∷ a ∷ t ∷ g ∷ f ∷ main_loop ∷ f2 ∷ g2 ∷ [] }
 
 break_drops_operands : source break_in_operands ([]) 100
-    ≡ (call 6 ∷ make 0 1 ∷ make 0 2 ∷ make 0 3 ∷ make 0 4 ∷ drop 0 4 ∷ return 0 ∷ drop 0 3 ∷ return 0 ∷ 
-      drop 0 2 ∷ return 0 ∷ drop 0 1 ∷ return 0 ∷ return 6 ∷ [], End.Returned)
+    ≡ (
+      call 6 ∷ make 0 1 ∷ make 0 2 ∷ make 0 3 ∷ make 0 4 ∷ drop 0 4 ∷ return 0 ∷ drop 0 3 ∷ return 0 ∷
+          drop 0 2 ∷ return 0 ∷ drop 0 1 ∷ return 0 ∷ return 6 ∷ [],
+      End.Returned,
+    )
 break_drops_operands = refl
 
 -- fn main() { f(a(), g(&t()), panic!()); }
@@ -106,8 +109,11 @@ abbrev panic_in_operands : ProgramTree
 panic_in_operands = record { items = items; bodies = drop_d ∷ take ∷ a ∷ t ∷ g ∷ f ∷ main_panic ∷ f2 ∷ g2 ∷ [] }
 
 a_panic_drops_operands_before_temporaries_of_the_statement : source panic_in_operands ([]) 100
-    ≡ (call 6 ∷ call 2 ∷ make 0 1 ∷ return 2 ∷ call 3 ∷ make 0 2 ∷ return 3 ∷ call 4 ∷ make 0 3 ∷ return 4 ∷ 
-      panic Why.Explicit ∷ drop 0 3 ∷ return 0 ∷ drop 0 1 ∷ return 0 ∷ drop 0 2 ∷ return 0 ∷ unwind 6 ∷ [], End.Panicked)
+    ≡ (
+      call 6 ∷ call 2 ∷ make 0 1 ∷ return 2 ∷ call 3 ∷ make 0 2 ∷ return 3 ∷ call 4 ∷ make 0 3 ∷ return 4 ∷
+          panic Why.Explicit ∷ drop 0 3 ∷ return 0 ∷ drop 0 1 ∷ return 0 ∷ drop 0 2 ∷ return 0 ∷ unwind 6 ∷ [],
+      End.Panicked,
+    )
 a_panic_drops_operands_before_temporaries_of_the_statement = refl
 
 -- fn main() { f2(D(6), g2(&D(7)), panic!()) }
@@ -118,6 +124,9 @@ abbrev panic_in_a_tail : ProgramTree
 panic_in_a_tail = record { items = items; bodies = drop_d ∷ take ∷ a ∷ t ∷ g ∷ f ∷ main_tail ∷ f2 ∷ g2 ∷ [] }
 
 operands_and_temporaries_of_one_node_go_by_age : source panic_in_a_tail ([]) 100
-    ≡ (call 6 ∷ make 0 1 ∷ make 0 2 ∷ call 8 ∷ return 8 ∷ panic Why.Explicit ∷ drop 0 2 ∷ return 0 ∷ 
-      drop 0 1 ∷ return 0 ∷ unwind 6 ∷ [], End.Panicked)
+    ≡ (
+      call 6 ∷ make 0 1 ∷ make 0 2 ∷ call 8 ∷ return 8 ∷ panic Why.Explicit ∷ drop 0 2 ∷ return 0 ∷
+          drop 0 1 ∷ return 0 ∷ unwind 6 ∷ [],
+      End.Panicked,
+    )
 operands_and_temporaries_of_one_node_go_by_age = refl

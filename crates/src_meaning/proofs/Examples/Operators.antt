@@ -50,9 +50,9 @@ items = record {
   closures = [];
   bodies =
       head (codes "D::drop") (unique_d_ty ∷ []) unit
-        ∷ head (codes "take") (d_ty ∷ []) unit
-        ∷ head (codes "main") ([]) unit
-        ∷ [];
+      ∷ head (codes "take") (d_ty ∷ []) unit
+      ∷ head (codes "main") ([]) unit
+      ∷ [];
 }
 
 abbrev drop_d : BodyTree
@@ -69,8 +69,11 @@ abbrev past_the_end : ProgramTree
 past_the_end = record { items = items; bodies = drop_d ∷ take ∷ main_index ∷ [] }
 
 an_index_past_the_end : source past_the_end ([]) 100
-    ≡ (call 2 ∷ make 0 1 ∷ make 0 2 ∷ panic Why.Index ∷ drop 0 1 ∷ return 0 ∷ drop 0 2 ∷ return 0 ∷ 
-      unwind 2 ∷ [], End.Panicked)
+    ≡ (
+      call 2 ∷ make 0 1 ∷ make 0 2 ∷ panic Why.Index ∷ drop 0 1 ∷ return 0 ∷ drop 0 2 ∷ return 0 ∷
+          unwind 2 ∷ [],
+      End.Panicked,
+    )
 an_index_past_the_end = refl
 
 -- the same with let i: usize = 1
@@ -81,8 +84,11 @@ abbrev within : ProgramTree
 within = record { items = items; bodies = drop_d ∷ take ∷ main_element ∷ [] }
 
 an_index_within_the_array : source within ([]) 100
-    ≡ (call 2 ∷ make 0 1 ∷ make 0 2 ∷ printed (pos 6) ∷ drop 0 1 ∷ return 0 ∷ drop 0 2 ∷ return 0 ∷ 
-      return 2 ∷ [], End.Returned)
+    ≡ (
+      call 2 ∷ make 0 1 ∷ make 0 2 ∷ printed (pos 6) ∷ drop 0 1 ∷ return 0 ∷ drop 0 2 ∷ return 0 ∷
+          return 2 ∷ [],
+      End.Returned,
+    )
 an_index_within_the_array = refl
 
 -- fn main() { print(2147483647 + ask()); }

@@ -44,9 +44,9 @@ items = record {
   closures = [];
   bodies =
       head (codes "N::drop") (unique_n_ty ∷ []) unit
-        ∷ head (codes "h") (n_ty ∷ []) n_ty
-        ∷ head (codes "main") ([]) unit
-        ∷ [];
+      ∷ head (codes "h") (n_ty ∷ []) n_ty
+      ∷ head (codes "main") ([]) unit
+      ∷ [];
 }
 
 -- fn drop(&mut self) { if self.0 < 0 { panic!() } }
@@ -72,13 +72,19 @@ abbrev twice : ProgramTree
 twice = record { items = items; bodies = drop_n ∷ h ∷ main_twice ∷ [] }
 
 the_rest_of_a_value_is_dropped : source struct_ ([]) 100
-    ≡ (call 2 ∷ make 0 1 ∷ make 0 2 ∷ make 0 3 ∷ drop 0 1 ∷ panic Why.Explicit ∷ unwind 0 ∷ drop 0 2 ∷ 
-      return 0 ∷ drop 0 3 ∷ return 0 ∷ unwind 2 ∷ [], End.Panicked)
+    ≡ (
+      call 2 ∷ make 0 1 ∷ make 0 2 ∷ make 0 3 ∷ drop 0 1 ∷ panic Why.Explicit ∷ unwind 0 ∷ drop 0 2 ∷
+          return 0 ∷ drop 0 3 ∷ return 0 ∷ unwind 2 ∷ [],
+      End.Panicked,
+    )
 the_rest_of_a_value_is_dropped = refl
 
 a_second_panic_aborts : source twice ([]) 100
-    ≡ (call 2 ∷ make 0 1 ∷ make 0 2 ∷ make 0 3 ∷ drop 0 1 ∷ panic Why.Explicit ∷ unwind 0 ∷ drop 0 2 ∷ 
-      panic Why.Explicit ∷ unwind 0 ∷ [], End.Aborted)
+    ≡ (
+      call 2 ∷ make 0 1 ∷ make 0 2 ∷ make 0 3 ∷ drop 0 1 ∷ panic Why.Explicit ∷ unwind 0 ∷ drop 0 2 ∷
+          panic Why.Explicit ∷ unwind 0 ∷ [],
+      End.Aborted,
+    )
 a_second_panic_aborts = refl
 
 -- fn main() { let mut x = N(-1); x = N(2); }
@@ -89,8 +95,11 @@ abbrev assigned : ProgramTree
 assigned = record { items = items; bodies = drop_n ∷ h ∷ main_assign ∷ [] }
 
 the_new_value_is_stored_all_the_same : source assigned ([]) 100
-    ≡ (call 2 ∷ make 0 1 ∷ make 0 2 ∷ drop 0 1 ∷ panic Why.Explicit ∷ unwind 0 ∷ drop 0 2 ∷ return 0 ∷ 
-      unwind 2 ∷ [], End.Panicked)
+    ≡ (
+      call 2 ∷ make 0 1 ∷ make 0 2 ∷ drop 0 1 ∷ panic Why.Explicit ∷ unwind 0 ∷ drop 0 2 ∷ return 0 ∷
+          unwind 2 ∷ [],
+      End.Panicked,
+    )
 the_new_value_is_stored_all_the_same = refl
 
 -- fn main() { h(N(-1)); }
@@ -101,8 +110,11 @@ abbrev result : ProgramTree
 result = record { items = items; bodies = drop_n ∷ h ∷ main_result ∷ [] }
 
 a_result_is_dropped_after_the_parameters : source result ([]) 100
-    ≡ (call 2 ∷ make 0 1 ∷ call 1 ∷ make 0 2 ∷ drop 0 1 ∷ panic Why.Explicit ∷ unwind 0 ∷ drop 0 2 ∷ 
-      return 0 ∷ unwind 1 ∷ unwind 2 ∷ [], End.Panicked)
+    ≡ (
+      call 2 ∷ make 0 1 ∷ call 1 ∷ make 0 2 ∷ drop 0 1 ∷ panic Why.Explicit ∷ unwind 0 ∷ drop 0 2 ∷
+          return 0 ∷ unwind 1 ∷ unwind 2 ∷ [],
+      End.Panicked,
+    )
 a_result_is_dropped_after_the_parameters = refl
 
 -- fn main() { let x = { let y = N(-1); N(7) }; }
@@ -113,6 +125,9 @@ abbrev pending : ProgramTree
 pending = record { items = items; bodies = drop_n ∷ h ∷ main_pending ∷ [] }
 
 a_pending_destination_is_dropped : source pending ([]) 100
-    ≡ (call 2 ∷ make 0 1 ∷ make 0 2 ∷ drop 0 1 ∷ panic Why.Explicit ∷ unwind 0 ∷ drop 0 2 ∷ return 0 ∷ 
-      unwind 2 ∷ [], End.Panicked)
+    ≡ (
+      call 2 ∷ make 0 1 ∷ make 0 2 ∷ drop 0 1 ∷ panic Why.Explicit ∷ unwind 0 ∷ drop 0 2 ∷ return 0 ∷
+          unwind 2 ∷ [],
+      End.Panicked,
+    )
 a_pending_destination_is_dropped = refl

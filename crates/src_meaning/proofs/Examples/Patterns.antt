@@ -1,6 +1,6 @@
 -- Names of patterns, matches, and guards.
 use Rattle.std.proofs.Common.{◌≡◌, refl, [], ◌∷◌, pos}
-use Rattle.std.specs.Prelude.{Some, None, true, codes}
+use Rattle.std.specs.Prelude.{Some, true, codes}
 use Rattle.mir_base.specs.declared.int_kind.IntKind.{IntKind}
 use Rattle.mir_base.specs.declared.operator.Cmp.{Cmp}
 use Rattle.mir_base.specs.declared.trace.End.{End}
@@ -52,11 +52,11 @@ items = record {
   closures = [];
   bodies =
       head (codes "D::drop") (unique_d_ty ∷ []) unit
-        ∷ head (codes "take") (d_ty ∷ []) unit
-        ∷ head (codes "p") (tuple_d_d_ty ∷ tuple_d_d_ty ∷ []) unit
-        ∷ head (codes "pair") ([]) tuple_d_d_ty
-        ∷ head (codes "main") ([]) unit
-        ∷ [];
+      ∷ head (codes "take") (d_ty ∷ []) unit
+      ∷ head (codes "p") (tuple_d_d_ty ∷ tuple_d_d_ty ∷ []) unit
+      ∷ head (codes "pair") ([]) tuple_d_d_ty
+      ∷ head (codes "main") ([]) unit
+      ∷ [];
 }
 
 abbrev drop_d : BodyTree
@@ -80,8 +80,11 @@ abbrev params : ProgramTree
 params = record { items = items; bodies = drop_d ∷ take ∷ p ∷ pair ∷ main_params ∷ [] }
 
 names_of_parameters_are_entries_after_their_parameter : source params ([]) 100
-    ≡ (call 4 ∷ make 0 1 ∷ make 0 2 ∷ make 0 3 ∷ make 0 4 ∷ call 2 ∷ drop 0 4 ∷ return 0 ∷ drop 0 3 ∷ 
-      return 0 ∷ drop 0 1 ∷ return 0 ∷ drop 0 2 ∷ return 0 ∷ return 2 ∷ return 4 ∷ [], End.Returned)
+    ≡ (
+      call 4 ∷ make 0 1 ∷ make 0 2 ∷ make 0 3 ∷ make 0 4 ∷ call 2 ∷ drop 0 4 ∷ return 0 ∷ drop 0 3 ∷
+          return 0 ∷ drop 0 1 ∷ return 0 ∷ drop 0 2 ∷ return 0 ∷ return 2 ∷ return 4 ∷ [],
+      End.Returned,
+    )
 names_of_parameters_are_entries_after_their_parameter = refl
 
 -- fn main() { let (a, _) = pair(); print(7); }
@@ -92,8 +95,11 @@ abbrev let_ : ProgramTree
 let_ = record { items = items; bodies = drop_d ∷ take ∷ p ∷ pair ∷ main_let ∷ [] }
 
 what_a_let_does_not_take_is_dropped_with_the_statement : source let_ ([]) 100
-    ≡ (call 4 ∷ call 3 ∷ make 0 1 ∷ make 0 2 ∷ return 3 ∷ drop 0 2 ∷ return 0 ∷ printed (pos 7) ∷ drop 0 1 ∷ 
-      return 0 ∷ return 4 ∷ [], End.Returned)
+    ≡ (
+      call 4 ∷ call 3 ∷ make 0 1 ∷ make 0 2 ∷ return 3 ∷ drop 0 2 ∷ return 0 ∷ printed (pos 7) ∷ drop 0 1 ∷
+          return 0 ∷ return 4 ∷ [],
+      End.Returned,
+    )
 what_a_let_does_not_take_is_dropped_with_the_statement = refl
 
 -- fn main() { let j = J::One(D(1), 4); match j { J::One(d, n) if n == ask() => take(d), J::One(_, n) => print(n), J::None => {} } }

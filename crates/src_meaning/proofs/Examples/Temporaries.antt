@@ -1,6 +1,6 @@
 -- Where the temporaries of a tail, of a condition and of `if let` are dropped.
 use Rattle.std.proofs.Common.{◌≡◌, refl, [], ◌∷◌, pos}
-use Rattle.std.specs.Prelude.{Some, None, true, false, codes}
+use Rattle.std.specs.Prelude.{Some, true, false, codes}
 use Rattle.mir_base.specs.declared.int_kind.IntKind.{IntKind}
 use Rattle.mir_base.specs.declared.operator.Cmp.{Cmp}
 use Rattle.mir_base.specs.declared.trace.End.{End}
@@ -46,12 +46,12 @@ items = record {
   closures = [];
   bodies =
       head (codes "D::drop") (unique_d_ty ∷ []) unit
-        ∷ head (codes "take") (d_ty ∷ []) unit
-        ∷ head (codes "g") (shared_d_ty ∷ []) i32
-        ∷ head (codes "h") ([]) i32
-        ∷ head (codes "main") ([]) unit
-        ∷ head (codes "j") (shared_d_ty ∷ []) j_ty
-        ∷ [];
+      ∷ head (codes "take") (d_ty ∷ []) unit
+      ∷ head (codes "g") (shared_d_ty ∷ []) i32
+      ∷ head (codes "h") ([]) i32
+      ∷ head (codes "main") ([]) unit
+      ∷ head (codes "j") (shared_d_ty ∷ []) j_ty
+      ∷ [];
 }
 
 abbrev drop_d : BodyTree
@@ -78,8 +78,11 @@ abbrev tail : ProgramTree
 tail = record { items = items; bodies = drop_d ∷ take ∷ g ∷ h ∷ main_h ∷ j ∷ [] }
 
 of_a_tail_before_the_locals : source tail ([]) 100
-    ≡ (call 4 ∷ call 3 ∷ make 0 1 ∷ make 0 2 ∷ call 2 ∷ return 2 ∷ drop 0 2 ∷ return 0 ∷ drop 0 1 ∷ 
-      return 0 ∷ return 3 ∷ printed (pos 5) ∷ return 4 ∷ [], End.Returned)
+    ≡ (
+      call 4 ∷ call 3 ∷ make 0 1 ∷ make 0 2 ∷ call 2 ∷ return 2 ∷ drop 0 2 ∷ return 0 ∷ drop 0 1 ∷
+          return 0 ∷ return 3 ∷ printed (pos 5) ∷ return 4 ∷ [],
+      End.Returned,
+    )
 of_a_tail_before_the_locals = refl
 
 -- fn main() { if let J::One(b) = j(&D(1)) { print(1); } else { print(2); } }

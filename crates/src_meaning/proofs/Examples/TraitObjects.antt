@@ -68,14 +68,14 @@ items = record {
   closures = [];
   bodies =
       head (codes "D::drop") (unique_d_ty ∷ []) unit
-        ∷ head (codes "take") (d_ty ∷ []) unit
-        ∷ head (codes "E::drop") (unique_e_ty ∷ []) unit
-        ∷ head (codes "D::show") (shared_d_ty ∷ []) unit
-        ∷ head (codes "E::show") (shared_e_ty ∷ []) unit
-        ∷ head (codes "pick") ([]) boxed_dyn_show_ty
-        ∷ head (codes "run") (boxed_dyn_show_ty ∷ []) unit
-        ∷ head (codes "main") ([]) unit
-        ∷ [];
+      ∷ head (codes "take") (d_ty ∷ []) unit
+      ∷ head (codes "E::drop") (unique_e_ty ∷ []) unit
+      ∷ head (codes "D::show") (shared_d_ty ∷ []) unit
+      ∷ head (codes "E::show") (shared_e_ty ∷ []) unit
+      ∷ head (codes "pick") ([]) boxed_dyn_show_ty
+      ∷ head (codes "run") (boxed_dyn_show_ty ∷ []) unit
+      ∷ head (codes "main") ([]) unit
+      ∷ [];
 }
 
 abbrev drop_d : BodyTree
@@ -111,11 +111,17 @@ abbrev shown : ProgramTree
 shown = record { items = items; bodies = drop_d ∷ take ∷ drop_e ∷ show_d ∷ show_e ∷ pick ∷ run ∷ main_ ∷ [] }
 
 by_the_impl_of_e : source shown (pos 1 ∷ []) 100
-    ≡ (call 7 ∷ call 5 ∷ asked (pos 1) ∷ make 1 1 ∷ box 2 ∷ return 5 ∷ call 6 ∷ call 4 ∷ printed (pos 9) ∷ 
-      return 4 ∷ panic Why.Explicit ∷ drop 1 1 ∷ return 2 ∷ free 2 ∷ unwind 6 ∷ unwind 7 ∷ [], End.Panicked)
+    ≡ (
+      call 7 ∷ call 5 ∷ asked (pos 1) ∷ make 1 1 ∷ box 2 ∷ return 5 ∷ call 6 ∷ call 4 ∷ printed (pos 9) ∷
+          return 4 ∷ panic Why.Explicit ∷ drop 1 1 ∷ return 2 ∷ free 2 ∷ unwind 6 ∷ unwind 7 ∷ [],
+      End.Panicked,
+    )
 by_the_impl_of_e = refl
 
 by_the_impl_of_d : source shown (pos 0 ∷ []) 100
-    ≡ (call 7 ∷ call 5 ∷ asked (pos 0) ∷ make 0 1 ∷ box 2 ∷ return 5 ∷ call 6 ∷ call 3 ∷ printed (pos 1) ∷ 
-      return 3 ∷ panic Why.Explicit ∷ drop 0 1 ∷ return 0 ∷ free 2 ∷ unwind 6 ∷ unwind 7 ∷ [], End.Panicked)
+    ≡ (
+      call 7 ∷ call 5 ∷ asked (pos 0) ∷ make 0 1 ∷ box 2 ∷ return 5 ∷ call 6 ∷ call 3 ∷ printed (pos 1) ∷
+          return 3 ∷ panic Why.Explicit ∷ drop 0 1 ∷ return 0 ∷ free 2 ∷ unwind 6 ∷ unwind 7 ∷ [],
+      End.Panicked,
+    )
 by_the_impl_of_d = refl
