@@ -1,8 +1,9 @@
 mod CountLemmas
+mod DropExamples
+mod PlacePieces
 pub mod DataLemmas
 pub mod PartLaws
 pub mod PlaceLaws
-mod PlacePieces
 pub mod PlaceSteps
 pub mod SerialLaws
 pub mod WholenessLaws

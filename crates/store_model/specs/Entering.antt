@@ -1,6 +1,6 @@
 -- How a body is entered and left, and the run of a whole program: the same for the source and for a graph, whatever
 -- is done within a body (The Rust Reference, "Functions"; "Destructors").
-use Rattle.std.specs.Prelude.{ℕ, zero, suc, ℤ, Bool, true, false, List, [], ◌∷◌}
+use Rattle.std.specs.Prelude.{ℕ, zero, suc, ℤ, List, [], ◌∷◌}
 use Rattle.mir_base.specs.declared.trace.End.{End}
 use Rattle.mir_base.specs.declared.trace.Event.{Event}
 use Rattle.mir_base.specs.Trace.{Trace}
