@@ -98,6 +98,10 @@ form_of = fold-Form plain.Form plain.Node (ℕ × plain.Node) form_layer node_la
 abbrev pub field_of : NumberedField → ℕ × plain.Node
 field_of = fold-NumberedField plain.Form plain.Node (ℕ × plain.Node) form_layer node_layer field_layer
 
+abbrev pub maybe_of : Option (Box Node Global) → MaybeNode
+maybe_of None = absent
+maybe_of (Some boxed) = present (tree_of boxed.value)
+
 abbrev pub param_tree : Param → ParamTree
 param_tree param = record { pattern = tree_of param.pattern; ty = param.ty }
 
