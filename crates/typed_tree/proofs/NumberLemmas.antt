@@ -1,11 +1,13 @@
 -- What the first node with a number says of all of them, and numbers that rise.
-use Rattle.std.proofs.Common.{◌≡◌, ℕ, ◌==◌, ◌<◌, true, false, List, [], ◌∷◌, ◌↔◌, Option, Some, None, Contains, All, get_or, refl, sym, ap, subst, ◌∙◌, ◌⊎◌, inl, inr, arith, IfSome}
+use Rattle.std.proofs.Common.{◌≡◌, ◌≢◌, ℕ, ◌==◌, ◌<◌, true, false, List, [], ◌∷◌, ◌↔◌, Option, Some, None, Contains, All, get_or, refl, sym, ap, subst, ◌∙◌, ◌⊎◌, inl, inr, arith, IfSome}
 use Rattle.std.proofs.lemmas.Bool.{cases_Bool, cases_order, eqb-true, eqb-false}
 use Rattle.std.proofs.lemmas.List.{length-map, get_or-map, get_or_default}
 use Rattle.std.proofs.lemmas.List.Elements.{All-nil, All-cons, All-contains, Contains-append_left, Contains-append_right, Contains-push}
 use Rattle.std.proofs.lemmas.List.Kept.{AllPairs-from_increasing}
 use Rattle.std.proofs.lemmas.Option.{none-some, same_Some}
 use Rattle.std.specs.Borrow.{Bor}
+use Rattle.std.specs.List.{AllPairs}
+use Rattle.std.specs.List.Sorted.{IsStrictlyIncreasing}
 use Rattle.typed_tree.specs.declared.node.Node.{Node}
 use Rattle.typed_tree.specs.Tree as plain
 use Rattle.typed_tree.specs.Tree.{BodyTree}
@@ -65,7 +67,10 @@ absent_is body id None is = (λ _ n has. All-contains (λ n. ¬ (number_of n ≡
 absent_is body id (Some found) is = (λ none. absurd (none-some found (sym none)), λ nowhere. absurd (nowhere (tree_of found.now) (found_is body id (Some found) is)))
 
 -- numbers that rise are distinct
-pub distinct_in_order : (body : BodyTree) → IsNumberedInOrder body → HasDistinctNumbers body
-distinct_in_order body rises i j d below within =
-    let less : get_or (numbers_of body) i d < get_or (numbers_of body) j d = AllPairs-from_increasing (numbers_of body) rises i j d below within in
+pub distinct_where_rising : (numbers : List ℕ) → IsStrictlyIncreasing numbers → AllPairs (λ a b. a ≢ b) numbers
+distinct_where_rising numbers rises i j d below within =
+    let less : get_or numbers i d < get_or numbers j d = AllPairs-from_increasing numbers rises i j d below within in
     λ same. absurd (omega arith)
+
+pub distinct_in_order : (body : BodyTree) → IsNumberedInOrder body → HasDistinctNumbers body
+distinct_in_order body = distinct_where_rising (numbers_of body)
