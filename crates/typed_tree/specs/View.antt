@@ -91,6 +91,7 @@ field_layer field = (field.number, field.value)
 abbrev pub tree_of : Node → plain.Node
 tree_of = fold-Node plain.Form plain.Node (ℕ × plain.Node) form_layer node_layer field_layer
 
+-- the plain form of a form
 abbrev pub form_of : Form → plain.Form
 form_of = fold-Form plain.Form plain.Node (ℕ × plain.Node) form_layer node_layer field_layer
 
@@ -98,10 +99,12 @@ form_of = fold-Form plain.Form plain.Node (ℕ × plain.Node) form_layer node_la
 abbrev pub field_of : NumberedField → ℕ × plain.Node
 field_of = fold-NumberedField plain.Form plain.Node (ℕ × plain.Node) form_layer node_layer field_layer
 
+-- the plain tree of a node, if there is one
 abbrev pub maybe_of : Option (Box Node Global) → MaybeNode
 maybe_of None = absent
 maybe_of (Some boxed) = present (tree_of boxed.value)
 
+-- the plain trees of a parameter, a body and a program
 abbrev pub param_tree : Param → ParamTree
 param_tree param = record { pattern = tree_of param.pattern; ty = param.ty }
 
