@@ -1,0 +1,4 @@
+pub mod NumberLemmas
+pub mod SampleLemmas
+pub mod SearchLemmas
+pub mod ViewLemmas

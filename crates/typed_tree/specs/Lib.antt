@@ -1,2 +1,4 @@
-pub mod Tree
+pub mod Laws
 pub mod Nodes
+pub mod Tree
+pub mod View

@@ -4,6 +4,7 @@ use Rattle.std.specs.List.{find, AllPairs}
 use Rattle.std.specs.List.Sorted.{IsStrictlyIncreasing}
 use Rattle.typed_tree.specs.Tree.{Node, node, Nodes, no_node, a_node, Fields, no_field, a_field, MaybeNode, absent, present, Form, Number, Truth, UnitValue, Variable, Captured, Field, Index, Deref, Not, Negate, Arithmetic, Comparison, And, Or, Assign, Call, MethodCall, VirtualCall, ClosureCall, Make, Tuple, Array, Closure, NewBox, Print, Ask, DropValue, Forget, Panic, Borrow, Unsize, Block, Let, Evaluate, If, IfLet, Match, Arm, Loop, While, WhileLet, Break, Continue, Return, Wildcard, Binding, NumberPattern, TruthPattern, StructPattern, VariantPattern, TuplePattern, ArrayPattern, OrPattern, ParamTree, BodyTree}
 
+-- the number of a node
 abbrev pub number_of : Node → ℕ
 number_of (node id at ty by form) = id
 
@@ -12,6 +13,7 @@ abbrev mutual
   pub nodes_of : Node → List Node
   nodes_of (node id at ty by form) = node id at ty by form ∷ nodes_in form
 
+  -- the nodes of the children of a form
   pub nodes_in : Form → List Node
   nodes_in (Number value) = []
   nodes_in (Truth value) = []
@@ -67,6 +69,7 @@ abbrev mutual
   nodes_in (ArrayPattern elements) = nodes_among elements
   nodes_in (OrPattern alternatives) = nodes_among alternatives
 
+  -- the nodes of some nodes, of some fields, and of a node if there is one
   pub nodes_among : Nodes → List Node
   nodes_among no_node = []
   nodes_among (a_node first rest) = nodes_of first ++ nodes_among rest
