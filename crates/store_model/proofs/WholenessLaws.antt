@@ -1,12 +1,12 @@
 -- The laws of whole values.
-use Rattle.std.proofs.Common.{◌≡◌, ◌↔◌, inl, inr, ℕ, zero, suc, List, [], ◌∷◌, Some, None, refl, sym, ◌∙◌, subst, All}
+use Rattle.std.proofs.Common.{◌≡◌, ◌↔◌, inl, inr, ℕ, zero, suc, Bool, true, false, ◌&&◌, IsTrue, List, [], ◌∷◌, Some, None, refl, sym, ◌∙◌, subst, true≢false, All}
 use Rattle.std.specs.Option.{option_and_then}
 use Rattle.std.proofs.lemmas.List.Elements.{All-nil, All-head, All-tail, All-cons}
 use Rattle.store_model.specs.declared.address.At.{At}
 use Rattle.store_model.specs.declared.address.At.TheVariants.{Part, Inside}
 use Rattle.store_model.specs.Data.{Datum, Data, Gone, Number, Truth, UnitValue, Aggregate, Box, Address, no_part, a_part, data_from}
 use Rattle.store_model.specs.Places.{part, with_part, part_at, with_part_at, standing_at, replaced}
-use Rattle.store_model.specs.Wholeness.{IsWhole, AreWhole}
+use Rattle.store_model.specs.Wholeness.{IsWhole, AreWhole, is_whole, are_whole}
 use Rattle.store_model.proofs.PlaceLaws.{none_or_some, standing_at-step, standing_at-no_step, replaced-step, replaced-no_step, standing_at-replaced}
 
 IsWhole-part_at : (number : ℕ) (parts : Data) (inner : Datum) → AreWhole parts → part_at number parts ≡ Some inner → IsWhole inner
@@ -80,3 +80,25 @@ AreWhole-data_from [] = (λ _. All-nil IsWhole, λ _. tt)
 AreWhole-data_from (value ∷ values) =
     let rest = AreWhole-data_from values in
     (λ w. All-cons IsWhole value values w.0 (rest.0 w.1), λ h. (All-head IsWhole value values h, rest.1 (All-tail IsWhole value values h)))
+
+test_both : (a b : Bool) → IsTrue (a && b) ↔ (IsTrue a × IsTrue b)
+test_both true b = (λ h. (refl, h), λ h. h.1)
+test_both false b = (λ h. absurd (true≢false (sym h)), λ h. absurd (true≢false (sym h.0)))
+
+of_two : (a b : Bool) (A B : Type 0) → (IsTrue a ↔ A) → (IsTrue b ↔ B) → IsTrue (a && b) ↔ (A × B)
+of_two a b A B of_a of_b = (λ h. (of_a.0 ((test_both a b).0 h).0, of_b.0 ((test_both a b).0 h).1), λ h. (test_both a b).1 (of_a.1 h.0, of_b.1 h.1))
+
+-- the test of wholeness holds exactly of whole values
+mutual
+  pub is_whole-iff_IsWhole : (root : Datum) → IsTrue (is_whole root) ↔ IsWhole root
+  is_whole-iff_IsWhole Gone = (λ h. true≢false (sym h), λ h. absurd h)
+  is_whole-iff_IsWhole (Number number) = (λ h. tt, λ h. refl)
+  is_whole-iff_IsWhole (Truth truth) = (λ h. tt, λ h. refl)
+  is_whole-iff_IsWhole UnitValue = (λ h. tt, λ h. refl)
+  is_whole-iff_IsWhole (Aggregate variant serial parts) = are_whole-iff_AreWhole parts
+  is_whole-iff_IsWhole (Box serial impl_no inside) = is_whole-iff_IsWhole inside
+  is_whole-iff_IsWhole (Address address) = (λ h. tt, λ h. refl)
+
+  are_whole-iff_AreWhole : (parts : Data) → IsTrue (are_whole parts) ↔ AreWhole parts
+  are_whole-iff_AreWhole no_part = (λ h. tt, λ h. refl)
+  are_whole-iff_AreWhole (a_part first rest) = of_two (is_whole first) (are_whole rest) (IsWhole first) (AreWhole rest) (is_whole-iff_IsWhole first) (are_whole-iff_AreWhole rest)

@@ -20,22 +20,7 @@ use Rattle.store_model.specs.Effects.{Site, Operand, Kind, OfTuple, OfArray, OfV
 use Rattle.store_model.specs.NamedPlace.{place_ty}
 use Rattle.store_model.specs.Standing.{Setting, Found, As, AsObject, concrete_ty, found_part, Standing, standing_at_address, reach, on_reached, stored_at}
 use Rattle.store_model.specs.World.{World, telling, numbered_next, tick, Answer, Returns, Unwinds, HaltsIn, Bodies}
-use Rattle.store_model.specs.Wholeness.{serials}
-
--- nothing at or below a value is gone, as a test
-abbrev mutual
-  pub is_whole : Datum → Bool
-  is_whole Gone = false
-  is_whole (Number number) = true
-  is_whole (Truth truth) = true
-  is_whole UnitValue = true
-  is_whole (Aggregate variant serial parts) = are_whole parts
-  is_whole (Box serial impl_no inside) = is_whole inside
-  is_whole (Address address) = true
-
-  pub are_whole : Data → Bool
-  are_whole no_part = true
-  are_whole (a_part first rest) = is_whole first && are_whole rest
+use Rattle.store_model.specs.Wholeness.{is_whole, serials}
 
 -- Comparisons and checked operations.
 

@@ -1,5 +1,5 @@
 -- The laws of places, of whole values and of serial numbers, which later proofs stand on.
-use Rattle.std.specs.Prelude.{◌≡◌, ◌↔◌, ◌⊎◌, ℕ, List, [], ◌∷◌, ◌++◌, Some, None, IsSome, Contains}
+use Rattle.std.specs.Prelude.{◌≡◌, ◌↔◌, ◌⊎◌, ℕ, List, [], ◌∷◌, ◌++◌, Some, None, IsSome, IsTrue, Contains}
 use Rattle.std.specs.Option.{option_and_then, option_map_or}
 use Rattle.std.specs.List.{flat_map}
 use Rattle.std.specs.List.Sorted.{IsPermutation}
@@ -7,7 +7,7 @@ use Rattle.store_model.specs.declared.address.At.{At}
 use Rattle.store_model.specs.Data.{Datum, Gone}
 use Rattle.store_model.specs.Dropping.{steps_to_parts}
 use Rattle.store_model.specs.Places.{part, standing_at, replaced, IsCutOff, AreApart}
-use Rattle.store_model.specs.Wholeness.{IsWhole, IsNumbered, serials, serial_before_parts, serial_after_parts}
+use Rattle.store_model.specs.Wholeness.{IsWhole, is_whole, IsNumbered, serials, serial_before_parts, serial_after_parts}
 
 -- a path may be walked in two pieces
 abbrev pub StandsAlong : Type 0
@@ -77,6 +77,10 @@ ChangesApart = (path other : List At) (new another root : Datum) → AreApart pa
 -- a value is whole exactly where no place of it is gone
 abbrev pub WholeWithoutGone : Type 0
 WholeWithoutGone = (root : Datum) → IsWhole root ↔ ((path : List At) → standing_at path root ≡ Some Gone → ⊥)
+
+-- the test of wholeness holds exactly of whole values
+abbrev pub WholeByTest : Type 0
+WholeByTest = (root : Datum) → IsTrue (is_whole root) ↔ IsWhole root
 
 -- what stands in a whole value is whole
 abbrev pub WholeBelow : Type 0

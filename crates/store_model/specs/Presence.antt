@@ -1,6 +1,6 @@
 -- What is gone of a local, as it is seen along a path of a body or in a free run: the whole is present or gone, or it
 -- is opened into parts of which each is present, gone or opened. A part that is not named is as its container.
--- The rustc development guide speaks of move paths ("MIR borrow check", "Tracking moves and initialization").
+-- (The rustc development guide, "MIR borrow check", "Tracking moves and initialization".)
 use Rattle.std.specs.Prelude.{Bool, true, false, ◌&&◌, not, List, [], ◌∷◌, if◌then◌else◌}
 use Rattle.store_model.specs.NamedPlace.{Step, same_step}
 

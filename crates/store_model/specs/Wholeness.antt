@@ -1,5 +1,5 @@
 -- Which values are whole, and which have serial numbers.
-use Rattle.std.specs.Prelude.{ℕ, List, [], ◌∷◌, ◌++◌, IsSome}
+use Rattle.std.specs.Prelude.{ℕ, Bool, true, false, ◌&&◌, List, [], ◌∷◌, ◌++◌, IsSome}
 use Rattle.std.specs.Option.{option_to_list}
 use Rattle.store_model.specs.Data.{Datum, Data, Gone, Number, Truth, UnitValue, Aggregate, Box, Address, no_part, a_part}
 
@@ -17,6 +17,21 @@ abbrev mutual
   pub AreWhole : Data → Type 0
   AreWhole no_part = Unit {0}
   AreWhole (a_part first rest) = IsWhole first × AreWhole rest
+
+-- the same as a test
+abbrev mutual
+  pub is_whole : Datum → Bool
+  is_whole Gone = false
+  is_whole (Number number) = true
+  is_whole (Truth truth) = true
+  is_whole UnitValue = true
+  is_whole (Aggregate variant serial parts) = are_whole parts
+  is_whole (Box serial impl_no inside) = is_whole inside
+  is_whole (Address address) = true
+
+  pub are_whole : Data → Bool
+  are_whole no_part = true
+  are_whole (a_part first rest) = is_whole first && are_whole rest
 
 -- the serial number of an aggregate of a type with a `Drop` impl, whose body runs before its parts are dropped
 abbrev pub serial_before_parts : Datum → List ℕ

@@ -1,6 +1,6 @@
 //! The laws of places, of whole values and of serial numbers. Each is a clause of a function without
 //! parameters, and a lemma of `proofs/` that a proof above this crate cites.
-ghost use Rattle.store_model.specs.Laws.{StandsAlong, StandsUnlessCutOff, PathsCompare, KeepsWithoutPlace, StandsAtPlace, StandsBelow, StandsAbove, StandsApart, LaterStays, ContainerStays, KeepsWhatStood, GivesBack, ChangesWithin, ChangesApart, WholeWithoutGone, WholeBelow, WholeWithWhole, NotWholeWhereTaken, NothingBelowGone, NumberedBySerial, SerialsSplit, SerialsExchange, SerialsTaken, SerialsAlongSteps, StepsLead};
+ghost use Rattle.store_model.specs.Laws.{StandsAlong, StandsUnlessCutOff, PathsCompare, KeepsWithoutPlace, StandsAtPlace, StandsBelow, StandsAbove, StandsApart, LaterStays, ContainerStays, KeepsWhatStood, GivesBack, ChangesWithin, ChangesApart, WholeWithoutGone, WholeByTest, WholeBelow, WholeWithWhole, NotWholeWhereTaken, NothingBelowGone, NumberedBySerial, SerialsSplit, SerialsExchange, SerialsTaken, SerialsAlongSteps, StepsLead};
 
 /// Where something stands, and how two paths lie to one another.
 pub fn law_of_paths()
@@ -33,6 +33,7 @@ pub fn law_of_changes()
 /// Which values are whole.
 pub fn law_of_wholeness()
     ensures no_gone { WholeWithoutGone }
+    ensures test { WholeByTest }
     ensures below { WholeBelow }
     ensures with_whole { WholeWithWhole }
     ensures taken { NotWholeWhereTaken }
