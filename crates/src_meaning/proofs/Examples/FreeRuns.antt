@@ -7,11 +7,12 @@ use Rattle.mir_ty.specs.declared.ty.Ty.{Ty}
 use Rattle.mir_ty.specs.declared.ty.TyId.{TyId}
 use Rattle.mir_ty.specs.ItemTable.{ItemTable}
 use Rattle.typed_tree.specs.declared.node.Use.{Use}
-use Rattle.typed_tree.specs.Tree.{no_node, a_node, no_field, a_field, absent, present, Number, Variable, Field, Comparison, Assign, Call, Make, Tuple, Ask, Block, Let, Evaluate, If, Match, Arm, Loop, Wildcard, Binding, TuplePattern, BodyTree}
+use Rattle.typed_tree.specs.Tree.{no_node, a_node, no_field, a_field, absent, present, Number, Variable, Field, Comparison, Assign, Call, Make, Tuple, Ask, Block, Let, Evaluate, If, Match, Arm, Loop, Wildcard, Binding, TuplePattern, BodyTree, ProgramTree}
 use Rattle.src_meaning.proofs.Examples.Words.{n, used, param, ty_no, struct, head}
-use Rattle.std.specs.Prelude.{zero, suc, ◌&&◌, is_none}
+use Rattle.std.specs.Prelude.{zero, suc, ◌&&◌, is_none, slice_get}
+use Rattle.std.proofs.Common.{subst}
 use Rattle.store_model.specs.Effects.{Site}
-use Rattle.src_meaning.specs.Programs.{reached_by}
+use Rattle.src_meaning.specs.Programs.{reached_by, IsAccepted}
 
 abbrev i32 : TyId
 i32 = ty_no 0
@@ -93,15 +94,9 @@ no_shorter_list = refl
 abbrev main_if : BodyTree
 main_if = record { number = 2; params = []; answer = unit; block = (n 0 unit (Block (a_node (n 1 unit (Let (used 2 d_ty Use.Move Binding) (present (n 3 d_ty (Make 0 0 (a_field 0 (n 4 i32 (Number (pos 1))) no_field)))))) no_node) (present (n 5 unit (If (n 6 bool (Comparison Cmp.Eq (n 7 i32 Ask) (n 8 i32 (Number (pos 0))))) (n 9 unit (Block (a_node (n 10 unit (Evaluate (n 11 unit (Call 1 (a_node (used 12 d_ty Use.Move (Variable 2)) no_node))))) no_node) absent)) absent))))) }
 
-moved_on_one_way_is_no_refused_use : reaches_none_within main_if 6 ≡ true
-moved_on_one_way_is_no_refused_use = refl
-
 -- fn main() { let mut x = D(1); take(x); x = D(2); take(x); }
 abbrev main_again : BodyTree
 main_again = record { number = 2; params = []; answer = unit; block = (n 0 unit (Block (a_node (n 1 unit (Let (used 2 d_ty Use.Move Binding) (present (n 3 d_ty (Make 0 0 (a_field 0 (n 4 i32 (Number (pos 1))) no_field)))))) (a_node (n 5 unit (Evaluate (n 6 unit (Call 1 (a_node (used 7 d_ty Use.Move (Variable 2)) no_node))))) (a_node (n 8 unit (Evaluate (n 9 unit (Assign (used 10 d_ty Use.Store (Variable 2)) (n 11 d_ty (Make 0 0 (a_field 0 (n 12 i32 (Number (pos 2))) no_field))))))) (a_node (n 13 unit (Evaluate (n 14 unit (Call 1 (a_node (used 15 d_ty Use.Move (Variable 2)) no_node))))) no_node)))) absent)) }
-
-assigned_again_is_no_refused_use : reaches_none_within main_again 6 ≡ true
-assigned_again_is_no_refused_use = refl
 
 -- fn main() { let t = (D(1), D(2)); let s = t; t.0 = D(3); }
 abbrev main_part : BodyTree
@@ -110,8 +105,8 @@ main_part = record { number = 2; params = []; answer = unit; block = (n 0 unit (
 a_store_into_what_is_gone : node_of (reached_by items main_part []) ≡ Some 13
 a_store_into_what_is_gone = refl
 
-no_longer_list : reaches_none_within main_part 0 ≡ false
-no_longer_list = refl
+no_longer_list : (i : Bool) (rest : List Bool) → reached_by items main_part (i ∷ rest) ≡ None
+no_longer_list i rest = refl
 
 -- fn main() { let t = (D(1), D(2)); take(t.0); match t { (_, _) => {} } }
 abbrev main_scrutinee : BodyTree
@@ -126,3 +121,68 @@ main_let = record { number = 2; params = []; answer = unit; block = (n 0 unit (B
 
 a_let_uses_only_what_it_takes : reaches_none_within main_let 5 ≡ true
 a_let_uses_only_what_it_takes = refl
+
+abbrev moved_if : ProgramTree
+moved_if = record { items = items; bodies = drop_d ∷ take ∷ main_if ∷ [] }
+
+abbrev again : ProgramTree
+again = record { items = items; bodies = drop_d ∷ take ∷ main_again ∷ [] }
+
+-- No list of items reaches a refused use: a run takes so many of a list, and ends.
+none_in_drop_d : (list : List Bool) → reached_by items drop_d list ≡ None
+none_in_drop_d list = refl
+
+none_in_take : (list : List Bool) → reached_by items take list ≡ None
+none_in_take [] = refl
+none_in_take (false ∷ rest) = refl
+none_in_take (true ∷ rest) = refl
+
+none_in_main_if : (list : List Bool) → reached_by items main_if list ≡ None
+none_in_main_if [] = refl
+none_in_main_if (true ∷ []) = refl
+none_in_main_if (true ∷ false ∷ rest) = refl
+none_in_main_if (true ∷ true ∷ rest) = refl
+none_in_main_if (false ∷ []) = refl
+none_in_main_if (false ∷ false ∷ []) = refl
+none_in_main_if (false ∷ false ∷ false ∷ rest) = refl
+none_in_main_if (false ∷ false ∷ true ∷ rest) = refl
+none_in_main_if (false ∷ true ∷ []) = refl
+none_in_main_if (false ∷ true ∷ false ∷ []) = refl
+none_in_main_if (false ∷ true ∷ false ∷ false ∷ rest) = refl
+none_in_main_if (false ∷ true ∷ false ∷ true ∷ rest) = refl
+none_in_main_if (false ∷ true ∷ true ∷ []) = refl
+none_in_main_if (false ∷ true ∷ true ∷ false ∷ rest) = refl
+none_in_main_if (false ∷ true ∷ true ∷ true ∷ rest) = refl
+
+none_in_main_again : (list : List Bool) → reached_by items main_again list ≡ None
+none_in_main_again [] = refl
+none_in_main_again (true ∷ []) = refl
+none_in_main_again (true ∷ false ∷ rest) = refl
+none_in_main_again (true ∷ true ∷ rest) = refl
+none_in_main_again (false ∷ []) = refl
+none_in_main_again (false ∷ true ∷ []) = refl
+none_in_main_again (false ∷ true ∷ false ∷ rest) = refl
+none_in_main_again (false ∷ true ∷ true ∷ rest) = refl
+none_in_main_again (false ∷ false ∷ []) = refl
+none_in_main_again (false ∷ false ∷ true ∷ []) = refl
+none_in_main_again (false ∷ false ∷ true ∷ false ∷ rest) = refl
+none_in_main_again (false ∷ false ∷ true ∷ true ∷ rest) = refl
+none_in_main_again (false ∷ false ∷ false ∷ []) = refl
+none_in_main_again (false ∷ false ∷ false ∷ false ∷ rest) = refl
+none_in_main_again (false ∷ false ∷ false ∷ true ∷ rest) = refl
+
+-- of three bodies each is one of them
+of_three : (one two three : BodyTree) (P : BodyTree → Type 0) → P one → P two → P three
+    → (n : ℕ) (body : BodyTree) → slice_get (one ∷ two ∷ three ∷ []) n ≡ Some body → P body
+of_three one two three P a b c zero body h = subst P (let e : one ≡ body = cc in e) a
+of_three one two three P a b c (suc zero) body h = subst P (let e : two ≡ body = cc in e) b
+of_three one two three P a b c (suc (suc zero)) body h = subst P (let e : three ≡ body = cc in e) c
+of_three one two three P a b c (suc (suc (suc n))) body h = absurd (cc)
+
+moved_on_one_way_is_accepted : IsAccepted moved_if
+moved_on_one_way_is_accepted n body list h =
+    of_three drop_d take main_if (λ b. (l : List Bool) → reached_by items b l ≡ None) none_in_drop_d none_in_take none_in_main_if n body h list
+
+assigned_again_is_accepted : IsAccepted again
+assigned_again_is_accepted n body list h =
+    of_three drop_d take main_again (λ b. (l : List Bool) → reached_by items b l ≡ None) none_in_drop_d none_in_take none_in_main_again n body h list
