@@ -5,6 +5,7 @@ mod Closures
 mod Conditions
 mod First
 mod FreeRuns
+mod JobQueue
 mod Locals
 mod Loops
 mod Operands
