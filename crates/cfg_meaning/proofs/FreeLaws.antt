@@ -1,5 +1,5 @@
 -- The effects of a free run give no item back, so a free walk is one equation.
-use Rattle.std.proofs.Common.{◌≡◌, ℕ, zero, suc, ◌<◌, ◌≤◌, Bool, true, false, List, [], ◌∷◌, length, if◌then◌else◌, Option, Some, None, arith}
+use Rattle.std.proofs.Common.{ℕ, ◌≤◌, Bool, true, false, List, [], ◌∷◌, length, if◌then◌else◌, Option, arith}
 use Rattle.std.specs.Option.{option_map_or}
 use Rattle.cfg_meaning.proofs.WalkLaws.{NoMore, NoMoreOf, Ticked, Laws, Keeps, walk_on, walk_same}
 use Rattle.cfg_meaning.specs.Laws.{FreeWalkIsOneEquation, FreeWalkHasNoBound}
@@ -9,7 +9,7 @@ use Rattle.mir_ty.specs.ItemTable.{ItemTable}
 use Rattle.store_model.specs.Effects as effects
 use Rattle.store_model.specs.Effects.{Site, Operand, Action, Test, Mode, Calm, Unwinding, Halt, NoRun, Out, Go, Unwind, Halts, Choice, Effects}
 use Rattle.store_model.specs.NamedPlace.{place_ty}
-use Rattle.store_model.specs.Free.{Free, item, chosen_item, choice_after, when, panics_by_item, may_use, may_test, may_store, watched_at, presence_of, after, never_at, using, unless_never, operand_used, operands_used, store, returns_by_item, computed_by_item, act, choose, unwound, dropped, drop, tick, on_presence}
+use Rattle.store_model.specs.Free.{Free, item, chosen_item, choice_after, when, may_use, may_test, may_store, watched_at, presence_of, after, never_at, using, unless_never, operand_used, operands_used, store, returns_by_item, computed_by_item, act, choose, unwound, dropped, drop, on_presence}
 
 abbrev items_of : Free → ℕ
 items_of w = length w.items
@@ -95,9 +95,9 @@ module _ (m : ℕ) where
 
     choose_less : (test : Test) (w : Free) → items_of w ≤ m → NoMoreOf items_of m (choose table local_ty test w)
     choose_less (effects.IsTrue operand) w l = choice_less (operand_used table local_ty operand w) (operand_less operand w l)
-    choose_less (effects.HasVariant site variant) w l = 
-          choice_less (when (may_test (watched_at table local_ty site) (presence_of table local_ty site w)) (effects.BadUse site) Go w)
-          (when_less (may_test (watched_at table local_ty site) (presence_of table local_ty site w)) (effects.BadUse site) Go (λ v k. k) w l)
+    choose_less (effects.HasVariant site variant) w l =
+        choice_less (when (may_test (watched_at table local_ty site) (presence_of table local_ty site w)) (effects.BadUse site) Go w)
+        (when_less (may_test (watched_at table local_ty site) (presence_of table local_ty site w)) (effects.BadUse site) Go (λ v k. k) w l)
 
     abbrev needs_drop_at : Site → Bool
     needs_drop_at site = option_map_or (needs_drop table) (place_ty table local_ty site.place) false

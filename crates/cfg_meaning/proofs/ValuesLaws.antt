@@ -1,21 +1,19 @@
 -- The effects on values give no ticks back, if the bodies that are called give none, and those of a graph give none. So
 -- the walk of a graph is one equation.
-use Rattle.std.proofs.Common.{◌≡◌, ℕ, zero, suc, ◌<◌, ◌≤◌, ℤ, Bool, true, false, List, [], ◌∷◌, Option, Some, None, slice_get, arith}
+use Rattle.std.proofs.Common.{ℕ, zero, suc, ◌≤◌, ℤ, Bool, true, false, List, [], ◌∷◌, Option, Some, None, slice_get, arith}
 use Rattle.std.specs.Option.{option_map_or, option_and_then}
 use Rattle.cfg_graph.specs.declared.graph.Body.{Body}
 use Rattle.cfg_graph.specs.declared.graph.Graph.{Graph}
 use Rattle.cfg_meaning.proofs.WalkLaws.{NoMore, NoMoreOf, Ticked, Laws, walk_less, walk_on, walk_same}
 use Rattle.cfg_meaning.specs.Laws.{WalkIsOneEquation, WalkHasNoBound}
-use Rattle.cfg_meaning.specs.Programs.{setting_of, code_of, no_node}
-use Rattle.cfg_meaning.specs.Walk.{walk}
+use Rattle.cfg_meaning.specs.Programs.{setting_of, code_of}
 use Rattle.mir_base.specs.declared.int_kind.IntKind.{IntKind}
 use Rattle.mir_base.specs.declared.operator.Math.{Math}
 use Rattle.mir_base.specs.declared.trace.Event.{Event}
-use Rattle.store_model.specs.Acting as acting
-use Rattle.store_model.specs.Acting.{Computed, Gives, PanicsBy, computed, if_within, or_no_step, used, taken, all_taken, taking, taking_two, taking_all, put, put_if, told, panics, made_event, built, boxed, printed, if_nothing_numbered, freed, put_computed, compute, negate, within_bounds, bounded, answered, asked, chosen_truth, chosen_if, variant_tested, choose, impl_put, called, act, give, dropped_if, nothing_if, drop, on_values}
+use Rattle.store_model.specs.Acting.{Computed, Gives, PanicsBy, computed, or_no_step, used, taken, all_taken, taking, taking_two, taking_all, put, put_if, told, made_event, built, boxed, printed, if_nothing_numbered, freed, put_computed, compute, negate, within_bounds, bounded, answered, asked, chosen_truth, chosen_if, variant_tested, choose, called, act, give, dropped_if, nothing_if, drop, on_values}
 use Rattle.store_model.specs.declared.address.At.TheVariants.{Part, Inside}
 use Rattle.store_model.specs.Data.{Datum, Data, Gone, Number, Truth, UnitValue, Aggregate, Box, Address, no_part, a_part}
-use Rattle.store_model.specs.DropAt.{drop_body_out, unwinding_out, in_mode, same_if, still_found, Stage, Begins, HasRun, still, gone_at, freed_at, as_read, if_part, with_body, drop_value, drop_parts, dropped_there, drop_at}
+use Rattle.store_model.specs.DropAt.{drop_body_out, unwinding_out, in_mode, same_if, still_found, Stage, Begins, HasRun, gone_at, freed_at, as_read, if_part, with_body, drop_value, drop_parts, dropped_there, drop_at}
 use Rattle.store_model.specs.Effects as effects
 use Rattle.store_model.specs.Effects.{Site, Operand, Kind, OfTuple, OfArray, OfVariant, OfClosure, Action, Test, Mode, Calm, Unwinding, Halt, NoStep, Out, Go, Unwind, Halts, Choice, Yes, No, Neither}
 use Rattle.store_model.specs.Entering.{ended, after_tick, run_body}
@@ -373,7 +371,7 @@ module _ (strict : Bool) (graph : Graph) where
       (λ v k. ended_less m number zero _
       (if_body_less m (slice_get graph.bodies number) _ _
       (λ body. walk_less ticks_of (on_values (setting_of strict graph) (bodies n) (suc n)) (values_laws (setting_of strict graph) (bodies n) (run_thrifty n) (suc n))
-      number no_node body m (suc n) zero _ k)))
+      number (λ block line. zero) body m (suc n) zero _ k)))
 
   graph_laws : (n : ℕ) → Laws (on_values (setting_of strict graph) (bodies n) (suc n)) ticks_of
   graph_laws n = values_laws (setting_of strict graph) (bodies n) (run_thrifty n) (suc n)

@@ -1,7 +1,10 @@
 //! The laws of graphs' meaning. Each is a clause of a function without parameters.
 ghost use Rattle.cfg_meaning.specs.Forward.{SaysTheSame};
 ghost use Rattle.cfg_meaning.specs.Laws.{
-    FreeWalkHasNoBound, FreeWalkIsOneEquation, WalkHasNoBound, WalkIsOneEquation,
+  FreeWalkHasNoBound,
+  FreeWalkIsOneEquation,
+  WalkHasNoBound,
+  WalkIsOneEquation,
 };
 
 /// What is gone at a point of a path is the same by looking back along the path and by a state that is kept along it.

@@ -208,7 +208,7 @@ module _ (setting : Setting) where
   told event (Unwind w) = Unwind w
   told event (Halts halt w) = Halts halt w
 
-  abbrev pub panics : Why → World → World
+  abbrev panics : Why → World → World
   panics why w = telling (Event.Panicked why) w
 
   abbrev negated : Datum → Option Datum
@@ -238,7 +238,7 @@ module _ (setting : Setting) where
   printed (Number number) w = Go (telling (Event.Printed number) w)
   printed value w = Halts NoStep w
 
-  abbrev pub told_all : List Event → World → World
+  abbrev told_all : List Event → World → World
   told_all events w = record w { trace = w.trace ++ events }
 
   abbrev operand_found : World → Operand → Option Found
@@ -316,7 +316,7 @@ module _ (setting : Setting) where
   choose (effects.HasVariant site variant) w =
       on_reached (reach setting w site.place) (λ s. variant_tested variant s.value w) (Neither NoStep w) (Neither NoStep w)
 
-  abbrev pub impl_put : Site → Option ℕ → Datum → World → Out World
+  abbrev impl_put : Site → Option ℕ → Datum → World → Out World
   impl_put to impl_no value w = put_if to (option_and_then (λ n. with_impl n value) impl_no) w
 
   module _ (run : Bodies) where

@@ -65,7 +65,7 @@ pub data Stage : Type 0 where
 
 module _ (setting : Setting) (run : Bodies) where
   -- an address that has not lost its place: what stands there is still of the type that was found before
-  abbrev pub still : Standing → (Standing → World → Out World) → World → Out World
+  abbrev still : Standing → (Standing → World → Out World) → World → Out World
   still s next w = still_found s.found (standing_at_address setting w s.address) next w
 
   abbrev pub gone_at : Standing → World → Out World
