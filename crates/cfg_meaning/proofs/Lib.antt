@@ -1,2 +1,5 @@
 mod Examples
+pub mod FreeLaws
 pub mod GoneForward
+pub mod ValuesLaws
+pub mod WalkLaws

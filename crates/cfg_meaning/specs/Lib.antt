@@ -1,4 +1,5 @@
 pub mod Actions
 pub mod Forward
+pub mod Laws
 pub mod Programs
 pub mod Walk

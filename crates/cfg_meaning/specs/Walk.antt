@@ -31,27 +31,27 @@ stuck_in body block NoRun = NoRun
 stuck_in body block PastTheEnd = PastTheEnd
 
 module _ {W : Type 0} where
-  abbrev on_go : Out W → (W → Out W) → Out W
+  abbrev pub on_go : Out W → (W → Out W) → Out W
   on_go (Go w) next = next w
   on_go (Unwinds w) next = Halts NoStep w
   on_go (Halts halt w) next = Halts halt w
 
-  abbrev fork : Out W → (W → Out W) → (W → Out W) → Out W
+  abbrev pub fork : Out W → (W → Out W) → (W → Out W) → Out W
   fork (Go w) next panics = next w
   fork (Unwinds w) next panics = panics w
   fork (Halts halt w) next panics = Halts halt w
 
-  abbrev branch : Choice W → (W → Out W) → (W → Out W) → Out W
+  abbrev pub branch : Choice W → (W → Out W) → (W → Out W) → Out W
   branch (Yes w) if_true if_false = if_true w
   branch (No w) if_true if_false = if_false w
   branch (Neither halt w) if_true if_false = Halts halt w
 
-  abbrev renamed : (Halt → Halt) → Out W → Out W
+  abbrev pub renamed : (Halt → Halt) → Out W → Out W
   renamed name (Go w) = Go w
   renamed name (Unwinds w) = Unwinds w
   renamed name (Halts halt w) = Halts (name halt) w
 
-  abbrev renamed_choice : (Halt → Halt) → Choice W → Choice W
+  abbrev pub renamed_choice : (Halt → Halt) → Choice W → Choice W
   renamed_choice name (Yes w) = Yes w
   renamed_choice name (No w) = No w
   renamed_choice name (Neither halt w) = Neither (name halt) w
@@ -68,20 +68,20 @@ module _ {W : Type 0} where
   }
 
   -- where a panic goes on
-  abbrev unwinding : Unwind → Next W → W → Out W
+  abbrev pub unwinding : Unwind → Next W → W → Out W
   unwinding (Unwind.Block block) next w = next block w
   unwinding Unwind.Resume next w = Unwinds w
   unwinding Unwind.Abort next w = Halts Aborted w
 
-  abbrev stmts_do : Effects W → (ℕ → ℕ) → ℕ → List Stmt → (W → Out W) → W → Out W
+  abbrev pub stmts_do : Effects W → (ℕ → ℕ) → ℕ → List Stmt → (W → Out W) → W → Out W
   stmts_do p node line [] rest w = rest w
   stmts_do p node line (stmt ∷ stmts) rest w = on_go (p.act (action_of (node line) stmt) w) (stmts_do p node (suc line) stmts rest)
 
   -- an effect with a way on and a way by which it panics
-  abbrev acts : Out W → Next W → ℕ → Unwind → Out W
+  abbrev pub acts : Out W → Next W → ℕ → Unwind → Out W
   acts out next to unwind = fork out (next to) (unwinding unwind next)
 
-  abbrev term_does : Effects W → ℕ → Term → Next W → W → Out W
+  abbrev pub term_does : Effects W → ℕ → Term → Next W → W → Out W
   term_does p node (Term.Goto block) next w = next block w
   term_does p node (Term.If on if_true if_false) next w = branch (p.choose (effects.IsTrue (operand_of node on)) w) (next if_true) (next if_false)
   term_does p node (Term.Case on variant if_true if_false) next w =
@@ -103,13 +103,13 @@ module _ {W : Type 0} where
   abbrev pub block_does : Effects W → (ℕ → ℕ) → Block → Next W → W → Out W
   block_does p node block next w = stmts_do p node 0 block.stmts (term_does p (node (length block.stmts)) block.term next) w
 
-  abbrev ticked : Out W → (W → Out W) → Out W
+  abbrev pub ticked : Out W → (W → Out W) → Out W
   ticked (Go w) next = next w
   ticked (Unwinds w) next = Halts NoStep w
   ticked (Halts halt w) next = Halts halt w
 
 module _ {W : Type 0} (p : Effects W) (number : ℕ) (node : ℕ → ℕ → ℕ) (body : Body) where
-  abbrev rank_at : ℕ → ℕ
+  abbrev pub rank_at : ℕ → ℕ
   rank_at n = option_map_or (λ block. block.rank) (slice_get body.blocks n) 0
 
   abbrev pub does_block : ℕ → Block → Next W → W → Out W
@@ -119,12 +119,12 @@ module _ {W : Type 0} (p : Effects W) (number : ℕ) (node : ℕ → ℕ → ℕ
   abbrev pub does_turn : ℕ → Block → Next W → W → Out W
   does_turn n block next w = ticked (p.tick w) (does_block n block next)
 
-  abbrev by_kind : Kind → ℕ → Block → (turn plain : Next W) → W → Out W
+  abbrev pub by_kind : Kind → ℕ → Block → (turn plain : Next W) → W → Out W
   by_kind Kind.Plain n block turn plain w = plain n w
   by_kind Kind.Turn n block turn plain w = turn n w
   by_kind Kind.Cleanup n block turn plain w = plain n w
 
-  abbrev if_there : Option Block → ℕ → (Block → W → Out W) → W → Out W
+  abbrev pub if_there : Option Block → ℕ → (Block → W → Out W) → W → Out W
   if_there None n does w = Halts (StuckAt number n) w
   if_there (Some block) n does w = does block w
 
@@ -139,7 +139,7 @@ module _ {W : Type 0} (p : Effects W) (number : ℕ) (node : ℕ → ℕ → ℕ
   blocks turn (suc most) n w =
       if_there (slice_get body.blocks n) n (λ block. by_kind block.kind n block turn (λ n. does_block n block (blocks turn most))) w
 
-  abbrev from_rank : Next W → Next W
+  abbrev pub from_rank : Next W → Next W
   from_rank turn n w = blocks turn (suc (rank_at n)) n w
 
   -- fewer turns than so many: each spends a tick, or takes an item, so a bound greater than what is left of these is

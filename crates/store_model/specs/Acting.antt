@@ -103,7 +103,7 @@ abbrev mutual
 abbrev body_of_youngest : World → Option ℕ
 body_of_youngest w = option_map_or (λ a. Some a.body) (slice_get w.activations 0) None
 
-abbrev or_no_step : {A : Type 0} → Option A → (A → Out World) → World → Out World
+abbrev pub or_no_step : {A : Type 0} → Option A → (A → Out World) → World → Out World
 or_no_step None next w = Halts NoStep w
 or_no_step (Some a) next w = next a
 
@@ -172,23 +172,23 @@ module _ (setting : Setting) where
   all_taken (operand ∷ operands) w =
       option_and_then (λ one. option_map_or (λ rest. Some (one.0 ∷ rest.0, rest.1)) (all_taken operands one.1) None) (taken operand w)
 
-  abbrev taking : Operand → World → (Datum → World → Out World) → Out World
+  abbrev pub taking : Operand → World → (Datum → World → Out World) → Out World
   taking operand w next = or_no_step (taken operand w) (λ t. next t.0 t.1) w
 
-  abbrev taking_two : Operand → Operand → World → (Datum → Datum → World → Out World) → Out World
+  abbrev pub taking_two : Operand → Operand → World → (Datum → Datum → World → Out World) → Out World
   taking_two left right w next = taking left w (λ a w. taking right w (next a))
 
-  abbrev taking_all : List Operand → World → (List Datum → World → Out World) → Out World
+  abbrev pub taking_all : List Operand → World → (List Datum → World → Out World) → Out World
   taking_all operands w next = or_no_step (all_taken operands w) (λ t. next t.0 t.1) w
 
   -- a value is stored, whatever stood at its place
   abbrev pub put : Site → Datum → World → Out World
   put to value w = on_reached (reach setting w to.place) (λ s. Go (stored_at s.address value w)) (Halts NoStep w) (Halts NoStep w)
 
-  abbrev put_if : Site → Option Datum → World → Out World
+  abbrev pub put_if : Site → Option Datum → World → Out World
   put_if to value w = or_no_step value (λ v. put to v w) w
 
-  abbrev told : Event → Out World → Out World
+  abbrev pub told : Event → Out World → Out World
   told event (Go w) = Go (telling event w)
   told event (Unwind w) = Unwind w
   told event (Halts halt w) = Halts halt w
@@ -201,25 +201,25 @@ module _ (setting : Setting) where
   negated _ = None
 
   -- a value with a `Drop` impl, or a box, gets its serial number as it is made
-  abbrev made_event : ℕ → Site → Datum → Option (ℕ × ℕ) → World → Out World
+  abbrev pub made_event : ℕ → Site → Datum → Option (ℕ × ℕ) → World → Out World
   made_event adt to value None w = put to value w
   made_event adt to value (Some of) w = told (Event.Make adt w.serial) (put to value (numbered_next w))
 
-  abbrev built : Site → Kind → List Datum → World → Out World
+  abbrev pub built : Site → Kind → List Datum → World → Out World
   built to OfTuple parts w = put to (Aggregate 0 None (data_from parts)) w
   built to OfArray parts w = put to (Aggregate 0 None (data_from parts)) w
   built to (OfClosure closure) parts w = put to (Aggregate 0 None (data_from parts)) w
   built to (OfVariant adt variant) parts w =
       made_event adt to (made adt variant parts (Some w.serial) (drop_impl setting.items (Some (Ty.Adt adt)))) (drop_impl setting.items (Some (Ty.Adt adt))) w
 
-  abbrev boxed : Site → Datum → World → Out World
+  abbrev pub boxed : Site → Datum → World → Out World
   boxed to content w = told (Event.Boxed w.serial) (put to (Box w.serial None content) (numbered_next w))
 
   abbrev impl_boxed : ℕ → World → Operand → Option ℕ
   impl_boxed trait_no w operand =
       option_and_then (impl_of setting.items trait_no) (adt_of_ty (option_and_then (type_at setting.items) (boxed_ty (ty_of_operand w operand))))
 
-  abbrev printed : Datum → World → Out World
+  abbrev pub printed : Datum → World → Out World
   printed (Number number) w = Go (telling (Event.Printed number) w)
   printed value w = Halts NoStep w
 
@@ -231,36 +231,36 @@ module _ (setting : Setting) where
   operand_found w (effects.Moved site) = option_map_or (λ s. Some s.found) (used w site) None
   operand_found w operand = None
 
-  abbrev if_nothing_numbered : List ℕ → Out World → World → Out World
+  abbrev pub if_nothing_numbered : List ℕ → Out World → World → Out World
   if_nothing_numbered [] freed w = freed
   if_nothing_numbered (serial ∷ rest) freed w = Halts NoStep w
 
   -- a box is freed alone, where no numbered value is left in it
-  abbrev freed : Standing → Datum → World → Out World
+  abbrev pub freed : Standing → Datum → World → Out World
   freed s (Box serial impl_no inside) w = if_nothing_numbered (serials inside) (Go (telling (Event.Freed serial) (stored_at s.address Gone w))) w
   freed s value w = Halts NoStep w
 
-  abbrev put_computed : Site → Computed → World → Out World
+  abbrev pub put_computed : Site → Computed → World → Out World
   put_computed to (Gives number) w = put to (Number number) w
   put_computed to (PanicsBy why) w = Unwind (panics why w)
 
-  abbrev compute : Site → Math → Option IntKind → Datum → Datum → World → Out World
+  abbrev pub compute : Site → Math → Option IntKind → Datum → Datum → World → Out World
   compute to operator (Some kind) (Number a) (Number b) w = put_computed to (computed operator kind a b) w
   compute to operator kind left right w = Halts NoStep w
 
-  abbrev negate : Site → Option IntKind → Datum → World → Out World
+  abbrev pub negate : Site → Option IntKind → Datum → World → Out World
   negate to (Some kind) (Number a) w = put_computed to (if_within kind (neg_ℤ a)) w
   negate to kind value w = Halts NoStep w
 
-  abbrev within_bounds : Bool → World → Out World
+  abbrev pub within_bounds : Bool → World → Out World
   within_bounds true w = Go w
   within_bounds false w = Unwind (panics Why.Index w)
 
-  abbrev bounded : ℕ → Datum → World → Out World
+  abbrev pub bounded : ℕ → Datum → World → Out World
   bounded length (Number number) w = within_bounds (int_lt number (pos length)) w
   bounded length value w = Halts NoStep w
 
-  abbrev answered : Site → Answer → Out World
+  abbrev pub answered : Site → Answer → Out World
   answered to (Returns value w) = put to value w
   answered to (Unwinds w) = Unwind w
   answered to (HaltsIn halt w) = Halts halt w
@@ -279,20 +279,20 @@ module _ (setting : Setting) where
       option_and_then (λ s. object_body trait_no method s.found) (standing_at_address setting w address)
   virtual_body trait_no method w args = None
 
-  abbrev asked : Site → List ℤ → World → Out World
+  abbrev pub asked : Site → List ℤ → World → Out World
   asked to [] w = Unwind (panics Why.Ask w)
   asked to (number ∷ rest) w = told (Event.Asked number) (put to (Number number) (record w { asked = rest }))
 
-  abbrev chosen_truth : Option (Datum × World) → World → Choice World
+  abbrev pub chosen_truth : Option (Datum × World) → World → Choice World
   chosen_truth (Some (Truth true, v)) w = Yes v
   chosen_truth (Some (Truth false, v)) w = No v
   chosen_truth _ w = Neither NoStep w
 
-  abbrev chosen_if : Bool → World → Choice World
+  abbrev pub chosen_if : Bool → World → Choice World
   chosen_if true w = Yes w
   chosen_if false w = No w
 
-  abbrev variant_tested : ℕ → Datum → World → Choice World
+  abbrev pub variant_tested : ℕ → Datum → World → Choice World
   variant_tested variant (Aggregate active serial parts) w = chosen_if (variant == active) w
   variant_tested variant value w = Neither NoStep w
 
@@ -305,7 +305,7 @@ module _ (setting : Setting) where
   impl_put to impl_no value w = put_if to (option_and_then (λ n. with_impl n value) impl_no) w
 
   module _ (run : Bodies) where
-    abbrev called : Site → Option ℕ → List Datum → World → Out World
+    abbrev pub called : Site → Option ℕ → List Datum → World → Out World
     called to body args w = or_no_step body (λ body. answered to (run (Event.Call body) body args w)) w
 
     abbrev pub act : Action → World → Out World
@@ -335,11 +335,11 @@ module _ (setting : Setting) where
     give site w = or_no_step (used w site) (λ s. Go w) w
 
     -- in the strict meaning what is dropped is whole; otherwise what remains of it is dropped
-    abbrev dropped_if : ℕ → Bool → Mode → Standing → World → Out World
+    abbrev pub dropped_if : ℕ → Bool → Mode → Standing → World → Out World
     dropped_if bound true mode s w = drop_at setting run bound Begins s mode w
     dropped_if bound false mode s w = Halts NoStep w
 
-    abbrev nothing_if : Bool → World → Out World
+    abbrev pub nothing_if : Bool → World → Out World
     nothing_if true w = Halts NoStep w
     nothing_if false w = Go w
 

@@ -14,13 +14,13 @@ use Rattle.store_model.specs.Standing.{Setting, Found, As, AsObject, concrete_ty
 use Rattle.store_model.specs.World.{World, telling, Answer, Returns, Unwinds, HaltsIn, Bodies}
 
 -- how a `Drop` body ends in a mode
-abbrev drop_body_out : Mode → Answer → Out World
+abbrev pub drop_body_out : Mode → Answer → Out World
 drop_body_out mode (Returns value w) = Go w
 drop_body_out Calm (Unwinds w) = Unwind w
 drop_body_out Unwinding (Unwinds w) = Halts Aborted w
 drop_body_out mode (HaltsIn halt w) = Halts halt w
 
-abbrev unwinding_out : Out World → Out World
+abbrev pub unwinding_out : Out World → Out World
 unwinding_out (Go w) = Unwind w
 unwinding_out (Unwind w) = Unwind w
 unwinding_out (Halts halt w) = Halts halt w
@@ -50,11 +50,11 @@ same_found (As a) (AsObject b n) = false
 same_found (AsObject a m) (As b) = false
 same_found (AsObject a m) (AsObject b n) = m == n
 
-abbrev same_if : Bool → (World → Out World) → World → Out World
+abbrev pub same_if : Bool → (World → Out World) → World → Out World
 same_if true next w = next w
 same_if false next w = Halts NoStep w
 
-abbrev still_found : Found → Option Standing → (Standing → World → Out World) → World → Out World
+abbrev pub still_found : Found → Option Standing → (Standing → World → Out World) → World → Out World
 still_found found None next w = Halts NoStep w
 still_found found (Some s) next w = same_if (same_found found s.found) (next s) w
 
@@ -68,25 +68,25 @@ module _ (setting : Setting) (run : Bodies) where
   abbrev still : Standing → (Standing → World → Out World) → World → Out World
   still s next w = still_found s.found (standing_at_address setting w s.address) next w
 
-  abbrev gone_at : Standing → World → Out World
+  abbrev pub gone_at : Standing → World → Out World
   gone_at s w = still s (λ s w. Go (stored_at s.address Gone w)) w
 
-  abbrev freed_at : ℕ → Standing → World → Out World
+  abbrev pub freed_at : ℕ → Standing → World → Out World
   freed_at serial s w = still s (λ s w. Go (telling (Event.Freed serial) (stored_at s.address Gone w))) w
 
   -- what stands at an address, where the value there was read when so many ticks were left: since then a `Drop` body
   -- may have run, and then it is read again
   module _ (again : Stage → Standing → Mode → World → Out World) (ticks : ℕ) where
-    abbrev as_read : Bool → (Standing → Mode → World → Out World) → Standing → Mode → World → Out World
+    abbrev pub as_read : Bool → (Standing → Mode → World → Out World) → Standing → Mode → World → Out World
     as_read true drop s mode w = drop s mode w
     as_read false drop s mode w = again Begins s mode w
 
-    abbrev if_part : Option Standing → (Standing → Mode → World → Out World) → Mode → World → Out World
+    abbrev pub if_part : Option Standing → (Standing → Mode → World → Out World) → Mode → World → Out World
     if_part None drop mode w = Halts NoStep w
     if_part (Some s) drop mode w = as_read (w.ticks == ticks) drop s mode w
 
     -- the `Drop` body runs, and the value goes on to its parts as they stand then
-    abbrev with_body : Option (ℕ × ℕ) → Option ℕ → Standing → (Mode → World → Out World) → Mode → World → Out World
+    abbrev pub with_body : Option (ℕ × ℕ) → Option ℕ → Standing → (Mode → World → Out World) → Mode → World → Out World
     with_body None serial s parts mode w = parts mode w
     with_body (Some of) serial s parts mode w =
         in_mode mode (drop_body_out mode (run (Event.Dropped of.0 (serial_or_none serial)) of.1 (Address s.address ∷ []) w)) (again HasRun s)
@@ -114,7 +114,7 @@ module _ (setting : Setting) (run : Bodies) where
       drop_parts (a_part first rest) n s mode w =
           in_mode mode (if_part (into setting.items (Part n) s) (drop_value first Begins) mode w) (drop_parts rest (suc n) s)
 
-  abbrev dropped_there : (Stage → Standing → Mode → World → Out World) → Stage → Mode → Standing → World → Out World
+  abbrev pub dropped_there : (Stage → Standing → Mode → World → Out World) → Stage → Mode → Standing → World → Out World
   dropped_there again stage mode s w = drop_value again w.ticks s.value stage s mode w
 
   -- what stands at an address is dropped. Before each reading again a tick is spent, so the bound, which is to be

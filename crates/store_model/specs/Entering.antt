@@ -20,7 +20,7 @@ ended body answer (Go w) = Returns (cell answer (cells_of_youngest w.activations
 ended body answer (Unwind w) = Unwinds (telling (Event.Unwind body) (left w))
 ended body answer (Halts halt w) = HaltsIn halt w
 
-abbrev after_tick : Out World → (World → Answer) → Answer
+abbrev pub after_tick : Out World → (World → Answer) → Answer
 after_tick (Go w) next = next w
 after_tick (Unwind w) next = Unwinds w
 after_tick (Halts halt w) next = HaltsIn halt w

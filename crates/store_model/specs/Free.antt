@@ -50,17 +50,17 @@ item [] w zero_does one_does = Halts NoItem w
 item (false ∷ rest) w zero_does one_does = zero_does (record w { items = rest })
 item (true ∷ rest) w zero_does one_does = one_does (record w { items = rest })
 
-abbrev chosen_item : List Bool → Free → Choice Free
+abbrev pub chosen_item : List Bool → Free → Choice Free
 chosen_item [] w = Neither NoItem w
 chosen_item (false ∷ rest) w = No (record w { items = rest })
 chosen_item (true ∷ rest) w = Yes (record w { items = rest })
 
-abbrev choice_after : Out Free → Choice Free
+abbrev pub choice_after : Out Free → Choice Free
 choice_after (Go w) = chosen_item w.items w
 choice_after (Unwind w) = Neither NoRun w
 choice_after (Halts halt w) = Neither halt w
 
-abbrev when : Bool → Halt → (Free → Out Free) → Free → Out Free
+abbrev pub when : Bool → Halt → (Free → Out Free) → Free → Out Free
 when true halt next w = next w
 when false halt next w = Halts halt w
 
@@ -78,42 +78,42 @@ module _ (table : ItemTable) (local_ty : ℕ → Option TyId) where
   abbrev ty_at : Site → Option TyId
   ty_at site = place_ty table local_ty site.place
 
-  abbrev never_at : Site → Bool
+  abbrev pub never_at : Site → Bool
   never_at site = is_never (option_and_then (type_at table) (ty_at site))
 
-  abbrev presence_of : Site → Free → Presence
+  abbrev pub presence_of : Site → Free → Presence
   presence_of site w = presence site.place.local w.cells
 
   abbrev pub after : Bool → Site → Free → Free
   after takes site w = record w { cells = with_presence site.place.local (acted takes (watched_at site)) w.cells }
 
-  abbrev using : Site → (Free → Out Free) → Free → Out Free
+  abbrev pub using : Site → (Free → Out Free) → Free → Out Free
   using site next w = when (may_use (watched_at site) (presence_of site w)) (BadUse site) next w
 
   -- no value of the type `!` is ever made, so past a copy of one there is no run
-  abbrev unless_never : Bool → Free → Out Free
+  abbrev pub unless_never : Bool → Free → Out Free
   unless_never true w = Halts PastTheEnd w
   unless_never false w = Go w
 
-  abbrev operand_used : Operand → Free → Out Free
+  abbrev pub operand_used : Operand → Free → Out Free
   operand_used (effects.Copied site) w = using site (unless_never (never_at site)) w
   operand_used (effects.Moved site) w = using site (λ w. Go (after true site w)) w
   operand_used (effects.Number value kind) w = Go w
   operand_used (effects.Truth value) w = Go w
   operand_used effects.UnitValue w = Go w
 
-  abbrev operands_used : List Operand → (Free → Out Free) → Free → Out Free
+  abbrev pub operands_used : List Operand → (Free → Out Free) → Free → Out Free
   operands_used [] next w = next w
   operands_used (operand ∷ operands) next w = effects.on_go (operand_used operand w) (operands_used operands next)
 
-  abbrev store : Site → Free → Out Free
+  abbrev pub store : Site → Free → Out Free
   store to w = when (may_store (watched_at to) (presence_of to w)) (BadStore to) (λ w. Go (after false to w)) w
 
   -- a call ends by returning or by a panic; one whose result has type `!` does not return
-  abbrev returns_by_item : Site → Free → Out Free
+  abbrev pub returns_by_item : Site → Free → Out Free
   returns_by_item to w = panics_by_item w (if never_at to then Halts NoRun else store to)
 
-  abbrev computed_by_item : Site → Free → Out Free
+  abbrev pub computed_by_item : Site → Free → Out Free
   computed_by_item to w = panics_by_item w (store to)
 
   abbrev pub act : Action → Free → Out Free
@@ -140,12 +140,12 @@ module _ (table : ItemTable) (local_ty : ℕ → Option TyId) where
   choose (effects.HasVariant site variant) w =
       choice_after (when (may_test (watched_at site) (presence_of site w)) (BadUse site) Go w)
 
-  abbrev unwound : Mode → Free → Out Free
+  abbrev pub unwound : Mode → Free → Out Free
   unwound Calm w = Unwind w
   unwound Unwinding w = Halts Aborted w
 
   -- what needs dropping takes an item, whether it is gone or not; it is gone then, also after a panic
-  abbrev dropped : Bool → Mode → Site → Free → Out Free
+  abbrev pub dropped : Bool → Mode → Site → Free → Out Free
   dropped true mode site w = item w.items w (λ w. Go (after true site w)) (λ w. unwound mode (after true site w))
   dropped false mode site w = Go (after true site w)
 

@@ -1,0 +1,45 @@
+-- The laws of walks. The bounds by which a walk is defined are never met, so it is one equation without them.
+use Rattle.std.specs.Prelude.{◌≡◌, ℕ, suc, ◌<◌, Bool, length, Option}
+use Rattle.cfg_graph.specs.declared.graph.Body.{Body}
+use Rattle.cfg_graph.specs.declared.graph.Graph.{Graph}
+use Rattle.cfg_graph.specs.Edges.{IsRanked}
+use Rattle.cfg_meaning.specs.Programs.{setting_of, code_of}
+use Rattle.cfg_meaning.specs.Walk.{entered, walk}
+use Rattle.mir_ty.specs.declared.ty.TyId.{TyId}
+use Rattle.mir_ty.specs.ItemTable.{ItemTable}
+use Rattle.store_model.specs.Acting.{on_values}
+use Rattle.store_model.specs.Effects.{Effects}
+use Rattle.store_model.specs.Entering.{run_body}
+use Rattle.store_model.specs.Free.{Free, on_presence}
+use Rattle.store_model.specs.World.{World}
+
+-- the effects on values, where the bodies that are called are those of a graph, nested no deeper than so much
+abbrev pub on_values_of : Bool → Graph → ℕ → Effects World
+on_values_of strict graph n = on_values (setting_of strict graph) (run_body (setting_of strict graph) (code_of graph) n) (suc n)
+
+-- with fewer ticks than the bound on turns, the walk of a ranked body is what its first block does, and then a walk
+abbrev pub WalkIsOneEquation : Type 0
+WalkIsOneEquation = (strict : Bool) (graph : Graph) (n number : ℕ) (node : ℕ → ℕ → ℕ) (body : Body) → IsRanked body →
+    (most block : ℕ) (w : World) → w.ticks < most →
+    walk (on_values_of strict graph n) number node body most block w
+    ≡ entered (on_values_of strict graph n) number node body (walk (on_values_of strict graph n) number node body most) block w
+
+-- two bounds that are greater than the ticks give the same walk
+abbrev pub WalkHasNoBound : Type 0
+WalkHasNoBound = (strict : Bool) (graph : Graph) (n number : ℕ) (node : ℕ → ℕ → ℕ) (body : Body) → IsRanked body →
+    (most other block : ℕ) (w : World) → w.ticks < most → w.ticks < other →
+    walk (on_values_of strict graph n) number node body most block w ≡ walk (on_values_of strict graph n) number node body other block w
+
+-- with fewer items than the bound on turns, the free walk of a ranked body is what its first block does, and then a free
+-- walk
+abbrev pub FreeWalkIsOneEquation : Type 0
+FreeWalkIsOneEquation = (items : ItemTable) (local_ty : ℕ → Option TyId) (number : ℕ) (node : ℕ → ℕ → ℕ) (body : Body) → IsRanked body →
+    (most block : ℕ) (w : Free) → length w.items < most →
+    walk (on_presence items local_ty) number node body most block w
+    ≡ entered (on_presence items local_ty) number node body (walk (on_presence items local_ty) number node body most) block w
+
+-- two bounds that are greater than the number of items give the same free walk
+abbrev pub FreeWalkHasNoBound : Type 0
+FreeWalkHasNoBound = (items : ItemTable) (local_ty : ℕ → Option TyId) (number : ℕ) (node : ℕ → ℕ → ℕ) (body : Body) → IsRanked body →
+    (most other block : ℕ) (w : Free) → length w.items < most → length w.items < other →
+    walk (on_presence items local_ty) number node body most block w ≡ walk (on_presence items local_ty) number node body other block w
