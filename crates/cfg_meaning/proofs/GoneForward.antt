@@ -1,11 +1,11 @@
 -- What is gone along a path is the same, looking back and kept along it.
-use Rattle.std.proofs.Common.{◌≡◌, ℕ, Bool, true, false, not, ◌&&◌, ◌==◌, if◌then◌else◌, List, [], ◌∷◌, Option, Some, None, refl, ap, sym, ◌∙◌, eq-eqb, eqb-true, true≢false, unwrap_or}
+use Rattle.std.proofs.Common.{◌≡◌, Bool, true, false, not, ◌&&◌, ◌==◌, if◌then◌else◌, List, [], ◌∷◌, Option, Some, None, refl, ap, sym, ◌∙◌, eq-eqb, eqb-true, true≢false, unwrap_or}
 use Rattle.std.specs.Cmp.{first_so, second_so}
 use Rattle.std.specs.Option.{option_or}
 use Rattle.std.specs.List.{starts_with}
 use Rattle.mir_ty.specs.ItemTable.{ItemTable}
 use Rattle.cfg_graph.specs.declared.graph.Body.{Body}
-use Rattle.cfg_graph.specs.Gone.{Action, counts, leaves_gone, left_by, last_left, is_at_or_above, is_param}
+use Rattle.cfg_graph.specs.Gone.{Action, counts, leaves_gone, left_by, last_left, is_param}
 use Rattle.cfg_meaning.specs.Forward.{left_at, after_one, after_all, at_first, SaysTheSame}
 use Rattle.store_model.specs.NamedPlace.{Step, ToPart, ToField, ToContent, ToElement, same_step, Place}
 use Rattle.store_model.specs.Presence.{Presence, known, Parts, none_named, named, is_present, is_gone, itself_gone, part_among, presence_at, presence_along, changed_among, changed_at, after_action}

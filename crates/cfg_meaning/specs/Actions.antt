@@ -1,6 +1,6 @@
 -- What each statement and terminator of a graph is as an effect (the rustc development guide, "The MIR"). The site of a
 -- line is the number of the node of the source that it stands for, if that is known.
-use Rattle.std.specs.Prelude.{ℕ, Bool, List, [], ◌∷◌, map}
+use Rattle.std.specs.Prelude.{ℕ, List, map}
 use Rattle.cfg_graph.specs.declared.place.Operand.{Operand}
 use Rattle.cfg_graph.specs.declared.place.Place.{Place}
 use Rattle.cfg_graph.specs.declared.statement.Stmt.{Stmt}

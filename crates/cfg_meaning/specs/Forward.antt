@@ -1,5 +1,5 @@
 -- What is gone of a local, as a state that is kept along a path: the forward form of looking back.
-use Rattle.std.specs.Prelude.{◌≡◌, ℕ, ◌==◌, Bool, true, false, ◌&&◌, List, [], ◌∷◌, Option, Some, None, if◌then◌else◌}
+use Rattle.std.specs.Prelude.{◌≡◌, ℕ, ◌==◌, Bool, ◌&&◌, List, [], ◌∷◌, Option, Some, None, if◌then◌else◌}
 use Rattle.cfg_graph.specs.declared.graph.Body.{Body}
 use Rattle.cfg_graph.specs.Gone.{Action, counts, leaves_gone, is_gone_after, is_param}
 use Rattle.mir_ty.specs.ItemTable.{ItemTable}

@@ -1,6 +1,6 @@
 -- What a graph does when it runs: strictly, so that a value that is dropped is whole; and as a raw graph, which has
 -- scheduled drops, each of which drops what remains. And what its free walks are.
-use Rattle.std.specs.Prelude.{ℕ, suc, ℤ, Bool, true, false, List, [], ◌∷◌, length, position, slice_get, Option, Some, None, option_and_then, nat_eq, codes}
+use Rattle.std.specs.Prelude.{ℕ, suc, ℤ, Bool, true, false, List, [], ◌∷◌, length, position, slice_get, option_and_then, nat_eq, codes}
 use Rattle.std.specs.Cmp.Lexicographic.{pointwise}
 use Rattle.std.specs.List.{range_with_len}
 use Rattle.std.specs.Option.{option_map_or}

@@ -86,11 +86,11 @@ shows self = body 1 (unit ∷ self ∷ [])
 abbrev main : ℕ → TyId → TyId → Body
 main number adt boxed = body 0 (unit ∷ adt ∷ boxed ∷ object_ty ∷ shared_show_ty ∷ [])
     (block Kind.Plain 2
-        (Stmt.Make (at 1) number 0 (Operand.Number (pos 5) IntKind.I32 ∷ [])
-        ∷ Stmt.NewBox (at 2) (Operand.Moved (at 1))
-        ∷ Stmt.Unsize (at 3) 0 (Operand.Moved (at 2))
-        ∷ Stmt.Borrow (at 4) false (within 3 (Step.Inside ∷ [])) ∷ [])
-        (Term.Virtual (at 0) 0 0 (Operand.Copied (at 4) ∷ []) 1 (Unwind.Block 3))
+    (Stmt.Make (at 1) number 0 (Operand.Number (pos 5) IntKind.I32 ∷ [])
+    ∷ Stmt.NewBox (at 2) (Operand.Moved (at 1))
+    ∷ Stmt.Unsize (at 3) 0 (Operand.Moved (at 2))
+    ∷ Stmt.Borrow (at 4) false (within 3 (Step.Inside ∷ [])) ∷ [])
+    (Term.Virtual (at 0) 0 0 (Operand.Copied (at 4) ∷ []) 1 (Unwind.Block 3))
     ∷ block Kind.Plain 1 [] (Term.DropAt (at 3) 2 Unwind.Resume)
     ∷ block Kind.Plain 0 (Stmt.Put (at 0) Operand.Unit ∷ []) Term.Return
     ∷ block Kind.Cleanup 1 [] (Term.DropAt (at 3) 4 Unwind.Abort)

@@ -49,7 +49,7 @@ items = record {
 abbrev drop_n : Body
 drop_n = body 1 (unit ∷ unique_n_ty ∷ bool ∷ [])
     (block Kind.Plain 1 (Stmt.Compare (at 2) Cmp.Lt (Operand.Copied (within 1 (Step.Inside ∷ Step.Part 0 ∷ []))) (Operand.Number (pos 0) IntKind.I32) ∷ [])
-        (Term.If (Operand.Moved (at 2)) 1 2)
+    (Term.If (Operand.Moved (at 2)) 1 2)
     ∷ block Kind.Plain 0 [] (Term.Panic Why.Explicit Unwind.Resume)
     ∷ block Kind.Plain 0 (Stmt.Put (at 0) Operand.Unit ∷ []) Term.Return ∷ [])
 

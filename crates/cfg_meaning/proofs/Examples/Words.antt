@@ -1,5 +1,5 @@
 -- Words in which the examples write graphs and items.
-use Rattle.std.specs.Prelude.{ℕ, List, [], ◌∷◌, Option, Some, None, Bool, true, false, codes}
+use Rattle.std.specs.Prelude.{ℕ, List, [], ◌∷◌, Option, false, codes}
 use Rattle.cfg_graph.specs.declared.graph.Block.{Block}
 use Rattle.cfg_graph.specs.declared.graph.Body.{Body}
 use Rattle.cfg_graph.specs.declared.graph.Kind.{Kind}
