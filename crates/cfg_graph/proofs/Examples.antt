@@ -1,0 +1,7 @@
+-- Graphs and paths that were worked out by hand, closed by computation.
+pub mod Graphs
+mod Ranks
+mod Short
+mod Statements
+mod Targets
+mod Terminators
