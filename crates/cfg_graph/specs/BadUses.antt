@@ -1,6 +1,6 @@
 -- The bad uses on a path: what reads or tests a place that is gone is refused by U1, what stores into one or drops one
 -- whose container is gone by U2 (The Rust Reference, "Moved and copied types"; rustc's error E0382).
-use Rattle.std.specs.Prelude.{ℕ, Bool, true, false, not, ◌||◌, List, [], ◌∷◌, ◌++◌, if◌then◌else◌}
+use Rattle.std.specs.Prelude.{ℕ, Bool, not, ◌||◌, List, [], ◌∷◌, ◌++◌, if◌then◌else◌}
 use Rattle.mir_ty.specs.ItemTable.{ItemTable}
 use Rattle.store_model.specs.NamedPlace.{Place}
 use Rattle.cfg_graph.specs.declared.graph.Body.{Body}

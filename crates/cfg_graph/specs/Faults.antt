@@ -1,7 +1,7 @@
 -- The faults of a graph, and when it has none. They stand in the order of the text: structs and enums, traits, impls
 -- and closures; then each body with its own line, its locals, and its blocks with their statements and terminators;
 -- and last a `main` that is missing. At one line the lowest number stands first.
-use Rattle.std.specs.Prelude.{◌≡◌, ℕ, zero, suc, ◌+◌, ◌-◌, ◌^◌, ◌==◌, Bool, true, false, not, ◌&&◌, List, [], ◌∷◌, ◌++◌, map, zip, Option, Some, None, length, slice_get, codes}
+use Rattle.std.specs.Prelude.{◌≡◌, ℕ, suc, ◌+◌, ◌-◌, ◌^◌, ◌==◌, Bool, true, false, ◌&&◌, List, [], ◌∷◌, ◌++◌, map, zip, Option, Some, None, length, codes}
 use Rattle.std.specs.List.{list_any}
 use Rattle.mir_ty.specs.declared.def.Sig.{Sig}
 use Rattle.cfg_graph.specs.declared.graph.Block.{Block}

@@ -1,9 +1,8 @@
 -- What is gone at a point of a path, by looking back: a place is gone where the last action on it or on a container of
 -- it took it. The rustc development guide speaks of moves and initialization ("Tracking moves and initialization").
-use Rattle.std.specs.Prelude.{ℕ, ◌≡◌, ◌==◌, Bool, true, false, not, ◌&&◌, ◌||◌, List, [], ◌∷◌, ◌++◌, take, length, map, flat_map, if◌then◌else◌, Option, Some, None, unwrap_or, slice_get, nat_lt, nat_le}
-use Rattle.std.specs.List.{list_any, list_all, starts_with}
-use Rattle.std.specs.Option.{option_or, option_map_or}
-use Rattle.mir_ty.specs.declared.ty.TyId.{TyId}
+use Rattle.std.specs.Prelude.{ℕ, ◌≡◌, ◌==◌, Bool, true, false, not, ◌&&◌, List, [], ◌∷◌, ◌++◌, map, if◌then◌else◌, Option, Some, None, unwrap_or, slice_get, nat_lt, nat_le}
+use Rattle.std.specs.List.{list_any, list_all}
+use Rattle.std.specs.Option.{option_or}
 use Rattle.mir_ty.specs.ItemTable.{ItemTable}
 use Rattle.store_model.specs.NamedPlace.{Step, same_step, ToPart, ToField, ToContent, ToElement, Place, Watched, Whole, ThroughReference, ByElement, watched, before_element}
 use Rattle.cfg_graph.specs.declared.graph.Body.{Body}
@@ -27,9 +26,15 @@ leaves_gone Stores = Some false
 leaves_gone Drops = Some true
 leaves_gone Frees = Some true
 
+-- these steps are the first ones of those, or all of them
+abbrev pub are_first : List Step → List Step → Bool
+are_first [] steps = true
+are_first (first ∷ rest) [] = false
+are_first (first ∷ rest) (step ∷ steps) = same_step first step && are_first rest steps
+
 -- a place is another one or a container of it
 abbrev pub is_at_or_above : Place → Place → Bool
-is_at_or_above upper lower = (upper.local == lower.local) && starts_with same_step lower.steps upper.steps
+is_at_or_above upper lower = (upper.local == lower.local) && are_first upper.steps lower.steps
 
 abbrev pub below : Place → List Step → Place
 below place steps = record { local = place.local; steps = place.steps ++ steps }

@@ -1,5 +1,5 @@
 -- The faults of the lines of items: structs and enums, traits, impls and closures.
-use Rattle.std.specs.Prelude.{ℕ, ◌==◌, Bool, true, false, not, ◌&&◌, ◌||◌, List, [], ◌∷◌, map, flat_map, Option, Some, None, length, slice_get, nat_lt, nat_eq}
+use Rattle.std.specs.Prelude.{ℕ, ◌==◌, Bool, true, false, not, ◌&&◌, List, [], ◌∷◌, map, flat_map, Option, Some, length, slice_get, nat_lt}
 use Rattle.std.specs.List.{list_any, list_all}
 use Rattle.std.specs.Option.{option_map_or}
 use Rattle.std.specs.Cmp.Lexicographic.{pointwise}
@@ -64,20 +64,26 @@ module _ (items : ItemTable) (bodies : ℕ) where
   abbrev pub adt_faults : ℕ → Adt → List ℕ
   adt_faults n adt =
       broken (
-        (1, exist (field_types adt) && option_map_or (λ body. nat_lt body bodies) adt.drop_body true)
-        ∷ (3, place_dyn (field_types adt) && option_map_or (has_drop_sig n) adt.drop_body true && not (adt_holds_itself items n))
-        ∷ (7, is_adt_name adt.name && list_all (λ variant. is_name variant.name) adt.variants
-              && not (is_repeated (map (λ other. other.name) items.adts) n adt.name))
-        ∷ [])
+      (1, exist (field_types adt) && option_map_or (λ body. nat_lt body bodies) adt.drop_body true)
+      ∷ (3, place_dyn (field_types adt) && option_map_or (has_drop_sig n) adt.drop_body true && not (adt_holds_itself items n))
+      ∷ (
+        7,
+        is_adt_name adt.name && list_all (λ variant. is_name variant.name) adt.variants
+            && not (is_repeated (map (λ other. other.name) items.adts) n adt.name),
+      )
+      ∷ [])
 
   abbrev pub trait_faults : ℕ → TraitDef → List ℕ
   trait_faults n def =
       broken (
-        (1, exist (types_of_trait def))
-        ∷ (3, place_dyn (types_of_trait def))
-        ∷ (7, is_name def.name && list_all (λ method. is_name method.name) def.methods
-              && not (is_repeated (map (λ other. other.name) items.traits) n def.name))
-        ∷ [])
+      (1, exist (types_of_trait def))
+      ∷ (3, place_dyn (types_of_trait def))
+      ∷ (
+        7,
+        is_name def.name && list_all (λ method. is_name method.name) def.methods
+            && not (is_repeated (map (λ other. other.name) items.traits) n def.name),
+      )
+      ∷ [])
 
   -- the type of `self` in a trait's method, and in the body of it for this struct or enum
   abbrev are_selves : ℕ → Option Ty → Option Ty → Bool
@@ -103,10 +109,10 @@ module _ (items : ItemTable) (bodies : ℕ) where
   abbrev pub impl_faults : ℕ → ImplDef → List ℕ
   impl_faults n impl =
       broken (
-        (1, nat_lt impl.trait_no (length items.traits) && nat_lt impl.adt (length items.adts) && list_all (λ body. nat_lt body bodies) impl.bodies)
-        ∷ (3, pointwise (body_implements impl.adt) (methods_of impl.trait_no) impl.bodies)
-        ∷ (7, not (is_repeated_impl items.impls n impl))
-        ∷ [])
+      (1, nat_lt impl.trait_no (length items.traits) && nat_lt impl.adt (length items.adts) && list_all (λ body. nat_lt body bodies) impl.bodies)
+      ∷ (3, pointwise (body_implements impl.adt) (methods_of impl.trait_no) impl.bodies)
+      ∷ (7, not (is_repeated_impl items.impls n impl))
+      ∷ [])
 
   abbrev begins_with_closure : ℕ → List TyId → Bool
   begins_with_closure n [] = false
@@ -118,6 +124,6 @@ module _ (items : ItemTable) (bodies : ℕ) where
   abbrev pub closure_faults : ℕ → ClosureDef → List ℕ
   closure_faults n def =
       broken (
-        (1, exist def.captures && nat_lt def.body bodies)
-        ∷ (3, place_dyn def.captures && has_closure_sig n def.body && not (closure_holds_itself items n))
-        ∷ [])
+      (1, exist def.captures && nat_lt def.body bodies)
+      ∷ (3, place_dyn def.captures && has_closure_sig n def.body && not (closure_holds_itself items n))
+      ∷ [])

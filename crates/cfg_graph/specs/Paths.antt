@@ -1,15 +1,14 @@
 -- The paths of a body: through which blocks a run may come, if every condition may go either way and all that can
 -- panic may panic. A path begins in block 0 and goes on along edges, and is the list of its blocks. Where a block has
 -- two ways out, the way gives an item, 1 for `yes` and for a panic; each turn of a loop gives a 0.
-use Rattle.std.specs.Prelude.{ℕ, zero, suc, ◌==◌, Bool, true, false, List, [], ◌∷◌, ◌++◌, map, flat_map, if◌then◌else◌, Option, Some, None, slice_get, option_and_then, Contains}
+use Rattle.std.specs.Prelude.{ℕ, zero, suc, ◌==◌, Bool, true, false, List, [], ◌∷◌, ◌++◌, map, flat_map, if◌then◌else◌, Option, Some, slice_get, Contains}
 use Rattle.std.specs.Option.{option_map_or}
 use Rattle.mir_ty.specs.declared.ty.Ty.{Ty}
 use Rattle.mir_ty.specs.declared.ty.TyId.{TyId}
 use Rattle.mir_ty.specs.Facts.{needs_drop}
-use Rattle.mir_ty.specs.ItemTable.{ItemTable, type_at}
+use Rattle.mir_ty.specs.ItemTable.{ItemTable}
 use Rattle.cfg_graph.specs.declared.place.Place.{Place}
 use Rattle.cfg_graph.specs.declared.terminator.Term.{Term}
-use Rattle.cfg_graph.specs.declared.graph.Block.{Block}
 use Rattle.cfg_graph.specs.declared.graph.Body.{Body}
 use Rattle.cfg_graph.specs.Edges.{Exit, ToBlock, LeavesBody, ways_out, is_turn}
 use Rattle.cfg_graph.specs.Places.{place_id, ty_of_place}

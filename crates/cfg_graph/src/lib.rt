@@ -14,3 +14,5 @@ pub use place::{Operand, Place, Step, Steps};
 pub use statement::Stmt;
 pub use terminator::{Term, Unwind};
 
+#[cfg(test)]
+mod tests;

@@ -1,10 +1,9 @@
 -- The graphs of the examples: the one of the short listing in `docs/GRAPHS.md`, and a larger one whose `main` varies.
-use Rattle.std.specs.Prelude.{ℕ, ℤ, pos, Bool, true, false, List, [], ◌∷◌, codes, Some, None}
+use Rattle.std.specs.Prelude.{ℕ, pos, true, false, List, [], ◌∷◌, codes, Some, None}
 use Rattle.mir_base.specs.declared.int_kind.IntKind.{IntKind}
 use Rattle.mir_ty.specs.declared.ty.Ty.{Ty}
 use Rattle.mir_ty.specs.declared.ty.TyId.{TyId}
 use Rattle.mir_ty.specs.declared.adt.Adt.{Adt}
-use Rattle.mir_ty.specs.declared.adt.Variant.{Variant}
 use Rattle.mir_ty.specs.declared.def.Sig.{Sig}
 use Rattle.mir_ty.specs.declared.def.TraitDef.{TraitDef}
 use Rattle.mir_ty.specs.declared.def.ImplDef.{ImplDef}
@@ -58,8 +57,12 @@ head name params answer = record { name = name; params = params; result = id ans
 -- struct D (i32) drop 0
 abbrev pub d : Adt
 d = record {
-    name = codes "D"; is_enum = false; copy = false; drop_body = Some 0;
-    variants = record { name = codes "D"; fields = id 0 ∷ []; field_names = codes "0" ∷ [] } ∷ [] }
+  name = codes "D";
+  is_enum = false;
+  copy = false;
+  drop_body = Some 0;
+  variants = record { name = codes "D"; fields = id 0 ∷ []; field_names = codes "0" ∷ [] } ∷ [];
+}
 
 -- i32, D, (), &mut D
 abbrev first_types : List Ty
@@ -75,10 +78,16 @@ make_d local = Stmt.Make (var local) 0 0 (seven ∷ [])
 -- the short listing
 abbrev pub short : Graph
 short = record {
-    items = record {
-        types = first_types; adts = d ∷ []; traits = []; impls = []; closures = [];
-        bodies = head (codes "D::drop") (id 3 ∷ []) 2 ∷ head (codes "main") [] 2 ∷ [] };
-    bodies = drop_of_d ∷ body 0 (id 2 ∷ id 1 ∷ []) (plain 1 (make_d 1 ∷ []) (Term.DropAt (var 1) 1 Unwind.Resume) ∷ last ∷ []) ∷ [] }
+  items = record {
+    types = first_types;
+    adts = d ∷ [];
+    traits = [];
+    impls = [];
+    closures = [];
+    bodies = head (codes "D::drop") (id 3 ∷ []) 2 ∷ head (codes "main") [] 2 ∷ [];
+  };
+  bodies = drop_of_d ∷ body 0 (id 2 ∷ id 1 ∷ []) (plain 1 (make_d 1 ∷ []) (Term.DropAt (var 1) 1 Unwind.Resume) ∷ last ∷ []) ∷ [];
+}
 
 -- the types of the larger graph
 abbrev pub types : List Ty
@@ -96,9 +105,13 @@ types =
 -- enum E { A (D), B () }
 abbrev pub e : Adt
 e = record {
-    name = codes "E"; is_enum = true; copy = false; drop_body = None;
-    variants = record { name = codes "A"; fields = id 1 ∷ []; field_names = codes "0" ∷ [] }
-        ∷ record { name = codes "B"; fields = []; field_names = [] } ∷ [] }
+  name = codes "E";
+  is_enum = true;
+  copy = false;
+  drop_body = None;
+  variants = record { name = codes "A"; fields = id 1 ∷ []; field_names = codes "0" ∷ [] }
+      ∷ record { name = codes "B"; fields = []; field_names = [] } ∷ [];
+}
 
 -- trait Show { show (&dyn Show) () }
 abbrev pub show : TraitDef

@@ -1,17 +1,13 @@
 -- Paths and the items that they give.
 use Rattle.std.proofs.Common.{◌≡◌, refl, [], ◌∷◌}
-use Rattle.std.specs.Prelude.{ℕ, Bool, List, map, true, false}
+use Rattle.std.specs.Prelude.{ℕ, Bool, List, true, false}
 use Rattle.mir_base.specs.declared.trace.Why.{Why}
 use Rattle.mir_ty.specs.declared.ty.TyId.{TyId}
-use Rattle.cfg_graph.specs.declared.place.Step.{Step}
-use Rattle.cfg_graph.specs.declared.place.Place.{Place}
 use Rattle.cfg_graph.specs.declared.place.Operand.{Operand}
-use Rattle.cfg_graph.specs.declared.statement.Stmt.{Stmt}
 use Rattle.cfg_graph.specs.declared.terminator.Term.{Term}
 use Rattle.cfg_graph.specs.declared.terminator.Unwind.{Unwind}
 use Rattle.cfg_graph.specs.declared.graph.Kind.{Kind}
 use Rattle.cfg_graph.specs.declared.graph.Block.{Block}
-use Rattle.cfg_graph.specs.declared.graph.Body.{Body}
 use Rattle.cfg_graph.specs.Paths.{items_of_path, items_of_leaving_path}
 use Rattle.cfg_graph.proofs.Examples.Graphs.{items, id, var, plain, block, body, last}
 

@@ -1,21 +1,14 @@
 -- Ranks, cleanup blocks, rows of impls, and names; and which fault is the first.
-use Rattle.std.proofs.Common.{◌≡◌, refl, [], ◌∷◌, ◌++◌, pos, negsuc}
-use Rattle.std.specs.Prelude.{ℕ, List, codes, true, false, Option, Some, None, ◌^◌}
-use Rattle.mir_base.specs.declared.int_kind.IntKind.{IntKind}
-use Rattle.mir_base.specs.declared.operator.Cmp.{Cmp}
-use Rattle.mir_base.specs.declared.operator.Math.{Math}
+use Rattle.std.proofs.Common.{◌≡◌, refl, [], ◌∷◌}
+use Rattle.std.specs.Prelude.{codes, Some}
 use Rattle.mir_base.specs.declared.trace.Why.{Why}
-use Rattle.mir_ty.specs.declared.ty.Ty.{Ty}
-use Rattle.cfg_graph.specs.declared.place.Step.{Step}
 use Rattle.cfg_graph.specs.declared.place.Operand.{Operand}
 use Rattle.cfg_graph.specs.declared.statement.Stmt.{Stmt}
 use Rattle.cfg_graph.specs.declared.terminator.Term.{Term}
 use Rattle.cfg_graph.specs.declared.terminator.Unwind.{Unwind}
 use Rattle.cfg_graph.specs.declared.graph.Kind.{Kind}
-use Rattle.cfg_graph.specs.declared.graph.Graph.{Graph}
-use Rattle.cfg_graph.specs.declared.graph.GraphFault.{GraphFault}
 use Rattle.cfg_graph.specs.Faults.{first_fault, nowhere}
-use Rattle.cfg_graph.proofs.Examples.Graphs.{short, with_block, with_main, with_items, graph, items, heads, head, id, var, along, seven, make_d, plain, block, body, last, types, d, e, show, show_d, closure, fault, item_fault}
+use Rattle.cfg_graph.proofs.Examples.Graphs.{with_block, with_main, with_items, items, head, id, var, make_d, plain, block, last, d, e, show, show_d, fault, item_fault}
 
 a_block_that_leads_to_itself : first_fault (with_main (id 2 ∷ []) (plain 1 [] (Term.Goto 0) ∷ last ∷ [])) ≡ Some (fault 4 1 0 0)
 a_block_that_leads_to_itself = refl

@@ -1,21 +1,14 @@
 -- Statements that do not have their types.
-use Rattle.std.proofs.Common.{◌≡◌, refl, [], ◌∷◌, ◌++◌, pos, negsuc}
-use Rattle.std.specs.Prelude.{ℕ, List, codes, true, false, Option, Some, None, ◌^◌}
+use Rattle.std.proofs.Common.{◌≡◌, refl, [], ◌∷◌, pos, negsuc}
+use Rattle.std.specs.Prelude.{true, false, Some, ◌^◌}
 use Rattle.mir_base.specs.declared.int_kind.IntKind.{IntKind}
 use Rattle.mir_base.specs.declared.operator.Cmp.{Cmp}
-use Rattle.mir_base.specs.declared.operator.Math.{Math}
-use Rattle.mir_base.specs.declared.trace.Why.{Why}
-use Rattle.mir_ty.specs.declared.ty.Ty.{Ty}
 use Rattle.cfg_graph.specs.declared.place.Step.{Step}
 use Rattle.cfg_graph.specs.declared.place.Operand.{Operand}
 use Rattle.cfg_graph.specs.declared.statement.Stmt.{Stmt}
 use Rattle.cfg_graph.specs.declared.terminator.Term.{Term}
-use Rattle.cfg_graph.specs.declared.terminator.Unwind.{Unwind}
-use Rattle.cfg_graph.specs.declared.graph.Kind.{Kind}
-use Rattle.cfg_graph.specs.declared.graph.Graph.{Graph}
-use Rattle.cfg_graph.specs.declared.graph.GraphFault.{GraphFault}
-use Rattle.cfg_graph.specs.Faults.{first_fault, nowhere}
-use Rattle.cfg_graph.proofs.Examples.Graphs.{short, with_block, with_main, with_items, graph, items, heads, head, id, var, along, seven, make_d, plain, block, body, last, types, d, e, show, show_d, closure, fault, item_fault}
+use Rattle.cfg_graph.specs.Faults.{first_fault}
+use Rattle.cfg_graph.proofs.Examples.Graphs.{with_main, id, var, along, seven, plain, last, fault}
 
 a_field_of_another_type : first_fault (with_main (id 2 ∷ id 1 ∷ id 0 ∷ id 4 ∷ id 10 ∷ id 11 ∷ id 12 ∷ id 14 ∷ id 6 ∷ id 8 ∷ id 15 ∷ id 5 ∷ []) (plain 1 (Stmt.Make (var 1) 0 0 (Operand.Number (pos 7) IntKind.U32 ∷ []) ∷ []) (Term.Goto 1) ∷ last ∷ [])) ≡ Some (fault 3 1 0 0)
 a_field_of_another_type = refl

@@ -1,21 +1,13 @@
 -- Graphs in which a number or a local does not exist.
-use Rattle.std.proofs.Common.{◌≡◌, refl, [], ◌∷◌, ◌++◌, pos, negsuc}
-use Rattle.std.specs.Prelude.{ℕ, List, codes, true, false, Option, Some, None, ◌^◌}
-use Rattle.mir_base.specs.declared.int_kind.IntKind.{IntKind}
-use Rattle.mir_base.specs.declared.operator.Cmp.{Cmp}
-use Rattle.mir_base.specs.declared.operator.Math.{Math}
-use Rattle.mir_base.specs.declared.trace.Why.{Why}
-use Rattle.mir_ty.specs.declared.ty.Ty.{Ty}
+use Rattle.std.proofs.Common.{◌≡◌, refl, [], ◌∷◌}
+use Rattle.std.specs.Prelude.{codes, Some}
 use Rattle.cfg_graph.specs.declared.place.Step.{Step}
 use Rattle.cfg_graph.specs.declared.place.Operand.{Operand}
 use Rattle.cfg_graph.specs.declared.statement.Stmt.{Stmt}
 use Rattle.cfg_graph.specs.declared.terminator.Term.{Term}
 use Rattle.cfg_graph.specs.declared.terminator.Unwind.{Unwind}
-use Rattle.cfg_graph.specs.declared.graph.Kind.{Kind}
-use Rattle.cfg_graph.specs.declared.graph.Graph.{Graph}
-use Rattle.cfg_graph.specs.declared.graph.GraphFault.{GraphFault}
 use Rattle.cfg_graph.specs.Faults.{first_fault, nowhere}
-use Rattle.cfg_graph.proofs.Examples.Graphs.{short, with_block, with_main, with_items, graph, items, heads, head, id, var, along, seven, make_d, plain, block, body, last, types, d, e, show, show_d, closure, fault, item_fault}
+use Rattle.cfg_graph.proofs.Examples.Graphs.{with_main, with_items, items, head, id, var, along, make_d, plain, body, last, d, e, show, show_d, closure, fault, item_fault}
 
 no_such_block : first_fault (with_main (id 2 ∷ id 1 ∷ []) (plain 1 (make_d 1 ∷ []) (Term.DropAt (var 1) 7 Unwind.Resume) ∷ last ∷ [])) ≡ Some (fault 1 1 0 1)
 no_such_block = refl

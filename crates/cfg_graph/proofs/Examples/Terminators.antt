@@ -1,21 +1,13 @@
 -- Terminators and items that do not have their types.
-use Rattle.std.proofs.Common.{◌≡◌, refl, [], ◌∷◌, ◌++◌, pos, negsuc}
-use Rattle.std.specs.Prelude.{ℕ, List, codes, true, false, Option, Some, None, ◌^◌}
-use Rattle.mir_base.specs.declared.int_kind.IntKind.{IntKind}
-use Rattle.mir_base.specs.declared.operator.Cmp.{Cmp}
+use Rattle.std.proofs.Common.{◌≡◌, refl, [], ◌∷◌}
+use Rattle.std.specs.Prelude.{codes, true, Some}
 use Rattle.mir_base.specs.declared.operator.Math.{Math}
 use Rattle.mir_base.specs.declared.trace.Why.{Why}
-use Rattle.mir_ty.specs.declared.ty.Ty.{Ty}
-use Rattle.cfg_graph.specs.declared.place.Step.{Step}
 use Rattle.cfg_graph.specs.declared.place.Operand.{Operand}
-use Rattle.cfg_graph.specs.declared.statement.Stmt.{Stmt}
 use Rattle.cfg_graph.specs.declared.terminator.Term.{Term}
 use Rattle.cfg_graph.specs.declared.terminator.Unwind.{Unwind}
-use Rattle.cfg_graph.specs.declared.graph.Kind.{Kind}
-use Rattle.cfg_graph.specs.declared.graph.Graph.{Graph}
-use Rattle.cfg_graph.specs.declared.graph.GraphFault.{GraphFault}
 use Rattle.cfg_graph.specs.Faults.{first_fault, nowhere}
-use Rattle.cfg_graph.proofs.Examples.Graphs.{short, with_block, with_main, with_items, graph, items, heads, head, id, var, along, seven, make_d, plain, block, body, last, types, d, e, show, show_d, closure, fault, item_fault}
+use Rattle.cfg_graph.proofs.Examples.Graphs.{with_block, with_main, with_items, items, id, var, seven, make_d, plain, last, d, e, show_d, closure, fault, item_fault}
 
 a_condition_that_is_no_bool : first_fault (with_block (id 2 ∷ id 1 ∷ id 0 ∷ id 4 ∷ id 12 ∷ id 17 ∷ id 8 ∷ []) [] (Term.If seven 1 1)) ≡ Some (fault 3 1 0 0)
 a_condition_that_is_no_bool = refl

@@ -1,7 +1,6 @@
 -- Uses of places on a path: of each rule one that breaks it, and one that just does not.
 use Rattle.std.proofs.Common.{◌≡◌, refl, [], ◌∷◌}
-use Rattle.std.specs.Prelude.{ℕ, Bool, List, map, true, false}
-use Rattle.mir_base.specs.declared.trace.Why.{Why}
+use Rattle.std.specs.Prelude.{ℕ, List, map, false}
 use Rattle.mir_ty.specs.declared.ty.TyId.{TyId}
 use Rattle.cfg_graph.specs.declared.place.Step.{Step}
 use Rattle.cfg_graph.specs.declared.place.Place.{Place}
@@ -11,9 +10,8 @@ use Rattle.cfg_graph.specs.declared.terminator.Term.{Term}
 use Rattle.cfg_graph.specs.declared.terminator.Unwind.{Unwind}
 use Rattle.cfg_graph.specs.declared.graph.Kind.{Kind}
 use Rattle.cfg_graph.specs.declared.graph.Block.{Block}
-use Rattle.cfg_graph.specs.declared.graph.Body.{Body}
 use Rattle.cfg_graph.specs.BadUses.{UseRule, U1, U2, BadUse, bad_uses_on}
-use Rattle.cfg_graph.proofs.Examples.Graphs.{items, id, var, along, make_d, plain, block, body}
+use Rattle.cfg_graph.proofs.Examples.Graphs.{items, id, var, along, plain, block, body}
 
 -- a parameter (D, D), and the locals D, [D; 2], usize, E, Box<D> and &D, which nothing has been stored into
 abbrev locals : List TyId
