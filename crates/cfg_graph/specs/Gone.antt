@@ -1,6 +1,6 @@
 -- What is gone at a point of a path, by looking back: a place is gone where the last action on it or on a container of
 -- it took it. The rustc development guide speaks of moves and initialization ("Tracking moves and initialization").
-use Rattle.std.specs.Prelude.{ℕ, ◌≡◌, ◌==◌, Bool, true, false, not, ◌&&◌, List, [], ◌∷◌, ◌++◌, map, if◌then◌else◌, Option, Some, None, unwrap_or, slice_get, nat_lt, nat_le}
+use Rattle.std.specs.Prelude.{ℕ, ◌≡◌, ◌↔◌, ◌==◌, Bool, true, false, not, ◌&&◌, List, [], ◌∷◌, ◌++◌, map, if◌then◌else◌, Option, Some, None, unwrap_or, slice_get, nat_lt, nat_le}
 use Rattle.std.specs.List.{list_any, list_all}
 use Rattle.std.specs.Option.{option_or}
 use Rattle.mir_ty.specs.ItemTable.{ItemTable}
@@ -56,15 +56,15 @@ reaches_whole w = elim w.reach [ Whole ↦ true | ThroughReference ↦ false | B
 
 module _ (items : ItemTable) (body : Body) where
   -- what is done behind a reference, or at a place with an index step, counts for no place
-  abbrev counts : Place → Bool
+  abbrev pub counts : Place → Bool
   counts place = reaches_whole (watched items (slice_get body.locals place.local) place.steps)
 
   -- what an action leaves of a place, if it was on the place or on a container of it
-  abbrev left_by : Place → Action → Option Bool
+  abbrev pub left_by : Place → Action → Option Bool
   left_by place action = if counts action.place && is_at_or_above action.place place then leaves_gone action.how else None
 
   -- what the last such action left
-  abbrev last_left : Place → List Action → Option Bool
+  abbrev pub last_left : Place → List Action → Option Bool
   last_left place [] = None
   last_left place (action ∷ later) = option_or (last_left place later) (left_by place action)
 
@@ -94,3 +94,9 @@ module _ (items : ItemTable) (body : Body) where
   abbrev pub array_broken_after : List Action → Place → Bool
   array_broken_after actions place =
       has_index place.steps && not (is_whole_after actions (record { local = place.local; steps = before_element place.steps }))
+
+-- what the law of whole places says: the test tells exactly the places that are whole
+abbrev pub WholenessIsTested : Type 0
+WholenessIsTested =
+    (items : ItemTable) (body : Body) (actions : List Action) (place : Place)
+    → is_whole_after items body actions place ≡ true ↔ IsWholeAfter items body actions place
