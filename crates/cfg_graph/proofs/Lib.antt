@@ -1,2 +1,3 @@
 mod Examples
+pub mod Ranked
 pub mod WholePlaces

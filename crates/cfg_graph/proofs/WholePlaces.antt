@@ -1,6 +1,6 @@
 -- The test for whole places tells exactly the whole ones. A place below another was last acted on together with that
 -- one, or together with a place between them on which an action was.
-use Rattle.std.proofs.Common.{◌≡◌, ◌↔◌, ◌⊎◌, inl, inr, ℕ, Bool, true, false, not, ◌&&◌, cond, if◌then◌else◌, eqb, List, [], ◌∷◌, ◌++◌, Option, Some, None, Decides, refl, ap, subst, sym, ◌∙◌}
+use Rattle.std.proofs.Common.{◌≡◌, ◌⊎◌, inl, inr, ℕ, Bool, true, false, not, ◌&&◌, if◌then◌else◌, List, [], ◌∷◌, ◌++◌, Option, Some, None, refl, ap, subst, sym, ◌∙◌}
 use Rattle.std.specs.Prelude.{◌==◌, unwrap_or}
 use Rattle.std.specs.Cmp.{first_so, second_so}
 use Rattle.std.specs.Cmp.Derive.{both_true}
@@ -191,7 +191,8 @@ module _ (items : ItemTable) (body : Body) where
         b,
         (λ test k. among test (second_so (test a) (list_all test later) k)),
         above,
-        or-some (last_left items body l later) (last_left items body b.place later) (left_by items body l a) (left_by items body b.place a) v h e)
+        or-some (last_left items body l later) (last_left items body b.place later) (left_by items body l a) (left_by items body b.place a) v h e,
+      )
 
   -- its own action counts for the place of an action
   own_left : (l : Place) (a : Action) → is_at_or_above a.place l ≡ true → left_by items body l a ≡ left_by items body a.place a
@@ -203,14 +204,15 @@ module _ (items : ItemTable) (body : Body) where
       elim (left-compare (counts items body a.place) (is_at_or_above a.place l) (is_at_or_above a.place p) (leaves_gone a.how) (λ k. above-trans a.place p l k h)) [
         | inl e ↦ inl (or-none (last_left items body l later) (last_left items body p later) (left_by items body l a) (left_by items body p a) none (last_left-upper p l h later none) e)
         | inr apart ↦ elim (above-compare a.place p l apart.0 h) [
-            | inl k ↦ absurd (false≢true (sym apart.1 ∙ k))
-            | inr k ↦ inr (
-                a,
-                (λ test pass. first_so (test a) (list_all test later) pass),
-                k,
-                or-none (last_left items body l later) (last_left items body a.place later) (left_by items body l a) (left_by items body a.place a) none
-                  (last_left-upper a.place l apart.0 later none) (own_left l a apart.0))
-          ]
+          | inl k ↦ absurd (false≢true (sym apart.1 ∙ k))
+          | inr k ↦ inr (
+            a,
+            (λ test pass. first_so (test a) (list_all test later) pass),
+            k,
+            or-none (last_left items body l later) (last_left items body a.place later) (left_by items body l a) (left_by items body a.place a) none
+                (last_left-upper a.place l apart.0 later none) (own_left l a apart.0),
+          )
+        ]
       ]
 
   last_with : (p l : Place) → is_at_or_above p l ≡ true → (actions : List Action) → IsLastWith p l actions
@@ -226,14 +228,14 @@ module _ (items : ItemTable) (body : Body) where
   tested_at actions p a = not (is_at_or_above p a.place && is_gone_after items body actions a.place)
 
   whole_below : (actions : List Action) (p : Place) → is_whole_after items body actions p ≡ true → (steps : List Step)
-    → IsLastWith p (below p steps) actions → is_gone_after items body actions (below p steps) ≡ false
+      → IsLastWith p (below p steps) actions → is_gone_after items body actions (below p steps) ≡ false
   whole_below actions p h steps (inl e) =
       ap (λ z. unwrap_or z (not (is_param items body p.local))) e
       ∙ not_gone (is_gone_after items body actions p) (first_so (not (is_gone_after items body actions p)) (list_all (tested_at actions p) actions) h)
   whole_below actions p h steps (inr (b, among, above, e)) =
       let test : list_all (tested_at actions p) actions ≡ true = second_so (not (is_gone_after items body actions p)) (list_all (tested_at actions p) actions) h in
       let present : is_gone_after items body actions b.place ≡ false =
-          above_gone (is_at_or_above p b.place) (is_gone_after items body actions b.place) (among (tested_at actions p) test) above in
+      above_gone (is_at_or_above p b.place) (is_gone_after items body actions b.place) (among (tested_at actions p) test) above in
       let same : p.local ≡ b.place.local = sym (ap (λ q. q.local) (above-sound p b.place above).1) in
       ap (λ z. unwrap_or z (not (is_param items body p.local))) e
       ∙ ap (λ n. unwrap_or (last_left items body b.place actions) (not (is_param items body n))) same
@@ -244,12 +246,13 @@ module _ (items : ItemTable) (body : Body) where
       both_true
       (gone_not (is_gone_after items body actions p) (subst (λ q. is_gone_after items body actions q ≡ false) (below-nil p) (whole [])))
       (all_pass (λ a. not (is_at_or_above p a.place && is_gone_after items body actions a.place)) actions
-        (λ a. unless_above (is_at_or_above p a.place) (is_gone_after items body actions a.place)
-          (λ above. let lower = above-sound p a.place above in
-              subst (λ q. is_gone_after items body actions q ≡ false) (sym lower.1) (whole lower.0))))
+      (λ a. unless_above (is_at_or_above p a.place) (is_gone_after items body actions a.place)
+      (λ above. let lower = above-sound p a.place above in
+      subst (λ q. is_gone_after items body actions q ≡ false) (sym lower.1) (whole lower.0))))
 
 -- the law
 pub wholeness_is_tested : WholenessIsTested
-wholeness_is_tested items body actions place =
-    (λ h steps. whole_below items body actions place h steps (last_with items body place (below place steps) (above-below place steps) actions),
-     whole_tested items body actions place)
+wholeness_is_tested items body actions place = (
+  λ h steps. whole_below items body actions place h steps (last_with items body place (below place steps) (above-below place steps) actions),
+  whole_tested items body actions place,
+)

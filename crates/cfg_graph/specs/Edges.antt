@@ -87,5 +87,5 @@ lowers from to = is_turn to || nat_lt to.rank from.rank
 -- each edge of a body that does not lead to a turn block lowers the rank
 abbrev pub IsRanked : Body → Type 0
 IsRanked body =
-    (from to : Block) (n : ℕ) → Contains body.blocks from → Contains (targets from.term) n → slice_get body.blocks n ≡ Some to
+    (n m : ℕ) (from to : Block) → slice_get body.blocks n ≡ Some from → Contains (targets from.term) m → slice_get body.blocks m ≡ Some to
     → is_turn to ≡ false → to.rank < from.rank

@@ -93,15 +93,17 @@ module _ (items : ItemTable) (bodies : ℕ) where
   blocks_exist body blocks = list_all (λ n. nat_lt n (length body.blocks)) blocks
 
   -- of the terminator of a block
-  abbrev pub term_faults : Body → Block → List ℕ
-  term_faults body block =
-      broken (
+  abbrev pub term_tests : Body → Block → List (ℕ × Bool)
+  term_tests body block =
       (1, term_numbers_exist block.term && blocks_exist body (targets block.term))
       ∷ (2, list_all (locals_exist body) (places_of_term block.term))
       ∷ (3, term_is_typed items body.locals block.term)
       ∷ (4, edges_lower body block)
       ∷ (5, keeps_to_cleanup body block)
-      ∷ [])
+      ∷ []
+
+  abbrev pub term_faults : Body → Block → List ℕ
+  term_faults body block = broken (term_tests body block)
 
   abbrev pub local_faults : TyId → List ℕ
   local_faults id = broken ((1, ty_exists items id) ∷ (3, not (misplaces_dyn items id)) ∷ [])

@@ -1,4 +1,4 @@
-use crate::{Block, Body, Kind, Step, Steps, Term, rank};
+use crate::{Block, Body, Kind, Step, Steps, Term, law_of_ranks, law_of_whole_places, rank};
 use mir_base::List;
 use std::test::Fail;
 
@@ -46,4 +46,10 @@ fn steps(rt: HostRuntime) -> Result<(), Fail> {
     assert!(rt; steps.as_slice() == rows.as_slice());
     assert!(rt; steps.copy(rt.alloc())?.as_slice() == rows.as_slice());
     Ok(())
+}
+
+#[test]
+fn laws(_rt: HostRuntime) {
+    law_of_ranks();
+    law_of_whole_places();
 }
