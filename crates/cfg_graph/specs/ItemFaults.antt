@@ -13,20 +13,10 @@ use Rattle.mir_ty.specs.declared.def.ClosureDef.{ClosureDef}
 use Rattle.mir_ty.specs.ItemTable.{ItemTable, type_at}
 use Rattle.cfg_graph.specs.Broken.{broken}
 use Rattle.cfg_graph.specs.NameFaults.{is_name, is_adt_name, is_repeated, is_repeated_impl}
-use Rattle.cfg_graph.specs.TypeFaults.{same_id, same_ids, is_drop_body, ty_exists, misplaces_dyn, adt_holds_itself, closure_holds_itself}
+use Rattle.cfg_graph.specs.TypeForms.{same_id, same_ids, is_unit, is_adt, is_closure}
+use Rattle.cfg_graph.specs.TypeFaults.{is_drop_body, ty_exists, misplaces_dyn, adt_holds_itself, closure_holds_itself}
 
-abbrev is_unit : Option Ty → Bool
-is_unit (Some Ty.Unit) = true
-is_unit _ = false
-
-abbrev is_adt : ℕ → Option Ty → Bool
-is_adt n (Some (Ty.Adt m)) = n == m
-is_adt n _ = false
-
-abbrev is_closure : ℕ → Option Ty → Bool
-is_closure n (Some (Ty.Closure m)) = n == m
-is_closure n _ = false
-
+-- the types that the line of a struct or enum has, and that of a trait
 abbrev field_types : Adt → List TyId
 field_types adt = flat_map (λ variant. variant.fields) adt.variants
 
@@ -38,9 +28,11 @@ types_of_trait def = flat_map types_of_sig def.methods
 
 -- the items, and how many bodies there are
 module _ (items : ItemTable) (bodies : ℕ) where
+  -- these types exist, with all that they name
   abbrev exist : List TyId → Bool
   exist ids = list_all (ty_exists items) ids
 
+  -- none of them has a `dyn` type in a wrong place
   abbrev place_dyn : List TyId → Bool
   place_dyn ids = not (list_any (misplaces_dyn items) ids)
 
@@ -114,6 +106,7 @@ module _ (items : ItemTable) (bodies : ℕ) where
       ∷ (7, not (is_repeated_impl items.impls n impl))
       ∷ [])
 
+  -- the closure value is the first parameter of its body
   abbrev begins_with_closure : ℕ → List TyId → Bool
   begins_with_closure n [] = false
   begins_with_closure n (first ∷ rest) = is_closure n (type_at items first)

@@ -11,5 +11,6 @@ pub mod NameFaults
 pub mod Paths
 pub mod Places
 pub mod TypeFaults
+pub mod TypeForms
 pub mod Typing
 pub mod Uses

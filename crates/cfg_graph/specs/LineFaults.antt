@@ -16,8 +16,9 @@ use Rattle.cfg_graph.specs.Cleanup.{edges_lower, keeps_to_cleanup}
 use Rattle.cfg_graph.specs.Edges.{targets}
 use Rattle.cfg_graph.specs.NameFaults.{is_name, is_repeated}
 use Rattle.cfg_graph.specs.Places.{index_locals, ty_of_operand}
-use Rattle.cfg_graph.specs.TypeFaults.{ty_exists, misplaces_dyn, same_ids}
-use Rattle.cfg_graph.specs.Typing.{stmt_is_typed, term_is_typed, method_at, adt_of, box_content}
+use Rattle.cfg_graph.specs.TypeFaults.{ty_exists, misplaces_dyn}
+use Rattle.cfg_graph.specs.TypeForms.{same_ids, adt_of, box_content}
+use Rattle.cfg_graph.specs.Typing.{stmt_is_typed, term_is_typed, method_at}
 use Rattle.cfg_graph.specs.Uses.{places_of_stmt, places_of_term}
 
 -- the items, and how many bodies there are

@@ -11,6 +11,7 @@ use Rattle.cfg_graph.specs.declared.place.Place.{Place}
 use Rattle.cfg_graph.specs.declared.terminator.Term.{Term}
 use Rattle.cfg_graph.specs.declared.graph.Body.{Body}
 use Rattle.cfg_graph.specs.Edges.{Exit, ToBlock, LeavesBody, ways_out, is_turn}
+use Rattle.cfg_graph.specs.TypeForms.{is_never}
 use Rattle.cfg_graph.specs.Places.{place_id, ty_of_place}
 
 -- a way out of a block on a path: the items that it gives, and where it leads
@@ -34,10 +35,6 @@ abbrev second_alone : List Exit → List Way
 second_alone [] = []
 second_alone (first ∷ []) = []
 second_alone (first ∷ second ∷ rest) = record { items = true ∷ []; exit = second } ∷ []
-
-abbrev is_never : Option Ty → Bool
-is_never (Some Ty.Never) = true
-is_never _ = false
 
 -- the type of a place needs dropping
 abbrev needs_dropping : ItemTable → Option TyId → Bool
