@@ -1,3 +1,4 @@
 mod Examples
+pub mod Holding
 pub mod Ranked
 pub mod WholePlaces

@@ -1,6 +1,6 @@
 -- What can be wrong with a type, at any depth of it: it has the number of an item that does not exist, or it has a
 -- `dyn` type elsewhere than directly in a box or a reference; and whether a struct, an enum or a closure holds itself.
-use Rattle.std.specs.Prelude.{ℕ, ◌==◌, Bool, true, false, not, ◌&&◌, ◌||◌, List, Option, Some, length, nat_lt, nat_eq}
+use Rattle.std.specs.Prelude.{◌≡◌, ◌↔◌, ℕ, ◌==◌, Bool, true, false, not, ◌&&◌, ◌||◌, List, Option, Some, length, nat_lt, nat_eq}
 use Rattle.std.specs.Option.{option_map_or}
 use Rattle.std.specs.List.{list_any, list_all}
 use Rattle.mir_ty.specs.declared.ty.Ty.{Ty}
@@ -9,7 +9,7 @@ use Rattle.mir_ty.specs.declared.adt.Adt.{Adt}
 use Rattle.mir_ty.specs.AreItems.{types_in}
 use Rattle.mir_ty.specs.Facts.{Rule, by_rule}
 use Rattle.mir_ty.specs.ItemTable.{ItemTable, type_at}
-use Rattle.mir_ty.specs.Parts.{held_by}
+use Rattle.mir_ty.specs.Parts.{held_by, Holds}
 use Rattle.cfg_graph.specs.TypeForms.{is_dyn, is_adt, is_closure}
 
 abbrev is_drop_body_of : ℕ → Adt → Bool
@@ -52,11 +52,11 @@ module _ (items : ItemTable) where
   misplaces_dyn id = by_rule items.types misplacing id
 
   -- a type is the sought one or holds it
-  abbrev holding : (Option Ty → Bool) → Rule
+  abbrev pub holding : (Option Ty → Bool) → Rule
   holding sought known ty = sought (Some ty) || list_any known (held_by items ty)
 
   -- one of these types is the sought one, or holds it at any depth, neither behind a box nor behind a reference
-  abbrev hold : (Option Ty → Bool) → List TyId → Bool
+  abbrev pub hold : (Option Ty → Bool) → List TyId → Bool
   hold sought ids = list_any (by_rule items.types (holding sought)) ids
 
   -- a struct or an enum, and a closure, holds itself
@@ -65,3 +65,13 @@ module _ (items : ItemTable) where
 
   abbrev pub closure_holds_itself : ℕ → Bool
   closure_holds_itself n = hold (is_closure n) (held_by items (Ty.Closure n))
+
+-- what the law of holding says: the tests tell exactly the structs, enums and closures that hold themselves
+abbrev pub HoldsItself : ItemTable → Ty → Type 0
+HoldsItself items ty = (id : TyId) × (type_at items id ≡ Some ty) × Holds items id id
+
+abbrev pub AdtHoldingIsTested : Type 0
+AdtHoldingIsTested = (items : ItemTable) (n : ℕ) → adt_holds_itself items n ≡ true ↔ HoldsItself items (Ty.Adt n)
+
+abbrev pub ClosureHoldingIsTested : Type 0
+ClosureHoldingIsTested = (items : ItemTable) (n : ℕ) → closure_holds_itself items n ≡ true ↔ HoldsItself items (Ty.Closure n)

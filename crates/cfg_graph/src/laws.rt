@@ -1,6 +1,7 @@
 //! The laws of graphs and of what is gone on a path. Each is a clause of a function without parameters, and a lemma of `proofs/`
 //! that a proof above this crate cites.
 ghost use Rattle.cfg_graph.specs.Faults.{WellFormedIsRanked};
+ghost use Rattle.cfg_graph.specs.TypeFaults.{AdtHoldingIsTested, ClosureHoldingIsTested};
 ghost use Rattle.cfg_graph.specs.Gone.{WholenessIsTested};
 
 /// The test for whole places, which looks at the places of a path's actions alone, tells exactly the places at and
@@ -12,4 +13,11 @@ pub fn law_of_whole_places()
 /// In a graph without a fault each edge to a block that is no turn block leads to a lower rank.
 pub fn law_of_ranks()
     ensures ranked { WellFormedIsRanked }
+{}
+
+/// The tests for structs, enums and closures that hold themselves tell exactly those of which a type holds itself at
+/// any depth, neither behind a box nor behind a reference.
+pub fn law_of_holding()
+    ensures adts { AdtHoldingIsTested }
+    ensures closures { ClosureHoldingIsTested }
 {}
