@@ -1,4 +1,5 @@
 mod Examples
 pub mod Holding
+pub mod NoFaults
 pub mod Ranked
 pub mod WholePlaces

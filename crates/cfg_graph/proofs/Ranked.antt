@@ -1,5 +1,5 @@
 -- In a graph without a fault each body is ranked.
-use Rattle.std.proofs.Common.{◌≡◌, ℕ, zero, suc, ◌<◌, Bool, true, false, ◌||◌, nat_lt, List, [], ◌∷◌, ◌++◌, map, length, slice_get, Contains, Some, refl, subst, sym}
+use Rattle.std.proofs.Common.{◌≡◌, ℕ, zero, suc, ◌+◌, ◌<◌, Bool, true, false, ◌||◌, nat_lt, List, [], ◌∷◌, ◌++◌, map, length, slice_get, Contains, Some, refl, subst, sym}
 use Rattle.std.specs.Option.{option_map_or}
 use Rattle.std.proofs.lemmas.Bool.{false≢true, ltb-true}
 use Rattle.std.proofs.lemmas.List.Elements.{All-contains}
@@ -14,34 +14,7 @@ use Rattle.cfg_graph.specs.Cleanup.{edges_lower}
 use Rattle.cfg_graph.specs.Edges.{targets, is_turn, lowers}
 use Rattle.cfg_graph.specs.Faults.{at_line, of_each, item_faults, own_faults, locals_faults, stmts_faults, block_faults, faults_of_body, end_faults, WellFormedIsRanked}
 use Rattle.cfg_graph.specs.LineFaults.{term_tests, term_faults}
-
--- lists without members
-first_empty : {X : Type 0} → (xs ys : List X) → xs ++ ys ≡ [] → xs ≡ []
-first_empty [] ys h = refl
-first_empty (x ∷ xs) ys h = absurd (cc)
-
-second_empty : {X : Type 0} → (xs ys : List X) → xs ++ ys ≡ [] → ys ≡ []
-second_empty [] ys h = h
-second_empty (x ∷ xs) ys h = absurd (cc)
-
-map_empty : {X Y : Type 0} → (f : X → Y) (xs : List X) → map f xs ≡ [] → xs ≡ []
-map_empty f [] h = refl
-map_empty f (x ∷ xs) h = absurd (cc)
-
--- where nothing has a fault, each thing has none
-of_each-empty : {X : Type 0} → (faults : ℕ → X → List GraphFault) (from : ℕ) (xs : List X) → of_each faults from xs ≡ []
-    → (n : ℕ) (x : X) → slice_get xs n ≡ Some x → (m : ℕ) × (faults m x ≡ [])
-of_each-empty faults from [] h n x e = absurd (none-some x e)
-of_each-empty faults from (y ∷ xs) h zero x e =
-    (from, subst (λ z. faults from z ≡ []) (let k : y ≡ x = cc in k) (first_empty (faults from y) (of_each faults (suc from) xs) h))
-of_each-empty faults from (y ∷ xs) h (suc n) x e = of_each-empty faults (suc from) xs (second_empty (faults from y) (of_each faults (suc from) xs) h) n x e
-
--- each test of a line without a fault holds
-broken-holds : (tests : List (ℕ × Bool)) → broken tests ≡ [] → (n : ℕ) (test : ℕ × Bool) → slice_get tests n ≡ Some test → test.1 ≡ true
-broken-holds [] h n test e = absurd (none-some test e)
-broken-holds ((number, true) ∷ rest) h zero test e = subst (λ (t : ℕ × Bool). t.1 ≡ true) (let k : (number, true) ≡ test = cc in k) refl
-broken-holds ((number, true) ∷ rest) h (suc n) test e = broken-holds rest h n test e
-broken-holds ((number, false) ∷ rest) h n test e = absurd (cc)
+use Rattle.cfg_graph.proofs.NoFaults.{first_empty, second_empty, map_empty, of_each-empty, broken-holds}
 
 or_second : (turn lower : Bool) → (turn || lower) ≡ true → turn ≡ false → lower ≡ true
 or_second true lower h k = absurd (false≢true (sym k))
@@ -65,6 +38,6 @@ pub well_formed-ranked : WellFormedIsRanked
 well_formed-ranked graph number body h found n m from to at among there turn =
     let in_bodies = first_empty (of_each (faults_of_body graph) 0 graph.bodies) (end_faults graph) (second_empty (item_faults graph) (of_each (faults_of_body graph) 0 graph.bodies ++ end_faults graph) h) in
     let of_body = of_each-empty (faults_of_body graph) 0 graph.bodies in_bodies number body found in
-    let in_blocks = second_empty (locals_faults graph of_body.0 body) (of_each (block_faults graph of_body.0 body) 0 body.blocks) (second_empty (own_faults graph of_body.0 body) (locals_faults graph of_body.0 body ++ of_each (block_faults graph of_body.0 body) 0 body.blocks) of_body.1) in
-    let of_block = of_each-empty (block_faults graph of_body.0 body) 0 body.blocks in_blocks n from at in
-    edge-lowers body from to m (block-lowers graph of_body.0 body of_block.0 from of_block.1) among there turn
+    let in_blocks = second_empty (locals_faults graph (0 + number) body) (of_each (block_faults graph (0 + number) body) 0 body.blocks) (second_empty (own_faults graph (0 + number) body) (locals_faults graph (0 + number) body ++ of_each (block_faults graph (0 + number) body) 0 body.blocks) of_body) in
+    let of_block = of_each-empty (block_faults graph (0 + number) body) 0 body.blocks in_blocks n from at in
+    edge-lowers body from to m (block-lowers graph (0 + number) body (0 + n) from of_block) among there turn

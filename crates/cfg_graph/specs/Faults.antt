@@ -1,9 +1,12 @@
 -- The faults of a graph, and when it has none. They stand in the order of the text: structs and enums, traits, impls
 -- and closures; then each body with its own line, its locals, and its blocks with their statements and terminators;
 -- and last a `main` that is missing. At one line the lowest number stands first.
-use Rattle.std.specs.Prelude.{◌≡◌, ℕ, suc, ◌+◌, ◌-◌, ◌^◌, ◌==◌, Bool, true, false, ◌&&◌, List, [], ◌∷◌, ◌++◌, map, zip, Option, Some, None, length, codes, slice_get}
+use Rattle.std.specs.Prelude.{◌≡◌, ◌<◌, All, ℕ, suc, ◌+◌, ◌-◌, ◌^◌, ◌==◌, Bool, true, false, ◌&&◌, List, [], ◌∷◌, ◌++◌, map, zip, Option, Some, None, length, codes, slice_get}
 use Rattle.std.specs.List.{list_any}
 use Rattle.mir_ty.specs.declared.def.Sig.{Sig}
+use Rattle.mir_ty.specs.declared.ty.Ty.{Ty}
+use Rattle.mir_ty.specs.AreItems.{types_in}
+use Rattle.mir_ty.specs.Parts.{NoneHoldsItself}
 use Rattle.cfg_graph.specs.declared.graph.Block.{Block}
 use Rattle.cfg_graph.specs.declared.graph.Body.{Body}
 use Rattle.cfg_graph.specs.declared.graph.Graph.{Graph}
@@ -35,15 +38,23 @@ module _ (graph : Graph) where
   bodies = length graph.bodies
 
   -- the lines of items are counted in the order of the text; those of a kind begin after this many
-  abbrev of_items : {X : Type 0} → ℕ → (ℕ → X → List ℕ) → List X → List GraphFault
+  abbrev pub of_items : {X : Type 0} → ℕ → (ℕ → X → List ℕ) → List X → List GraphFault
   of_items before faults items = of_each (λ n item. at_line nowhere nowhere (before + n) (faults n item)) 0 items
 
+  abbrev pub adts_faults : List GraphFault
+  adts_faults = of_items 0 (adt_faults graph.items bodies) graph.items.adts
+
+  abbrev pub traits_faults : List GraphFault
+  traits_faults = of_items (length graph.items.adts) (trait_faults graph.items bodies) graph.items.traits
+
+  abbrev pub impls_faults : List GraphFault
+  impls_faults = of_items (length graph.items.adts + length graph.items.traits) (impl_faults graph.items bodies) graph.items.impls
+
+  abbrev pub closures_faults : List GraphFault
+  closures_faults = of_items (length graph.items.adts + length graph.items.traits + length graph.items.impls) (closure_faults graph.items bodies) graph.items.closures
+
   abbrev pub item_faults : List GraphFault
-  item_faults =
-      of_items 0 (adt_faults graph.items bodies) graph.items.adts
-      ++ of_items (length graph.items.adts) (trait_faults graph.items bodies) graph.items.traits
-      ++ of_items (length graph.items.adts + length graph.items.traits) (impl_faults graph.items bodies) graph.items.impls
-      ++ of_items (length graph.items.adts + length graph.items.traits + length graph.items.impls) (closure_faults graph.items bodies) graph.items.closures
+  item_faults = adts_faults ++ (traits_faults ++ (impls_faults ++ closures_faults))
 
   -- of the statements of a block, and of the whole block
   abbrev pub stmts_faults : (number : ℕ) → Body → ℕ → Block → List GraphFault
@@ -87,3 +98,11 @@ module _ (graph : Graph) where
 -- what the law of ranks says: in a graph without a fault each body is ranked
 abbrev pub WellFormedIsRanked : Type 0
 WellFormedIsRanked = (graph : Graph) (n : ℕ) (body : Body) → IsWellFormed graph → slice_get graph.bodies n ≡ Some body → IsRanked body
+
+-- the types in a type have lower numbers: so it is where each type is interned after those in it
+abbrev pub ArePartsFirst : List Ty → Type 0
+ArePartsFirst types = (n : ℕ) (ty : Ty) → slice_get types n ≡ Some ty → All (λ id. id.0 < n) (types_in ty)
+
+-- what the law of items says: in a graph without a fault no type holds itself
+abbrev pub WellFormedHoldsNothing : Type 0
+WellFormedHoldsNothing = (graph : Graph) → IsWellFormed graph → ArePartsFirst graph.items.types → NoneHoldsItself graph.items

@@ -53,17 +53,24 @@ module _ (items : ItemTable) (bodies : ℕ) where
   abbrev has_drop_sig : ℕ → ℕ → Bool
   has_drop_sig n body = option_map_or (is_drop_sig n) (slice_get items.bodies body) false
 
-  abbrev pub adt_faults : ℕ → Adt → List ℕ
-  adt_faults n adt =
-      broken (
+  -- a struct or enum has its types: no `dyn` type in a wrong place, and a `Drop` body of its own types
+  abbrev pub adt_has_types : ℕ → Adt → Bool
+  adt_has_types n adt = place_dyn (field_types adt) && option_map_or (has_drop_sig n) adt.drop_body true
+
+  -- the names of a struct or enum and of its variants stand in a listing, and no earlier one has its name
+  abbrev pub adt_has_names : ℕ → Adt → Bool
+  adt_has_names n adt =
+      is_adt_name adt.name && list_all (λ variant. is_name variant.name) adt.variants && not (is_repeated (map (λ other. other.name) items.adts) n adt.name)
+
+  abbrev pub adt_tests : ℕ → Adt → List (ℕ × Bool)
+  adt_tests n adt =
       (1, exist (field_types adt) && option_map_or (λ body. nat_lt body bodies) adt.drop_body true)
-      ∷ (3, place_dyn (field_types adt) && option_map_or (has_drop_sig n) adt.drop_body true && not (adt_holds_itself items n))
-      ∷ (
-        7,
-        is_adt_name adt.name && list_all (λ variant. is_name variant.name) adt.variants
-            && not (is_repeated (map (λ other. other.name) items.adts) n adt.name),
-      )
-      ∷ [])
+      ∷ (3, adt_has_types n adt && not (adt_holds_itself items n))
+      ∷ (7, adt_has_names n adt)
+      ∷ []
+
+  abbrev pub adt_faults : ℕ → Adt → List ℕ
+  adt_faults n adt = broken (adt_tests n adt)
 
   abbrev pub trait_faults : ℕ → TraitDef → List ℕ
   trait_faults n def =
@@ -114,9 +121,14 @@ module _ (items : ItemTable) (bodies : ℕ) where
   abbrev has_closure_sig : ℕ → ℕ → Bool
   has_closure_sig n body = option_map_or (λ sig. begins_with_closure n sig.params) (slice_get items.bodies body) false
 
-  abbrev pub closure_faults : ℕ → ClosureDef → List ℕ
-  closure_faults n def =
-      broken (
+  abbrev pub closure_has_types : ℕ → ClosureDef → Bool
+  closure_has_types n def = place_dyn def.captures && has_closure_sig n def.body
+
+  abbrev pub closure_tests : ℕ → ClosureDef → List (ℕ × Bool)
+  closure_tests n def =
       (1, exist def.captures && nat_lt def.body bodies)
-      ∷ (3, place_dyn def.captures && has_closure_sig n def.body && not (closure_holds_itself items n))
-      ∷ [])
+      ∷ (3, closure_has_types n def && not (closure_holds_itself items n))
+      ∷ []
+
+  abbrev pub closure_faults : ℕ → ClosureDef → List ℕ
+  closure_faults n def = broken (closure_tests n def)
