@@ -1,5 +1,6 @@
 mod Examples
 pub mod Holding
+pub mod HoldsNothing
 pub mod NoFaults
 pub mod Ranked
 pub mod WholePlaces

@@ -1,6 +1,6 @@
 //! The laws of graphs and of what is gone on a path. Each is a clause of a function without parameters, and a lemma of `proofs/`
 //! that a proof above this crate cites.
-ghost use Rattle.cfg_graph.specs.Faults.{WellFormedIsRanked};
+ghost use Rattle.cfg_graph.specs.Faults.{WellFormedIsRanked, WellFormedHoldsNothing};
 ghost use Rattle.cfg_graph.specs.TypeFaults.{AdtHoldingIsTested, ClosureHoldingIsTested};
 ghost use Rattle.cfg_graph.specs.Gone.{WholenessIsTested};
 
@@ -20,4 +20,10 @@ pub fn law_of_ranks()
 pub fn law_of_holding()
     ensures adts { AdtHoldingIsTested }
     ensures closures { ClosureHoldingIsTested }
+{}
+
+/// In a graph without a fault no type holds itself but through a box or a reference, where the types in a type have
+/// lower numbers than it.
+pub fn law_of_items()
+    ensures nothing_held { WellFormedHoldsNothing }
 {}

@@ -1,4 +1,4 @@
-use crate::{Block, Body, Kind, Step, Steps, Term, law_of_holding, law_of_ranks, law_of_whole_places, rank};
+use crate::{Block, Body, Kind, Step, Steps, Term, law_of_holding, law_of_items, law_of_ranks, law_of_whole_places, rank};
 use mir_base::List;
 use std::test::Fail;
 
@@ -51,6 +51,7 @@ fn steps(rt: HostRuntime) -> Result<(), Fail> {
 #[test]
 fn laws(_rt: HostRuntime) {
     law_of_holding();
+    law_of_items();
     law_of_ranks();
     law_of_whole_places();
 }
