@@ -1,6 +1,5 @@
 -- The tests for what holds itself tell exactly what does.
-use Rattle.std.proofs.Common.{◌≡◌, ◌↔◌, ◌⊎◌, inl, inr, ℕ, zero, suc, Bool, true, false, ◌||◌, List, [], ◌∷◌, length, slice_get, Contains, Option, Some, None, Decides, refl, ap, subst, sym, ◌∙◌}
-use Rattle.std.specs.Prelude.{◌==◌}
+use Rattle.std.proofs.Common.{◌≡◌, ◌↔◌, ◌⊎◌, inl, inr, ℕ, zero, suc, Bool, true, false, List, [], ◌∷◌, length, slice_get, Contains, Option, Some, None, refl, ap, subst, sym, ◌∙◌}
 use Rattle.std.specs.List.{list_any}
 use Rattle.std.specs.Option.{option_map_or}
 use Rattle.std.proofs.lemmas.Bool.{false≢true, or_left, or_right, or_cases}
@@ -13,7 +12,7 @@ use Rattle.mir_ty.specs.Facts.{Rule, in_rounds, by_rule}
 use Rattle.mir_ty.specs.ItemTable.{ItemTable, type_at}
 use Rattle.mir_ty.specs.Parts.{held_by, Holds, at_once, within}
 use Rattle.mir_ty.proofs.ListLemmas.{Contains-slice_get}
-use Rattle.mir_ty.proofs.Rounds.{IsWithin, IsGrowing, by_rule-settled}
+use Rattle.mir_ty.proofs.Rounds.{IsGrowing, by_rule-settled}
 use Rattle.cfg_graph.specs.TypeFaults.{holding, hold, HoldsItself, AdtHoldingIsTested, ClosureHoldingIsTested}
 use Rattle.cfg_graph.specs.TypeForms.{is_adt, is_closure}
 
@@ -47,7 +46,8 @@ module _ (items : ItemTable) (sought : Option Ty → Bool) where
     grows = λ P Q sub ty h. elim (or_cases (sought (Some ty)) (list_any P (held_by items ty)) h) [
       | inl here ↦ or_left (sought (Some ty)) (list_any Q (held_by items ty)) here
       | inr held ↦ or_right (sought (Some ty)) (list_any Q (held_by items ty)) (list_any-grows P Q sub (held_by items ty) held)
-    ] }
+    ];
+  }
 
   -- from a type a sought one is reached
   abbrev Reaches : TyId → Type 0
@@ -62,7 +62,7 @@ module _ (items : ItemTable) (sought : Option Ty → Bool) where
   reached (suc k) id h = by (slice_get items.types id.0) refl h (reached k)
     where
       by : (o : Option Ty) → slice_get items.types id.0 ≡ o → option_map_or (rule (in_rounds items.types rule k)) o false ≡ true
-        → ((x : TyId) → in_rounds items.types rule k x ≡ true → Reaches x) → Reaches id
+          → ((x : TyId) → in_rounds items.types rule k x ≡ true → Reaches x) → Reaches id
       by None is h on = absurd (false≢true h)
       by (Some ty) is h on =
           elim (or_cases (sought (Some ty)) (list_any (in_rounds items.types rule k) (held_by items ty)) h) [
@@ -81,12 +81,12 @@ module _ (items : ItemTable) (sought : Option Ty → Bool) where
 
   -- the first step of what holds something
   first_step : (a c : TyId) → Holds items a c
-    → (ty : Ty) × (x : TyId) × (type_at items a ≡ Some ty) × Contains (held_by items ty) x × ((x ≡ c) ⊎ Holds items x c)
+      → (ty : Ty) × (x : TyId) × (type_at items a ≡ Some ty) × Contains (held_by items ty) x × ((x ≡ c) ⊎ Holds items x c)
   first_step a c (at_once {ty = ty} is found) = (ty, c, is, found, inl refl)
   first_step a c (within {b = b} first rest) = then_on (first_step a b first)
     where
       then_on : (ty : Ty) × (x : TyId) × (type_at items a ≡ Some ty) × Contains (held_by items ty) x × ((x ≡ b) ⊎ Holds items x b)
-        → (ty : Ty) × (x : TyId) × (type_at items a ≡ Some ty) × Contains (held_by items ty) x × ((x ≡ c) ⊎ Holds items x c)
+          → (ty : Ty) × (x : TyId) × (type_at items a ≡ Some ty) × Contains (held_by items ty) x × ((x ≡ c) ⊎ Holds items x c)
       then_on (ty, x, is, found, inl e) = (ty, x, is, found, inr (subst (λ y. Holds items y c) (sym e) rest))
       then_on (ty, x, is, found, inr h) = (ty, x, is, found, inr (within h rest))
 

@@ -1,6 +1,6 @@
 -- In a graph without a fault no type holds itself: on the way round there would be a struct, an enum or a closure, since
 -- the types in a type have lower numbers, and its line would have a fault.
-use Rattle.std.proofs.Common.{◌≡◌, ◌⊎◌, inl, inr, ℕ, ◌+◌, ◌<◌, Bool, true, false, not, ◌&&◌, List, [], ◌∷◌, ◌++◌, length, slice_get, All, Contains, Option, Some, None, refl, ap, subst, sym, ◌∙◌, arith}
+use Rattle.std.proofs.Common.{◌≡◌, ◌⊎◌, inl, inr, ℕ, ◌+◌, ◌<◌, Bool, true, false, not, ◌&&◌, List, [], ◌∷◌, ◌++◌, length, slice_get, Contains, Option, Some, None, refl, ap, subst, sym, ◌∙◌, arith}
 use Rattle.std.specs.Prelude.{flat_map}
 use Rattle.std.specs.Cmp.{second_so}
 use Rattle.std.proofs.lemmas.Bool.{false≢true}
@@ -9,11 +9,9 @@ use Rattle.mir_ty.specs.declared.ty.Ty.{Ty}
 use Rattle.mir_ty.specs.declared.ty.TyId.{TyId}
 use Rattle.mir_ty.specs.declared.adt.Adt.{Adt}
 use Rattle.mir_ty.specs.declared.def.ClosureDef.{ClosureDef}
-use Rattle.mir_ty.specs.AreItems.{types_in}
 use Rattle.mir_ty.specs.ItemTable.{ItemTable, type_at}
-use Rattle.mir_ty.specs.Parts.{held_by, variants_of, captures_of, Holds, at_once, within, NoneHoldsItself}
+use Rattle.mir_ty.specs.Parts.{held_by, variants_of, captures_of, Holds, at_once, within}
 use Rattle.cfg_graph.specs.declared.graph.Graph.{Graph}
-use Rattle.cfg_graph.specs.declared.graph.GraphFault.{GraphFault}
 use Rattle.cfg_graph.specs.Faults.{at_line, nowhere, of_each, of_items, adts_faults, traits_faults, impls_faults, closures_faults, item_faults, faults_of_body, end_faults, IsWellFormed, ArePartsFirst, WellFormedHoldsNothing}
 use Rattle.cfg_graph.specs.ItemFaults.{adt_tests, adt_faults, adt_has_types, closure_tests, closure_faults, closure_has_types}
 use Rattle.cfg_graph.specs.TypeFaults.{hold, adt_holds_itself, closure_holds_itself}
@@ -77,7 +75,7 @@ module _ (graph : Graph) (h : IsWellFormed graph) where
   no_closure_fault =
       second_empty (impls_faults graph) (closures_faults graph)
       (second_empty (traits_faults graph) (impls_faults graph ++ closures_faults graph)
-        (second_empty (adts_faults graph) (traits_faults graph ++ (impls_faults graph ++ closures_faults graph)) no_item_fault))
+      (second_empty (adts_faults graph) (traits_faults graph ++ (impls_faults graph ++ closures_faults graph)) no_item_fault))
 
   -- an item of a list without a fault has none of its own
   no_fault_of : {X : Type 0} → (before : ℕ) (faults : ℕ → X → List ℕ) (xs : List X) → of_items graph before faults xs ≡ [] → (n : ℕ) (x : X) → slice_get xs n ≡ Some x → faults n x ≡ []

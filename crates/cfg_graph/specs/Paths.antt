@@ -1,9 +1,8 @@
 -- The paths of a body: through which blocks a run may come, if every condition may go either way and all that can
 -- panic may panic. A path begins in block 0 and goes on along edges, and is the list of its blocks. Where a block has
 -- two ways out, the way gives an item, 1 for `yes` and for a panic; each turn of a loop gives a 0.
-use Rattle.std.specs.Prelude.{ℕ, zero, suc, ◌==◌, Bool, true, false, List, [], ◌∷◌, ◌++◌, map, flat_map, if◌then◌else◌, Option, Some, slice_get, Contains}
+use Rattle.std.specs.Prelude.{ℕ, zero, suc, ◌==◌, Bool, true, false, List, [], ◌∷◌, ◌++◌, map, flat_map, if◌then◌else◌, Option, slice_get, Contains}
 use Rattle.std.specs.Option.{option_map_or}
-use Rattle.mir_ty.specs.declared.ty.Ty.{Ty}
 use Rattle.mir_ty.specs.declared.ty.TyId.{TyId}
 use Rattle.mir_ty.specs.Facts.{needs_drop}
 use Rattle.mir_ty.specs.ItemTable.{ItemTable}

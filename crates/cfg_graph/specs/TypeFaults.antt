@@ -1,6 +1,6 @@
 -- What can be wrong with a type, at any depth of it: it has the number of an item that does not exist, or it has a
 -- `dyn` type elsewhere than directly in a box or a reference; and whether a struct, an enum or a closure holds itself.
-use Rattle.std.specs.Prelude.{◌≡◌, ◌↔◌, ℕ, ◌==◌, Bool, true, false, not, ◌&&◌, ◌||◌, List, Option, Some, length, nat_lt, nat_eq}
+use Rattle.std.specs.Prelude.{◌≡◌, ◌↔◌, ℕ, Bool, true, false, not, ◌&&◌, ◌||◌, List, Option, Some, length, nat_lt, nat_eq}
 use Rattle.std.specs.Option.{option_map_or}
 use Rattle.std.specs.List.{list_any, list_all}
 use Rattle.mir_ty.specs.declared.ty.Ty.{Ty}

@@ -1,4 +1,7 @@
-use crate::{Block, Body, Kind, Step, Steps, Term, law_of_holding, law_of_items, law_of_ranks, law_of_whole_places, rank};
+use crate::{
+    Block, Body, Kind, Step, Steps, Term, law_of_holding, law_of_items, law_of_ranks,
+    law_of_whole_places, rank,
+};
 use mir_base::List;
 use std::test::Fail;
 
