@@ -20,7 +20,7 @@ use Rattle.cfg_graph.specs.Gone.{Action, leaves_gone, are_first, is_at_or_above,
 same_number : (n m : ℕ) → (n == m) ≡ true → n ≡ m
 same_number n m h = (Decides-eqb n m).0 h
 
-same_step-sound : (a b : Step) → same_step a b ≡ true → a ≡ b
+pub same_step-sound : (a b : Step) → same_step a b ≡ true → a ≡ b
 same_step-sound (ToPart n) (ToPart m) h = ap ToPart (same_number n m h)
 same_step-sound (ToField v n) (ToField u m) h =
     ap (λ w. ToField w n) (same_number v u (first_so (v == u) (n == m) h)) ∙ ap (ToField u) (same_number n m (second_so (v == u) (n == m) h))
@@ -42,7 +42,7 @@ same_step-sound (ToElement n) ToContent h = absurd (false≢true h)
 same_number-refl : (n : ℕ) → (n == n) ≡ true
 same_number-refl n = (Decides-eqb n n).1 refl
 
-same_step-refl : (a : Step) → same_step a a ≡ true
+pub same_step-refl : (a : Step) → same_step a a ≡ true
 same_step-refl (ToPart n) = same_number-refl n
 same_step-refl (ToField v n) = both_true (same_number-refl v) (same_number-refl n)
 same_step-refl ToContent = refl
@@ -139,11 +139,11 @@ none_or_some : (x : Option Bool) → (x ≡ None) ⊎ ((v : Bool) × (x ≡ Some
 none_or_some None = inl refl
 none_or_some (Some v) = inr (v, refl)
 
-not_gone : (gone : Bool) → not gone ≡ true → gone ≡ false
+pub not_gone : (gone : Bool) → not gone ≡ true → gone ≡ false
 not_gone false h = refl
 not_gone true h = absurd (false≢true h)
 
-gone_not : (gone : Bool) → gone ≡ false → not gone ≡ true
+pub gone_not : (gone : Bool) → gone ≡ false → not gone ≡ true
 gone_not false h = refl
 gone_not true h = absurd (false≢true (sym h))
 
