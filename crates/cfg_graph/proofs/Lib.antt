@@ -1,3 +1,4 @@
+pub mod AllPresent
 mod Examples
 pub mod Holding
 pub mod HoldsNothing

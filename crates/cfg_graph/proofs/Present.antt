@@ -1,5 +1,5 @@
 -- Looking back at a place tells what is present there after each action in turn.
-use Rattle.std.proofs.Common.{◌≡◌, ℕ, Bool, true, false, not, ◌&&◌, if◌then◌else◌, List, [], ◌∷◌, Option, Some, None, refl, ap, subst, sym, ◌∙◌}
+use Rattle.std.proofs.Common.{◌≡◌, Bool, true, false, not, ◌&&◌, if◌then◌else◌, List, [], ◌∷◌, Option, Some, None, refl, ap, subst, sym, ◌∙◌}
 use Rattle.std.specs.Prelude.{◌==◌, unwrap_or}
 use Rattle.std.specs.Option.{option_or}
 use Rattle.std.proofs.lemmas.Bool.{false≢true}
@@ -7,7 +7,7 @@ use Rattle.mir_ty.specs.ItemTable.{ItemTable}
 use Rattle.store_model.specs.NamedPlace.{Step, same_step, Place}
 use Rattle.store_model.specs.Presence.{Presence, Parts, known, none_named, named, is_present, is_gone, itself_gone, part_among, presence_at, presence_along, changed_among, changed_at, after_action}
 use Rattle.cfg_graph.specs.declared.graph.Body.{Body}
-use Rattle.cfg_graph.specs.Gone.{Action, leaves_gone, are_first, is_at_or_above, counts, left_by, last_left, is_param, is_gone_after}
+use Rattle.cfg_graph.specs.Gone.{Action, leaves_gone, are_first, counts, left_by, last_left, is_param}
 use Rattle.cfg_graph.specs.Present.{changed_by, present_by, present_from, present_at_start, GoneIsNotPresent}
 use Rattle.cfg_graph.proofs.WholePlaces.{same_step-sound, same_step-refl}
 
@@ -32,8 +32,8 @@ part-changed s t change o none_named = refl
 part-changed s t change o (named other part rest) = by (same_step t other) refl (part-changed s t change o rest)
   where
     by : (c : Bool) → same_step t other ≡ c
-      → part_among s o (changed_among t change o rest) ≡ (if same_step s t then change (part_among s o rest) else part_among s o rest)
-      → part_among s o (if c then named other (change part) rest else named other part (changed_among t change o rest))
+        → part_among s o (changed_among t change o rest) ≡ (if same_step s t then change (part_among s o rest) else part_among s o rest)
+        → part_among s o (if c then named other (change part) rest else named other part (changed_among t change o rest))
         ≡ (if same_step s t then change (if same_step s other then part else part_among s o rest) else if same_step s other then part else part_among s o rest)
     by true e later = same_part (same_step s other) (same_step s t) change part (part_among s o rest) (ap (same_step s) (sym (same_step-sound t other e)))
     by false e later =
@@ -72,7 +72,7 @@ gone-after_action (s ∷ steps) (t ∷ at) takes p =
     (itself_gone (presence_along steps (presence_at s (changed_at t (after_action takes at) p))))
     (same_step-turned s t) (same_step-turned t s)
     (λ e. ap (λ q. itself_gone (presence_along steps q)) (presence-changed s t (after_action takes at) p ∙ ap (λ b. if b then after_action takes at (presence_at s p) else presence_at s p) e)
-      ∙ gone-after_action steps at takes (presence_at s p))
+    ∙ gone-after_action steps at takes (presence_at s p))
     (λ e. ap (λ q. itself_gone (presence_along steps q)) (presence-changed s t (after_action takes at) p ∙ ap (λ b. if b then after_action takes at (presence_at s p) else presence_at s p) e))
 
 left-here : (c l f : Bool) (x : Option Bool) (steps at : List Step) (p : Presence) → are_first at steps ≡ f
@@ -99,7 +99,7 @@ module _ (items : ItemTable) (body : Body) where
   gone-present_from place (a ∷ later) p =
       gone-present_from place later (present_by items body place.local a p)
       ∙ ap (unwrap_or (last_left items body place later))
-          (left-here (counts items body a.place) (a.place.local == place.local) (are_first a.place.steps place.steps) (leaves_gone a.how) place.steps a.place.steps p refl)
+      (left-here (counts items body a.place) (a.place.local == place.local) (are_first a.place.steps place.steps) (leaves_gone a.how) place.steps a.place.steps p refl)
       ∙ unwrap-or (last_left items body place later) (left_by items body place a) (itself_gone (presence_along place.steps p))
 
 pub gone_is_not_present : GoneIsNotPresent

@@ -1,6 +1,6 @@
 -- What is gone of a local after the actions of a path, told whole: each action changes what is present. It tells what
 -- looking back tells.
-use Rattle.std.specs.Prelude.{◌≡◌, ◌↔◌, ℕ, ◌==◌, Bool, true, false, not, ◌&&◌, List, [], ◌∷◌, Option, Some, None, if◌then◌else◌}
+use Rattle.std.specs.Prelude.{◌≡◌, ◌↔◌, ℕ, ◌==◌, Bool, true, ◌&&◌, List, [], ◌∷◌, Option, Some, None, if◌then◌else◌}
 use Rattle.mir_ty.specs.ItemTable.{ItemTable}
 use Rattle.store_model.specs.NamedPlace.{Step, Place}
 use Rattle.store_model.specs.Presence.{Presence, is_present, is_gone, itself_gone, presence_along, after_action, all_present}

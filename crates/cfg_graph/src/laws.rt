@@ -1,6 +1,7 @@
 //! The laws of graphs and of what is gone on a path. Each is a clause of a function without parameters, and a lemma of `proofs/`
 //! that a proof above this crate cites.
 ghost use Rattle.cfg_graph.specs.Faults.{WellFormedIsRanked, WellFormedHoldsNothing};
+ghost use Rattle.cfg_graph.specs.Present.{GoneIsNotPresent, WholeIsAllPresent};
 ghost use Rattle.cfg_graph.specs.TypeFaults.{AdtHoldingIsTested, ClosureHoldingIsTested};
 ghost use Rattle.cfg_graph.specs.Gone.{WholenessIsTested};
 
@@ -26,4 +27,11 @@ pub fn law_of_holding()
 /// lower numbers than it.
 pub fn law_of_items()
     ensures nothing_held { WellFormedHoldsNothing }
+{}
+
+/// What is present of a local after each action of a path in turn tells what looking back at a place tells: whether it
+/// is gone, and whether it is whole.
+pub fn law_of_presence()
+    ensures gone { GoneIsNotPresent }
+    ensures whole { WholeIsAllPresent }
 {}

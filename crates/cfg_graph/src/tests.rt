@@ -1,6 +1,6 @@
 use crate::{
-    Block, Body, Kind, Step, Steps, Term, law_of_holding, law_of_items, law_of_ranks,
-    law_of_whole_places, rank,
+    Block, Body, Kind, Step, Steps, Term, law_of_holding, law_of_items, law_of_presence,
+    law_of_ranks, law_of_whole_places, rank,
 };
 use mir_base::List;
 use std::test::Fail;
@@ -55,6 +55,7 @@ fn steps(rt: HostRuntime) -> Result<(), Fail> {
 fn laws(_rt: HostRuntime) {
     law_of_holding();
     law_of_items();
+    law_of_presence();
     law_of_ranks();
     law_of_whole_places();
 }
