@@ -45,6 +45,7 @@ module _ (items : ItemTable) (body : Body) where
   checked earlier action Drops = if_bad (may_not_store earlier action.place) U2 action
   checked earlier action Frees = []
 
+  -- the bad ones of these actions, after earlier ones
   abbrev bad_after : List Action → List Action → List BadUse
   bad_after earlier [] = []
   bad_after earlier (action ∷ later) = checked earlier action action.how ++ bad_after (earlier ++ action ∷ []) later

@@ -43,6 +43,7 @@ pub data Exit : Type 0 where
   ToBlock : (block : ℕ) → Exit
   LeavesBody : Exit
 
+-- where a panic leads
 abbrev pub unwind_exit : Unwind → Exit
 unwind_exit (Unwind.Block block) = ToBlock block
 unwind_exit Unwind.Resume = LeavesBody
@@ -52,6 +53,7 @@ unwind_exit Unwind.Abort = LeavesBody
 abbrev pub ways_out : Term → List Exit
 ways_out term = map ToBlock (onward term) ++ map unwind_exit (unwind_of term)
 
+-- the block in which a panic goes on, where it does
 abbrev pub unwind_block : Unwind → List ℕ
 unwind_block (Unwind.Block block) = block ∷ []
 unwind_block Unwind.Resume = []

@@ -41,6 +41,7 @@ module _ (graph : Graph) where
   abbrev pub of_items : {X : Type 0} → ℕ → (ℕ → X → List ℕ) → List X → List GraphFault
   of_items before faults items = of_each (λ n item. at_line nowhere nowhere (before + n) (faults n item)) 0 items
 
+  -- of structs and enums, of traits, of impls, of closures, and of all items
   abbrev pub adts_faults : List GraphFault
   adts_faults = of_items 0 (adt_faults graph.items bodies) graph.items.adts
 
@@ -78,6 +79,7 @@ module _ (graph : Graph) where
   abbrev is_main : Sig × Body → Bool
   is_main heads = same_name heads.0.name (codes "main") && (heads.1.params == 0)
 
+  -- whether there is a `main`
   abbrev main_faults : Bool → List GraphFault
   main_faults true = []
   main_faults false = at_line nowhere nowhere nowhere (1 ∷ [])
@@ -85,6 +87,7 @@ module _ (graph : Graph) where
   abbrev pub end_faults : List GraphFault
   end_faults = main_faults (list_any is_main (zip graph.items.bodies graph.bodies))
 
+  -- all faults in the order of the text, and the first of them
   abbrev pub faults : List GraphFault
   faults = item_faults ++ (of_each faults_of_body 0 graph.bodies ++ end_faults)
 

@@ -36,6 +36,7 @@ are_first (first ∷ rest) (step ∷ steps) = same_step first step && are_first 
 abbrev pub is_at_or_above : Place → Place → Bool
 is_at_or_above upper lower = (upper.local == lower.local) && are_first upper.steps lower.steps
 
+-- the place at the end of further steps
 abbrev pub below : Place → List Step → Place
 below place steps = record { local = place.local; steps = place.steps ++ steps }
 
@@ -44,6 +45,7 @@ abbrev pub containers : List Step → List (List Step)
 containers [] = []
 containers (step ∷ steps) = [] ∷ map (λ outer. step ∷ outer) (containers steps)
 
+-- the steps take an element by a local
 abbrev has_index : List Step → Bool
 has_index [] = false
 has_index (ToPart n ∷ steps) = has_index steps
@@ -51,6 +53,7 @@ has_index (ToField variant n ∷ steps) = has_index steps
 has_index (ToContent ∷ steps) = has_index steps
 has_index (ToElement local ∷ steps) = true
 
+-- a place is watched to its end
 abbrev reaches_whole : Watched → Bool
 reaches_whole w = elim w.reach [ Whole ↦ true | ThroughReference ↦ false | ByElement ↦ false ]
 
@@ -68,6 +71,7 @@ module _ (items : ItemTable) (body : Body) where
   last_left place [] = None
   last_left place (action ∷ later) = option_or (last_left place later) (left_by place action)
 
+  -- the locals after the result, as many as the body has parameters
   abbrev pub is_param : ℕ → Bool
   is_param local = nat_lt 0 local && nat_le local body.params
 
@@ -86,6 +90,7 @@ module _ (items : ItemTable) (body : Body) where
       not (is_gone_after actions place)
       && list_all (λ action. not (is_at_or_above place action.place && is_gone_after actions action.place)) actions
 
+  -- some container of a place is gone
   abbrev pub container_gone_after : List Action → Place → Bool
   container_gone_after actions place =
       list_any (λ outer. is_gone_after actions (record { local = place.local; steps = outer })) (containers place.steps)

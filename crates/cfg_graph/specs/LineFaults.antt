@@ -81,6 +81,7 @@ module _ (items : ItemTable) (bodies : ℕ) where
   stmt_has_row locals (Stmt.Forget operand) = true
   stmt_has_row locals (Stmt.Free place) = true
 
+  -- of a statement
   abbrev pub stmt_faults : Body → Stmt → List ℕ
   stmt_faults body stmt =
       broken (
@@ -90,6 +91,7 @@ module _ (items : ItemTable) (bodies : ℕ) where
       ∷ (6, stmt_has_row body.locals stmt)
       ∷ [])
 
+  -- the blocks to which edges lead exist
   abbrev blocks_exist : Body → List ℕ → Bool
   blocks_exist body blocks = list_all (λ n. nat_lt n (length body.blocks)) blocks
 
@@ -106,6 +108,7 @@ module _ (items : ItemTable) (bodies : ℕ) where
   abbrev pub term_faults : Body → Block → List ℕ
   term_faults body block = broken (term_tests body block)
 
+  -- of a local, by its type
   abbrev pub local_faults : TyId → List ℕ
   local_faults id = broken ((1, ty_exists items id) ∷ (3, not (misplaces_dyn items id)) ∷ [])
 

@@ -50,6 +50,7 @@ enum_variant items adt variant =
 
 -- the items of a graph and the locals of a body
 module _ (items : ItemTable) (locals : List TyId) where
+  -- the type of a place, and of an operand
   abbrev ty : Place → Option Ty
   ty place = ty_of_place items locals place
 
@@ -70,6 +71,7 @@ module _ (items : ItemTable) (locals : List TyId) where
   operand_is id (Operand.Truth value) = is_bool (type_at items id)
   operand_is id Operand.Unit = is_unit (type_at items id)
 
+  -- as many values as types, each of its type
   abbrev operands_are : List TyId → List Operand → Bool
   operands_are = pointwise operand_is
 
@@ -78,9 +80,11 @@ module _ (items : ItemTable) (locals : List TyId) where
   are_elements operands (Some (Ty.Array element count)) = (length operands == count) && list_all (operand_is element) operands
   are_elements operands _ = false
 
+  -- the arguments and the result are those of a signature
   abbrev calls : Place → List Operand → Sig → Bool
   calls to args sig = operands_are sig.params args && option_map_or (same_id sig.result) (place_id items locals to) false
 
+  -- what a statement stores is of the type of its place
   abbrev stmt_has_types : Stmt → Bool
   stmt_has_types (Stmt.Put to from) = option_map_or (λ id. operand_is id from) (place_id items locals to) false
   stmt_has_types (Stmt.Compare to op left right) = is_bool (ty to) && are_compared (operand_ty left) (operand_ty right)
@@ -100,6 +104,7 @@ module _ (items : ItemTable) (locals : List TyId) where
   stmt_has_types (Stmt.Forget operand) = true
   stmt_has_types (Stmt.Free place) = is_some (box_content (ty place))
 
+  -- what a terminator takes and stores is of the types that it wants; no `Drop` body is called
   abbrev term_has_types : Term → Bool
   term_has_types (Term.Goto block) = true
   term_has_types (Term.If on if_true if_false) = is_bool (operand_ty on)
@@ -119,9 +124,11 @@ module _ (items : ItemTable) (locals : List TyId) where
   abbrev is_sized : Place → Bool
   is_sized place = not (is_dyn (ty place))
 
+  -- an operand is of no `dyn` type, and a constant is inside its type
   abbrev operand_stands : Operand → Bool
   operand_stands operand = not (is_dyn (operand_ty operand)) && constant_fits operand
 
+  -- the places and operands of a statement or a terminator, whatever it is
   abbrev places_have_types : List Place → List Operand → List Place → Bool
   places_have_types stored operands places =
       list_all is_typed_place places && list_all is_sized stored && list_all operand_stands operands
