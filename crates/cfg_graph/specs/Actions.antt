@@ -11,9 +11,11 @@ use Rattle.cfg_graph.specs.Gone.{Action}
 use Rattle.cfg_graph.specs.Places.{named}
 use Rattle.cfg_graph.specs.Uses.{Use, Stores, stmt_uses, term_uses, stored_by_term}
 
+-- uses as actions at one line
 abbrev at_line : (block line : ℕ) → List (Use × Place) → List Action
 at_line block line uses = map (λ made. record { how = made.0; place = named made.1; block = block; line = line }) uses
 
+-- of statements, the first of which has this number
 abbrev stmt_actions : (block line : ℕ) → List Stmt → List Action
 stmt_actions block line [] = []
 stmt_actions block line (stmt ∷ stmts) = at_line block line (stmt_uses stmt) ++ stmt_actions block (suc line) stmts

@@ -1,6 +1,6 @@
 -- The bad uses on a path: what reads or tests a place that is gone is refused by U1, what stores into one or drops one
 -- whose container is gone by U2 (The Rust Reference, "Moved and copied types"; rustc's error E0382).
-use Rattle.std.specs.Prelude.{ℕ, Bool, true, false, not, ◌||◌, List, [], ◌∷◌, ◌++◌, if◌then◌else◌}
+use Rattle.std.specs.Prelude.{ℕ, Bool, not, ◌||◌, List, [], ◌∷◌, ◌++◌, if◌then◌else◌}
 use Rattle.mir_ty.specs.ItemTable.{ItemTable}
 use Rattle.store_model.specs.NamedPlace.{Place}
 use Rattle.cfg_graph.specs.declared.graph.Body.{Body}
@@ -45,6 +45,7 @@ module _ (items : ItemTable) (body : Body) where
   checked earlier action Drops = if_bad (may_not_store earlier action.place) U2 action
   checked earlier action Frees = []
 
+  -- the bad ones of these actions, after earlier ones
   abbrev bad_after : List Action → List Action → List BadUse
   bad_after earlier [] = []
   bad_after earlier (action ∷ later) = checked earlier action action.how ++ bad_after (earlier ++ action ∷ []) later

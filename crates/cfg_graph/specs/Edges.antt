@@ -43,6 +43,7 @@ pub data Exit : Type 0 where
   ToBlock : (block : ℕ) → Exit
   LeavesBody : Exit
 
+-- where a panic leads
 abbrev pub unwind_exit : Unwind → Exit
 unwind_exit (Unwind.Block block) = ToBlock block
 unwind_exit Unwind.Resume = LeavesBody
@@ -52,6 +53,7 @@ unwind_exit Unwind.Abort = LeavesBody
 abbrev pub ways_out : Term → List Exit
 ways_out term = map ToBlock (onward term) ++ map unwind_exit (unwind_of term)
 
+-- the block in which a panic goes on, where it does
 abbrev pub unwind_block : Unwind → List ℕ
 unwind_block (Unwind.Block block) = block ∷ []
 unwind_block Unwind.Resume = []
@@ -87,5 +89,5 @@ lowers from to = is_turn to || nat_lt to.rank from.rank
 -- each edge of a body that does not lead to a turn block lowers the rank
 abbrev pub IsRanked : Body → Type 0
 IsRanked body =
-    (from to : Block) (n : ℕ) → Contains body.blocks from → Contains (targets from.term) n → slice_get body.blocks n ≡ Some to
+    (n m : ℕ) (from to : Block) → slice_get body.blocks n ≡ Some from → Contains (targets from.term) m → slice_get body.blocks m ≡ Some to
     → is_turn to ≡ false → to.rank < from.rank

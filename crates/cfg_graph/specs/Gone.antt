@@ -1,9 +1,8 @@
 -- What is gone at a point of a path, by looking back: a place is gone where the last action on it or on a container of
 -- it took it. The rustc development guide speaks of moves and initialization ("Tracking moves and initialization").
-use Rattle.std.specs.Prelude.{ℕ, ◌≡◌, ◌==◌, Bool, true, false, not, ◌&&◌, ◌||◌, List, [], ◌∷◌, ◌++◌, take, length, map, flat_map, if◌then◌else◌, Option, Some, None, unwrap_or, slice_get, nat_lt, nat_le}
-use Rattle.std.specs.List.{list_any, list_all, starts_with}
-use Rattle.std.specs.Option.{option_or, option_map_or}
-use Rattle.mir_ty.specs.declared.ty.TyId.{TyId}
+use Rattle.std.specs.Prelude.{ℕ, ◌≡◌, ◌↔◌, ◌==◌, Bool, true, false, not, ◌&&◌, List, [], ◌∷◌, ◌++◌, map, if◌then◌else◌, Option, Some, None, unwrap_or, slice_get, nat_lt, nat_le}
+use Rattle.std.specs.List.{list_any, list_all}
+use Rattle.std.specs.Option.{option_or}
 use Rattle.mir_ty.specs.ItemTable.{ItemTable}
 use Rattle.store_model.specs.NamedPlace.{Step, same_step, ToPart, ToField, ToContent, ToElement, Place, Watched, Whole, ThroughReference, ByElement, watched, before_element}
 use Rattle.cfg_graph.specs.declared.graph.Body.{Body}
@@ -27,10 +26,17 @@ leaves_gone Stores = Some false
 leaves_gone Drops = Some true
 leaves_gone Frees = Some true
 
+-- these steps are the first ones of those, or all of them
+abbrev pub are_first : List Step → List Step → Bool
+are_first [] steps = true
+are_first (first ∷ rest) [] = false
+are_first (first ∷ rest) (step ∷ steps) = same_step first step && are_first rest steps
+
 -- a place is another one or a container of it
 abbrev pub is_at_or_above : Place → Place → Bool
-is_at_or_above upper lower = (upper.local == lower.local) && starts_with same_step lower.steps upper.steps
+is_at_or_above upper lower = (upper.local == lower.local) && are_first upper.steps lower.steps
 
+-- the place at the end of further steps
 abbrev pub below : Place → List Step → Place
 below place steps = record { local = place.local; steps = place.steps ++ steps }
 
@@ -39,6 +45,7 @@ abbrev pub containers : List Step → List (List Step)
 containers [] = []
 containers (step ∷ steps) = [] ∷ map (λ outer. step ∷ outer) (containers steps)
 
+-- the steps take an element by a local
 abbrev has_index : List Step → Bool
 has_index [] = false
 has_index (ToPart n ∷ steps) = has_index steps
@@ -46,6 +53,7 @@ has_index (ToField variant n ∷ steps) = has_index steps
 has_index (ToContent ∷ steps) = has_index steps
 has_index (ToElement local ∷ steps) = true
 
+-- a place is watched to its end
 abbrev reaches_whole : Watched → Bool
 reaches_whole w = elim w.reach [ Whole ↦ true | ThroughReference ↦ false | ByElement ↦ false ]
 
@@ -63,6 +71,7 @@ module _ (items : ItemTable) (body : Body) where
   last_left place [] = None
   last_left place (action ∷ later) = option_or (last_left place later) (left_by place action)
 
+  -- the locals after the result, as many as the body has parameters
   abbrev pub is_param : ℕ → Bool
   is_param local = nat_lt 0 local && nat_le local body.params
 
@@ -81,6 +90,7 @@ module _ (items : ItemTable) (body : Body) where
       not (is_gone_after actions place)
       && list_all (λ action. not (is_at_or_above place action.place && is_gone_after actions action.place)) actions
 
+  -- some container of a place is gone
   abbrev pub container_gone_after : List Action → Place → Bool
   container_gone_after actions place =
       list_any (λ outer. is_gone_after actions (record { local = place.local; steps = outer })) (containers place.steps)
@@ -89,3 +99,9 @@ module _ (items : ItemTable) (body : Body) where
   abbrev pub array_broken_after : List Action → Place → Bool
   array_broken_after actions place =
       has_index place.steps && not (is_whole_after actions (record { local = place.local; steps = before_element place.steps }))
+
+-- what the law of whole places says: the test tells exactly the places that are whole
+abbrev pub WholenessIsTested : Type 0
+WholenessIsTested =
+    (items : ItemTable) (body : Body) (actions : List Action) (place : Place)
+    → is_whole_after items body actions place ≡ true ↔ IsWholeAfter items body actions place

@@ -1,5 +1,5 @@
 -- The faults of the lines of items: structs and enums, traits, impls and closures.
-use Rattle.std.specs.Prelude.{ℕ, ◌==◌, Bool, true, false, not, ◌&&◌, ◌||◌, List, [], ◌∷◌, map, flat_map, Option, Some, None, length, slice_get, nat_lt, nat_eq}
+use Rattle.std.specs.Prelude.{ℕ, Bool, true, false, not, ◌&&◌, List, [], ◌∷◌, map, flat_map, Option, Some, length, slice_get, nat_lt}
 use Rattle.std.specs.List.{list_any, list_all}
 use Rattle.std.specs.Option.{option_map_or}
 use Rattle.std.specs.Cmp.Lexicographic.{pointwise}
@@ -13,20 +13,10 @@ use Rattle.mir_ty.specs.declared.def.ClosureDef.{ClosureDef}
 use Rattle.mir_ty.specs.ItemTable.{ItemTable, type_at}
 use Rattle.cfg_graph.specs.Broken.{broken}
 use Rattle.cfg_graph.specs.NameFaults.{is_name, is_adt_name, is_repeated, is_repeated_impl}
-use Rattle.cfg_graph.specs.TypeFaults.{same_id, same_ids, is_drop_body, ty_exists, misplaces_dyn, adt_holds_itself, closure_holds_itself}
+use Rattle.cfg_graph.specs.TypeForms.{same_id, same_ids, is_unit, is_adt, is_closure}
+use Rattle.cfg_graph.specs.TypeFaults.{is_drop_body, ty_exists, misplaces_dyn, adt_holds_itself, closure_holds_itself}
 
-abbrev is_unit : Option Ty → Bool
-is_unit (Some Ty.Unit) = true
-is_unit _ = false
-
-abbrev is_adt : ℕ → Option Ty → Bool
-is_adt n (Some (Ty.Adt m)) = n == m
-is_adt n _ = false
-
-abbrev is_closure : ℕ → Option Ty → Bool
-is_closure n (Some (Ty.Closure m)) = n == m
-is_closure n _ = false
-
+-- the types that the line of a struct or enum has, and that of a trait
 abbrev field_types : Adt → List TyId
 field_types adt = flat_map (λ variant. variant.fields) adt.variants
 
@@ -38,9 +28,11 @@ types_of_trait def = flat_map types_of_sig def.methods
 
 -- the items, and how many bodies there are
 module _ (items : ItemTable) (bodies : ℕ) where
+  -- these types exist, with all that they name
   abbrev exist : List TyId → Bool
   exist ids = list_all (ty_exists items) ids
 
+  -- none of them has a `dyn` type in a wrong place
   abbrev place_dyn : List TyId → Bool
   place_dyn ids = not (list_any (misplaces_dyn items) ids)
 
@@ -61,23 +53,36 @@ module _ (items : ItemTable) (bodies : ℕ) where
   abbrev has_drop_sig : ℕ → ℕ → Bool
   has_drop_sig n body = option_map_or (is_drop_sig n) (slice_get items.bodies body) false
 
+  -- a struct or enum has its types: no `dyn` type in a wrong place, and a `Drop` body of its own types
+  abbrev pub adt_has_types : ℕ → Adt → Bool
+  adt_has_types n adt = place_dyn (field_types adt) && option_map_or (has_drop_sig n) adt.drop_body true
+
+  -- the names of a struct or enum and of its variants stand in a listing, and no earlier one has its name
+  abbrev pub adt_has_names : ℕ → Adt → Bool
+  adt_has_names n adt =
+      is_adt_name adt.name && list_all (λ variant. is_name variant.name) adt.variants && not (is_repeated (map (λ other. other.name) items.adts) n adt.name)
+
+  abbrev pub adt_tests : ℕ → Adt → List (ℕ × Bool)
+  adt_tests n adt =
+      (1, exist (field_types adt) && option_map_or (λ body. nat_lt body bodies) adt.drop_body true)
+      ∷ (3, adt_has_types n adt && not (adt_holds_itself items n))
+      ∷ (7, adt_has_names n adt)
+      ∷ []
+
   abbrev pub adt_faults : ℕ → Adt → List ℕ
-  adt_faults n adt =
-      broken (
-        (1, exist (field_types adt) && option_map_or (λ body. nat_lt body bodies) adt.drop_body true)
-        ∷ (3, place_dyn (field_types adt) && option_map_or (has_drop_sig n) adt.drop_body true && not (adt_holds_itself items n))
-        ∷ (7, is_adt_name adt.name && list_all (λ variant. is_name variant.name) adt.variants
-              && not (is_repeated (map (λ other. other.name) items.adts) n adt.name))
-        ∷ [])
+  adt_faults n adt = broken (adt_tests n adt)
 
   abbrev pub trait_faults : ℕ → TraitDef → List ℕ
   trait_faults n def =
       broken (
-        (1, exist (types_of_trait def))
-        ∷ (3, place_dyn (types_of_trait def))
-        ∷ (7, is_name def.name && list_all (λ method. is_name method.name) def.methods
-              && not (is_repeated (map (λ other. other.name) items.traits) n def.name))
-        ∷ [])
+      (1, exist (types_of_trait def))
+      ∷ (3, place_dyn (types_of_trait def))
+      ∷ (
+        7,
+        is_name def.name && list_all (λ method. is_name method.name) def.methods
+            && not (is_repeated (map (λ other. other.name) items.traits) n def.name),
+      )
+      ∷ [])
 
   -- the type of `self` in a trait's method, and in the body of it for this struct or enum
   abbrev are_selves : ℕ → Option Ty → Option Ty → Bool
@@ -103,11 +108,12 @@ module _ (items : ItemTable) (bodies : ℕ) where
   abbrev pub impl_faults : ℕ → ImplDef → List ℕ
   impl_faults n impl =
       broken (
-        (1, nat_lt impl.trait_no (length items.traits) && nat_lt impl.adt (length items.adts) && list_all (λ body. nat_lt body bodies) impl.bodies)
-        ∷ (3, pointwise (body_implements impl.adt) (methods_of impl.trait_no) impl.bodies)
-        ∷ (7, not (is_repeated_impl items.impls n impl))
-        ∷ [])
+      (1, nat_lt impl.trait_no (length items.traits) && nat_lt impl.adt (length items.adts) && list_all (λ body. nat_lt body bodies) impl.bodies)
+      ∷ (3, pointwise (body_implements impl.adt) (methods_of impl.trait_no) impl.bodies)
+      ∷ (7, not (is_repeated_impl items.impls n impl))
+      ∷ [])
 
+  -- the closure value is the first parameter of its body
   abbrev begins_with_closure : ℕ → List TyId → Bool
   begins_with_closure n [] = false
   begins_with_closure n (first ∷ rest) = is_closure n (type_at items first)
@@ -115,9 +121,14 @@ module _ (items : ItemTable) (bodies : ℕ) where
   abbrev has_closure_sig : ℕ → ℕ → Bool
   has_closure_sig n body = option_map_or (λ sig. begins_with_closure n sig.params) (slice_get items.bodies body) false
 
+  abbrev pub closure_has_types : ℕ → ClosureDef → Bool
+  closure_has_types n def = place_dyn def.captures && has_closure_sig n def.body
+
+  abbrev pub closure_tests : ℕ → ClosureDef → List (ℕ × Bool)
+  closure_tests n def =
+      (1, exist def.captures && nat_lt def.body bodies)
+      ∷ (3, closure_has_types n def && not (closure_holds_itself items n))
+      ∷ []
+
   abbrev pub closure_faults : ℕ → ClosureDef → List ℕ
-  closure_faults n def =
-      broken (
-        (1, exist def.captures && nat_lt def.body bodies)
-        ∷ (3, place_dyn def.captures && has_closure_sig n def.body && not (closure_holds_itself items n))
-        ∷ [])
+  closure_faults n def = broken (closure_tests n def)

@@ -10,6 +10,8 @@ pub mod LineFaults
 pub mod NameFaults
 pub mod Paths
 pub mod Places
+pub mod Present
 pub mod TypeFaults
+pub mod TypeForms
 pub mod Typing
 pub mod Uses

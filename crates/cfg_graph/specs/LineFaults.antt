@@ -1,5 +1,5 @@
 -- The faults of the lines of a body: its own line, its locals, its statements and its terminators.
-use Rattle.std.specs.Prelude.{ℕ, zero, suc, ◌+◌, ◌==◌, Bool, true, false, not, ◌&&◌, List, [], ◌∷◌, map, take, Option, Some, None, is_some, length, slice_get, nat_lt, option_and_then}
+use Rattle.std.specs.Prelude.{ℕ, suc, ◌==◌, Bool, true, false, not, ◌&&◌, List, [], ◌∷◌, map, take, Option, Some, None, is_some, length, slice_get, nat_lt}
 use Rattle.std.specs.List.{list_all}
 use Rattle.std.specs.Option.{option_map_or}
 use Rattle.mir_ty.specs.declared.ty.TyId.{TyId}
@@ -16,8 +16,9 @@ use Rattle.cfg_graph.specs.Cleanup.{edges_lower, keeps_to_cleanup}
 use Rattle.cfg_graph.specs.Edges.{targets}
 use Rattle.cfg_graph.specs.NameFaults.{is_name, is_repeated}
 use Rattle.cfg_graph.specs.Places.{index_locals, ty_of_operand}
-use Rattle.cfg_graph.specs.TypeFaults.{ty_exists, misplaces_dyn, same_ids}
-use Rattle.cfg_graph.specs.Typing.{stmt_is_typed, term_is_typed, method_at, adt_of, box_content}
+use Rattle.cfg_graph.specs.TypeFaults.{ty_exists, misplaces_dyn}
+use Rattle.cfg_graph.specs.TypeForms.{same_ids, adt_of, box_content}
+use Rattle.cfg_graph.specs.Typing.{stmt_is_typed, term_is_typed, method_at}
 use Rattle.cfg_graph.specs.Uses.{places_of_stmt, places_of_term}
 
 -- the items, and how many bodies there are
@@ -80,29 +81,34 @@ module _ (items : ItemTable) (bodies : ℕ) where
   stmt_has_row locals (Stmt.Forget operand) = true
   stmt_has_row locals (Stmt.Free place) = true
 
+  -- of a statement
   abbrev pub stmt_faults : Body → Stmt → List ℕ
   stmt_faults body stmt =
       broken (
-        (1, stmt_numbers_exist stmt)
-        ∷ (2, list_all (locals_exist body) (places_of_stmt stmt))
-        ∷ (3, stmt_is_typed items body.locals stmt)
-        ∷ (6, stmt_has_row body.locals stmt)
-        ∷ [])
+      (1, stmt_numbers_exist stmt)
+      ∷ (2, list_all (locals_exist body) (places_of_stmt stmt))
+      ∷ (3, stmt_is_typed items body.locals stmt)
+      ∷ (6, stmt_has_row body.locals stmt)
+      ∷ [])
 
+  -- the blocks to which edges lead exist
   abbrev blocks_exist : Body → List ℕ → Bool
   blocks_exist body blocks = list_all (λ n. nat_lt n (length body.blocks)) blocks
 
   -- of the terminator of a block
-  abbrev pub term_faults : Body → Block → List ℕ
-  term_faults body block =
-      broken (
-        (1, term_numbers_exist block.term && blocks_exist body (targets block.term))
-        ∷ (2, list_all (locals_exist body) (places_of_term block.term))
-        ∷ (3, term_is_typed items body.locals block.term)
-        ∷ (4, edges_lower body block)
-        ∷ (5, keeps_to_cleanup body block)
-        ∷ [])
+  abbrev pub term_tests : Body → Block → List (ℕ × Bool)
+  term_tests body block =
+      (1, term_numbers_exist block.term && blocks_exist body (targets block.term))
+      ∷ (2, list_all (locals_exist body) (places_of_term block.term))
+      ∷ (3, term_is_typed items body.locals block.term)
+      ∷ (4, edges_lower body block)
+      ∷ (5, keeps_to_cleanup body block)
+      ∷ []
 
+  abbrev pub term_faults : Body → Block → List ℕ
+  term_faults body block = broken (term_tests body block)
+
+  -- of a local, by its type
   abbrev pub local_faults : TyId → List ℕ
   local_faults id = broken ((1, ty_exists items id) ∷ (3, not (misplaces_dyn items id)) ∷ [])
 
@@ -120,8 +126,8 @@ module _ (items : ItemTable) (bodies : ℕ) where
   abbrev pub body_faults : ℕ → Body → List ℕ
   body_faults n body =
       broken (
-        (1, nat_lt 0 (length body.blocks))
-        ∷ (2, nat_lt body.params (length body.locals))
-        ∷ (3, has_sig body (slice_get items.bodies n))
-        ∷ (7, option_map_or (λ sig. is_name sig.name && not (is_repeated body_names n sig.name)) (slice_get items.bodies n) true)
-        ∷ [])
+      (1, nat_lt 0 (length body.blocks))
+      ∷ (2, nat_lt body.params (length body.locals))
+      ∷ (3, has_sig body (slice_get items.bodies n))
+      ∷ (7, option_map_or (λ sig. is_name sig.name && not (is_repeated body_names n sig.name)) (slice_get items.bodies n) true)
+      ∷ [])

@@ -1,8 +1,7 @@
 -- Which names can stand in a listing, and which repeat an earlier one. A name is seen as its bytes in UTF-8.
-use Rattle.std.specs.Prelude.{ℕ, ◌==◌, Bool, true, false, not, ◌&&◌, ◌||◌, List, [], ◌∷◌, ◌++◌, map, take, length, nat_lt, codes, nat_eq}
+use Rattle.std.specs.Prelude.{ℕ, ◌==◌, Bool, not, ◌&&◌, List, [], ◌∷◌, take, length, nat_lt, codes, nat_eq}
 use Rattle.std.specs.List.{list_any, list_all, starts_with}
 use Rattle.std.specs.Cmp.Lexicographic.{pointwise}
-use Rattle.mir_ty.specs.declared.adt.Adt.{Adt}
 use Rattle.mir_ty.specs.declared.def.ImplDef.{ImplDef}
 
 abbrev pub same_name : List ℕ → List ℕ → Bool

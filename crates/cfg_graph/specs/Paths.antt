@@ -1,17 +1,16 @@
 -- The paths of a body: through which blocks a run may come, if every condition may go either way and all that can
 -- panic may panic. A path begins in block 0 and goes on along edges, and is the list of its blocks. Where a block has
 -- two ways out, the way gives an item, 1 for `yes` and for a panic; each turn of a loop gives a 0.
-use Rattle.std.specs.Prelude.{ℕ, zero, suc, ◌==◌, Bool, true, false, List, [], ◌∷◌, ◌++◌, map, flat_map, if◌then◌else◌, Option, Some, None, slice_get, option_and_then, Contains}
+use Rattle.std.specs.Prelude.{ℕ, zero, suc, ◌==◌, Bool, true, false, List, [], ◌∷◌, ◌++◌, map, flat_map, if◌then◌else◌, Option, slice_get, Contains}
 use Rattle.std.specs.Option.{option_map_or}
-use Rattle.mir_ty.specs.declared.ty.Ty.{Ty}
 use Rattle.mir_ty.specs.declared.ty.TyId.{TyId}
 use Rattle.mir_ty.specs.Facts.{needs_drop}
-use Rattle.mir_ty.specs.ItemTable.{ItemTable, type_at}
+use Rattle.mir_ty.specs.ItemTable.{ItemTable}
 use Rattle.cfg_graph.specs.declared.place.Place.{Place}
 use Rattle.cfg_graph.specs.declared.terminator.Term.{Term}
-use Rattle.cfg_graph.specs.declared.graph.Block.{Block}
 use Rattle.cfg_graph.specs.declared.graph.Body.{Body}
 use Rattle.cfg_graph.specs.Edges.{Exit, ToBlock, LeavesBody, ways_out, is_turn}
+use Rattle.cfg_graph.specs.TypeForms.{is_never}
 use Rattle.cfg_graph.specs.Places.{place_id, ty_of_place}
 
 -- a way out of a block on a path: the items that it gives, and where it leads
@@ -36,14 +35,11 @@ second_alone [] = []
 second_alone (first ∷ []) = []
 second_alone (first ∷ second ∷ rest) = record { items = true ∷ []; exit = second } ∷ []
 
-abbrev is_never : Option Ty → Bool
-is_never (Some Ty.Never) = true
-is_never _ = false
-
 -- the type of a place needs dropping
 abbrev needs_dropping : ItemTable → Option TyId → Bool
 needs_dropping items id = option_map_or (needs_drop items) id false
 
+-- the item of a turn
 abbrev zero_if : Bool → List Bool
 zero_if true = false ∷ []
 zero_if false = []
@@ -57,6 +53,7 @@ module _ (items : ItemTable) (body : Body) where
   abbrev ways_of_drop : Place → List Exit → List Way
   ways_of_drop place exits = if needs_dropping items (place_id items body.locals place) then choices exits else first_alone exits
 
+  -- which of the ways out of a terminator are on paths, with their items
   abbrev ways_among : Term → List Exit → List Way
   ways_among (Term.Goto block) exits = choices exits
   ways_among (Term.If on if_true if_false) exits = choices exits
@@ -76,6 +73,7 @@ module _ (items : ItemTable) (body : Body) where
   abbrev pub ways : Term → List Way
   ways term = ways_among term (ways_out term)
 
+  -- the ways out of the block with this number
   abbrev ways_from : ℕ → List Way
   ways_from block = option_map_or (λ found. ways found.term) (slice_get body.blocks block) []
 
@@ -83,6 +81,7 @@ module _ (items : ItemTable) (body : Body) where
   abbrev entry_items : ℕ → List Bool
   entry_items block = zero_if (option_map_or is_turn (slice_get body.blocks block) false)
 
+  -- the items of a way, if it leads to this block, and if it leads out of the body
   abbrev items_to : ℕ → Way → List (List Bool)
   items_to block way = elim way.exit [ ToBlock next ↦ if next == block then way.items ∷ [] else [] | LeavesBody ↦ [] ]
 
@@ -99,6 +98,7 @@ module _ (items : ItemTable) (body : Body) where
   items_along at_last from (to ∷ path) =
       flat_map (λ given. map (λ rest. given ++ entry_items to ++ rest) (items_along at_last to path)) (items_between from to)
 
+  -- a path begins in block 0, with the items of the entry to it
   abbrev from_start : (ℕ → List (List Bool)) → List ℕ → List (List Bool)
   from_start at_last [] = []
   from_start at_last (zero ∷ path) = map (λ rest. entry_items 0 ++ rest) (items_along at_last 0 path)

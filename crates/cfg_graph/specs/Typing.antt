@@ -1,5 +1,5 @@
 -- G3 of statements and terminators: what they store and take has the types that they give and want.
-use Rattle.std.specs.Prelude.{ℕ, ◌==◌, Bool, true, false, not, ◌&&◌, ◌||◌, List, [], ◌∷◌, Option, Some, None, is_some, length, slice_get, nat_eq, option_and_then}
+use Rattle.std.specs.Prelude.{ℕ, ◌==◌, Bool, true, false, not, ◌&&◌, List, Option, Some, is_some, length, slice_get, option_and_then}
 use Rattle.std.specs.List.{list_all}
 use Rattle.std.specs.Option.{option_map_or}
 use Rattle.std.specs.Cmp.Lexicographic.{pointwise}
@@ -17,70 +17,9 @@ use Rattle.cfg_graph.specs.declared.place.Operand.{Operand}
 use Rattle.cfg_graph.specs.declared.statement.Stmt.{Stmt}
 use Rattle.cfg_graph.specs.declared.terminator.Term.{Term}
 use Rattle.cfg_graph.specs.Places.{index_locals, place_id, ty_of_place, ty_of_operand}
-use Rattle.cfg_graph.specs.TypeFaults.{is_dyn, same_id, is_drop_body}
+use Rattle.cfg_graph.specs.TypeFaults.{is_drop_body}
+use Rattle.cfg_graph.specs.TypeForms.{same_id, is_int, is_bool, is_unit, is_dyn, is_dyn_of, is_adt, is_closure, same_int, are_compared, is_signed, adt_of, tuple_parts, box_content, referent}
 use Rattle.cfg_graph.specs.Uses.{places_of_stmt, places_of_term, operands_of_stmt, operands_of_term, stored_by_stmt, stored_by_term}
-
--- Types by their forms.
-
-abbrev is_bool : Option Ty → Bool
-is_bool (Some Ty.Bool) = true
-is_bool _ = false
-
-abbrev same_kind : IntKind → IntKind → Bool
-same_kind IntKind.I32 IntKind.I32 = true
-same_kind IntKind.I64 IntKind.I64 = true
-same_kind IntKind.U32 IntKind.U32 = true
-same_kind IntKind.U64 IntKind.U64 = true
-same_kind IntKind.Usize IntKind.Usize = true
-same_kind _ _ = false
-
-abbrev is_int : IntKind → Option Ty → Bool
-is_int kind (Some (Ty.Int other)) = same_kind kind other
-is_int kind _ = false
-
-abbrev is_unit : Option Ty → Bool
-is_unit (Some Ty.Unit) = true
-is_unit _ = false
-
-abbrev same_int : Option Ty → Option Ty → Bool
-same_int (Some (Ty.Int kind)) ty = is_int kind ty
-same_int _ ty = false
-
--- of one integer type, or both `bool`
-abbrev are_compared : Option Ty → Option Ty → Bool
-are_compared left right = same_int left right || (is_bool left && is_bool right)
-
-abbrev is_signed : Option Ty → Bool
-is_signed ty = is_int IntKind.I32 ty || is_int IntKind.I64 ty
-
-abbrev tuple_parts : Option Ty → Option (List TyId)
-tuple_parts (Some (Ty.Tuple parts)) = Some parts
-tuple_parts _ = None
-
-abbrev pub box_content : Option Ty → Option TyId
-box_content (Some (Ty.Boxed inside)) = Some inside
-box_content _ = None
-
--- what a reference names, `&mut` where it is unique
-abbrev referent : Bool → Option Ty → Option TyId
-referent false (Some (Ty.Shared to)) = Some to
-referent true (Some (Ty.Unique to)) = Some to
-referent unique _ = None
-
-abbrev pub adt_of : Option Ty → Option ℕ
-adt_of (Some (Ty.Adt n)) = Some n
-adt_of _ = None
-
-abbrev is_adt : ℕ → Option Ty → Bool
-is_adt n ty = option_map_or (nat_eq n) (adt_of ty) false
-
-abbrev is_closure : ℕ → Option Ty → Bool
-is_closure n (Some (Ty.Closure m)) = n == m
-is_closure n _ = false
-
-abbrev is_dyn_of : ℕ → Option Ty → Bool
-is_dyn_of n (Some (Ty.Dyn m)) = n == m
-is_dyn_of n _ = false
 
 -- the numbers that a constant may be
 abbrev constant_fits : Operand → Bool
@@ -111,6 +50,7 @@ enum_variant items adt variant =
 
 -- the items of a graph and the locals of a body
 module _ (items : ItemTable) (locals : List TyId) where
+  -- the type of a place, and of an operand
   abbrev ty : Place → Option Ty
   ty place = ty_of_place items locals place
 
@@ -131,6 +71,7 @@ module _ (items : ItemTable) (locals : List TyId) where
   operand_is id (Operand.Truth value) = is_bool (type_at items id)
   operand_is id Operand.Unit = is_unit (type_at items id)
 
+  -- as many values as types, each of its type
   abbrev operands_are : List TyId → List Operand → Bool
   operands_are = pointwise operand_is
 
@@ -139,9 +80,11 @@ module _ (items : ItemTable) (locals : List TyId) where
   are_elements operands (Some (Ty.Array element count)) = (length operands == count) && list_all (operand_is element) operands
   are_elements operands _ = false
 
+  -- the arguments and the result are those of a signature
   abbrev calls : Place → List Operand → Sig → Bool
   calls to args sig = operands_are sig.params args && option_map_or (same_id sig.result) (place_id items locals to) false
 
+  -- what a statement stores is of the type of its place
   abbrev stmt_has_types : Stmt → Bool
   stmt_has_types (Stmt.Put to from) = option_map_or (λ id. operand_is id from) (place_id items locals to) false
   stmt_has_types (Stmt.Compare to op left right) = is_bool (ty to) && are_compared (operand_ty left) (operand_ty right)
@@ -161,6 +104,7 @@ module _ (items : ItemTable) (locals : List TyId) where
   stmt_has_types (Stmt.Forget operand) = true
   stmt_has_types (Stmt.Free place) = is_some (box_content (ty place))
 
+  -- what a terminator takes and stores is of the types that it wants; no `Drop` body is called
   abbrev term_has_types : Term → Bool
   term_has_types (Term.Goto block) = true
   term_has_types (Term.If on if_true if_false) = is_bool (operand_ty on)
@@ -178,11 +122,13 @@ module _ (items : ItemTable) (locals : List TyId) where
 
   -- what is stored into, and what is an operand, is not of a `dyn` type
   abbrev is_sized : Place → Bool
-  is_sized place = not (is_dyn items (ty place))
+  is_sized place = not (is_dyn (ty place))
 
+  -- an operand is of no `dyn` type, and a constant is inside its type
   abbrev operand_stands : Operand → Bool
-  operand_stands operand = not (is_dyn items (operand_ty operand)) && constant_fits operand
+  operand_stands operand = not (is_dyn (operand_ty operand)) && constant_fits operand
 
+  -- the places and operands of a statement or a terminator, whatever it is
   abbrev places_have_types : List Place → List Operand → List Place → Bool
   places_have_types stored operands places =
       list_all is_typed_place places && list_all is_sized stored && list_all operand_stands operands

@@ -18,7 +18,11 @@ pub enum Term {
     /// Goes on in the block.
     Goto(u32),
     /// Goes on by a `bool`.
-    If { on: Operand, yes: u32, no: u32 },
+    If {
+        on: Operand,
+        yes: u32,
+        no: u32,
+    },
     /// Goes on by whether the value of an enum has the variant.
     Case {
         on: Place,
@@ -79,7 +83,10 @@ pub enum Term {
         unwind: Unwind,
     },
     /// Starts a panic.
-    Panic { why: Why, unwind: Unwind },
+    Panic {
+        why: Why,
+        unwind: Unwind,
+    },
     /// Ends the body with the value of local 0.
     Return,
     /// Ends the body by unwinding.

@@ -1,0 +1,9 @@
+-- Graphs and paths that were worked out by hand, closed by computation.
+pub mod Graphs
+mod PathRows
+mod Ranks
+mod Short
+mod Statements
+mod Targets
+mod Terminators
+mod UseRows

@@ -1,0 +1,8 @@
+use Rattle.cfg_graph.proofs.Holding.{adt_holding-tested, closure_holding-tested}
+use Rattle.cfg_graph.proofs.laws.law_of_holding.Goals as goal
+
+pub returns : goal.returns
+returns c = record {
+  adts = adt_holding-tested;
+  closures = closure_holding-tested;
+}
