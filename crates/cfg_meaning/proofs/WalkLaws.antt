@@ -11,7 +11,6 @@ use Rattle.cfg_graph.specs.Edges.{IsRanked, targets, unwind_block, is_turn, is_t
 use Rattle.cfg_meaning.specs.Actions.{site_of, operand_of, operands_of, action_of, mode_of}
 use Rattle.cfg_meaning.specs.Walk.{Next, stuck_in, on_go, fork, branch, renamed, renamed_choice, naming, unwinding, stmts_do, acts, term_does, block_does, ticked, rank_at, does_block, does_turn, by_kind, if_there, entered, blocks, from_rank, turns, walk}
 use Rattle.mir_base.specs.declared.trace.Why.{Why}
-use Rattle.mir_ty.proofs.ListLemmas.{Contains-slice_get}
 use Rattle.store_model.specs.Effects as effects
 use Rattle.store_model.specs.Effects.{Action, Test, Mode, Site, Halt, Aborted, NoStep, Out, Go, Unwind as Unwinds, Halts, Choice, Yes, No, Neither, Effects}
 use Rattle.store_model.specs.NamedPlace.{whole_local}
@@ -312,8 +311,8 @@ module _ {W : Type 0} (size : W → ℕ) (p : Effects W) (laws : Laws p size) (n
         entering_same (block_at n) n (λ block. turn) (λ block. turn') _ _ w (λ block h. e n w l)
         (λ block h f. does_same m n block (blocks p number node body turn r) (blocks p number node body turn' r')
         (λ d c. blocks_same turn turn' m e r r' d
-        (λ to k g. let low = ranked block to d (Contains-slice_get body.blocks n block h) c k g in let high = b block h f in omega arith)
-        (λ to k g. let low = ranked block to d (Contains-slice_get body.blocks n block h) c k g in let high = b' block h f in omega arith)) w l)
+        (λ to k g. let low = ranked n d block to h c k g in let high = b block h f in omega arith)
+        (λ to k g. let low = ranked n d block to h c k g in let high = b' block h f in omega arith)) w l)
 
     rank_of : (n : ℕ) (block : Block) → block_at n ≡ Some block → rank_at p number node body n ≡ block.rank
     rank_of n block h = ap (λ o. option_map_or (λ (b : Block). b.rank) o 0) h
@@ -364,5 +363,5 @@ module _ {W : Type 0} (size : W → ℕ) (p : Effects W) (laws : Laws p size) (n
         (λ block h f. does_same (size w) n block (blocks p number node body (turns p number node body t) (rank_at p number node body n)) (walk p number node body t)
         (λ d c. blocks_same (turns p number node body t) (turns p number node body t) (size w) (λ i u j. refl)
         (rank_at p number node body n) (suc (rank_at p number node body d)) d
-        (λ to k g. let low = ranked block to d (Contains-slice_get body.blocks n block h) c k g in let high = rank_of n block h in omega arith)
+        (λ to k g. let low = ranked n d block to h c k g in let high = rank_of n block h in omega arith)
         (by_rank d)) w (omega arith))

@@ -1,16 +1,10 @@
 //! The laws of graphs' meaning. Each is a clause of a function without parameters.
-ghost use Rattle.cfg_meaning.specs.Forward.{SaysTheSame};
 ghost use Rattle.cfg_meaning.specs.Laws.{
   FreeWalkHasNoBound,
   FreeWalkIsOneEquation,
   WalkHasNoBound,
   WalkIsOneEquation,
 };
-
-/// What is gone at a point of a path is the same by looking back along the path and by a state that is kept along it.
-pub fn law_of_what_is_gone()
-    ensures { SaysTheSame }
-{}
 
 /// The walk of a ranked body is one equation: it is what its first block does, and then a walk. The bound on turns is
 /// never met: with fewer ticks, or fewer items of a free walk, two bounds give the same walk.

@@ -4,4 +4,4 @@
 
 mod laws;
 
-pub use laws::{law_of_walks, law_of_what_is_gone};
+pub use laws::law_of_walks;
