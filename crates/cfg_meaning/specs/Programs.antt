@@ -1,7 +1,6 @@
 -- What a graph does when it runs: strictly, so that a value that is dropped is whole; and as a raw graph, which has
 -- scheduled drops, each of which drops what remains. And what its free walks are.
-use Rattle.std.specs.Prelude.{ℕ, suc, ℤ, Bool, true, false, List, [], ◌∷◌, length, position, slice_get, option_and_then, nat_eq, codes}
-use Rattle.std.specs.Cmp.Lexicographic.{pointwise}
+use Rattle.std.specs.Prelude.{ℕ, suc, ℤ, Bool, true, false, List, [], ◌∷◌, length, slice_get, option_and_then}
 use Rattle.std.specs.List.{range_with_len}
 use Rattle.std.specs.Option.{option_map_or}
 use Rattle.mir_base.specs.declared.trace.End.{End}
@@ -12,7 +11,7 @@ use Rattle.cfg_graph.specs.declared.graph.Graph.{Graph}
 use Rattle.cfg_meaning.specs.Walk.{walk}
 use Rattle.store_model.specs.Data.{Datum}
 use Rattle.store_model.specs.Effects.{NoStep, Out, Halts}
-use Rattle.store_model.specs.Entering.{Code, run_of}
+use Rattle.store_model.specs.Entering.{Code, main_of, run_of}
 use Rattle.store_model.specs.Free.{Free, at_start, on_presence}
 use Rattle.store_model.specs.Standing.{Setting}
 use Rattle.store_model.specs.World.{Cells}
@@ -38,9 +37,6 @@ code_of graph = record {
   answer = λ n. 0;
   within = λ p turns n w. option_map_or (λ body. walk p n no_node body turns 0 w) (slice_get graph.bodies n) (Halts NoStep w);
 }
-
-abbrev pub main_of : ItemTable → ℕ
-main_of items = option_map_or (λ n. n) (position (λ sig. pointwise nat_eq sig.name (codes "main")) items.bodies) 0
 
 -- the trace and the end of a graph, with these numbers to be asked and so many ticks
 abbrev pub graph_run : Graph → List ℤ → ℕ → Trace × End

@@ -15,4 +15,6 @@ mod Patterns
 mod Temporaries
 mod TraitObjects
 mod Unwinding
+pub mod WithD
+pub mod WithN
 pub mod Words

@@ -1,9 +1,7 @@
 -- What a typed program does when it runs, what its free runs are, and when it is accepted (The Rust Reference,
 -- "Functions", "Destructors"; for accepted uses "Moved and copied types" and rustc's errors E0381, E0382).
-use Rattle.std.specs.Prelude.{◌≡◌, ℕ, ◌==◌, ℤ, Bool, true, false, List, [], ◌∷◌, suc, length, map, find, position, slice_get, Option, Some, None, option_and_then, codes, if◌then◌else◌}
-use Rattle.std.specs.Cmp.Lexicographic.{pointwise}
+use Rattle.std.specs.Prelude.{◌≡◌, ℕ, ◌==◌, ℤ, Bool, true, false, List, [], ◌∷◌, suc, length, map, find, position, slice_get, Option, Some, None, option_and_then, if◌then◌else◌}
 use Rattle.std.specs.Option.{option_map_or}
-use Rattle.std.specs.Prelude.{nat_eq}
 use Rattle.mir_base.specs.declared.trace.End.{End}
 use Rattle.mir_base.specs.Trace.{Trace}
 use Rattle.mir_ty.specs.declared.ty.Ty.{Ty}
@@ -11,7 +9,7 @@ use Rattle.mir_ty.specs.declared.ty.TyId.{TyId}
 use Rattle.mir_ty.specs.ItemTable.{ItemTable}
 use Rattle.store_model.specs.Data.{Datum}
 use Rattle.store_model.specs.Effects.{Site, Halt, Aborted, OutOfTicks, NoStep, StuckAt, BadUse, BadStore, NoItem, NoRun, PastTheEnd, Out, Go, Unwind, Halts, aborting, Effects, Unwinding}
-use Rattle.store_model.specs.Entering.{Code, run_of}
+use Rattle.store_model.specs.Entering.{Code, main_of, run_of}
 use Rattle.store_model.specs.Free.{Free, at_start, on_presence}
 use Rattle.store_model.specs.NamedPlace.{whole_local}
 use Rattle.store_model.specs.Standing.{Setting}
@@ -118,10 +116,6 @@ code_of program = record {
   answer = λ n. on_body program n 0 answer_key;
   within = λ p turns n w. on_body program n (Halts NoStep w) (λ body. activation program.items p turns body w);
 }
-
--- the body with the name `main`
-abbrev pub main_of : ItemTable → ℕ
-main_of items = option_map_or (λ n. n) (position (λ sig. pointwise nat_eq sig.name (codes "main")) items.bodies) 0
 
 -- the trace and the end of a program, with these numbers to be asked and so many ticks
 abbrev pub source : ProgramTree → List ℤ → ℕ → Trace × End

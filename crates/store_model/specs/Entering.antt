@@ -1,9 +1,12 @@
 -- How a body is entered and left, and the run of a whole program: the same for the source and for a graph, whatever
 -- is done within a body (The Rust Reference, "Functions"; "Destructors").
-use Rattle.std.specs.Prelude.{ℕ, zero, suc, ℤ, List, [], ◌∷◌}
+use Rattle.std.specs.Prelude.{ℕ, zero, suc, ℤ, List, [], ◌∷◌, position, nat_eq, codes}
+use Rattle.std.specs.Cmp.Lexicographic.{pointwise}
+use Rattle.std.specs.Option.{option_map_or}
 use Rattle.mir_base.specs.declared.trace.End.{End}
 use Rattle.mir_base.specs.declared.trace.Event.{Event}
 use Rattle.mir_base.specs.Trace.{Trace}
+use Rattle.mir_ty.specs.ItemTable.{ItemTable}
 use Rattle.store_model.specs.Acting.{on_values}
 use Rattle.store_model.specs.Data.{Datum}
 use Rattle.store_model.specs.Effects.{Halt, Aborted, OutOfTicks, NoStep, StuckAt, BadUse, BadStore, NoItem, NoRun, PastTheEnd, Out, Go, Unwind, Halts, Effects}
@@ -59,6 +62,10 @@ abbrev pub told_by : Answer → Trace × End
 told_by (Returns value w) = (w.trace, End.Returned)
 told_by (Unwinds w) = (w.trace, End.Panicked)
 told_by (HaltsIn halt w) = (w.trace, end_of_halt halt)
+
+-- the body with the name `main`
+abbrev pub main_of : ItemTable → ℕ
+main_of items = option_map_or (λ n. n) (position (λ sig. pointwise nat_eq sig.name (codes "main")) items.bodies) 0
 
 -- `main` is called with these numbers to be asked and so many ticks
 abbrev pub run_of : Setting → Code → ℕ → List ℤ → ℕ → Trace × End

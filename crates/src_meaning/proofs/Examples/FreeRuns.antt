@@ -1,56 +1,31 @@
 -- Which lists of items reach a refused use: 1 is true, or a panic.
 use Rattle.std.proofs.Common.{◌≡◌, refl, [], ◌∷◌, pos}
 use Rattle.std.specs.Prelude.{ℕ, List, Option, Some, None, Bool, true, false, codes}
-use Rattle.mir_base.specs.declared.int_kind.IntKind.{IntKind}
 use Rattle.mir_base.specs.declared.operator.Cmp.{Cmp}
 use Rattle.mir_ty.specs.declared.ty.Ty.{Ty}
 use Rattle.mir_ty.specs.declared.ty.TyId.{TyId}
 use Rattle.mir_ty.specs.ItemTable.{ItemTable}
 use Rattle.typed_tree.specs.declared.node.Use.{Use}
-use Rattle.typed_tree.specs.Tree.{no_node, a_node, no_field, a_field, absent, present, Number, Variable, Field, Comparison, Assign, Call, Make, Tuple, Ask, Block, Let, Evaluate, If, Match, Arm, Loop, Wildcard, Binding, TuplePattern, BodyTree, ProgramTree}
-use Rattle.src_meaning.proofs.Examples.Words.{n, used, param, ty_no, struct, head}
+use Rattle.typed_tree.specs.Tree.{no_node, absent, present, Number, Variable, Field, Comparison, Assign, Call, Tuple, Ask, Block, If, Match, Arm, Loop, Wildcard, Binding, TuplePattern, BodyTree, ProgramTree}
+use Rattle.src_meaning.proofs.Examples.Words.{n, used, nodes, let_, stmt, body, ty_no, head}
+use Rattle.src_meaning.proofs.Examples.WithD.{i32, unit, bool, never, d_ty, d, drop_d, take, with_d}
 use Rattle.std.specs.Prelude.{zero, suc, ◌&&◌, is_none, slice_get}
 use Rattle.std.proofs.Common.{subst}
 use Rattle.store_model.specs.Effects.{Site}
 use Rattle.src_meaning.specs.Programs.{reached_by, IsAccepted}
 
-abbrev i32 : TyId
-i32 = ty_no 0
-
-abbrev unit : TyId
-unit = ty_no 1
-
-abbrev bool : TyId
-bool = ty_no 2
-
-abbrev never : TyId
-never = ty_no 3
-
-abbrev d_ty : TyId
-d_ty = ty_no 4
-
-abbrev unique_d_ty : TyId
-unique_d_ty = ty_no 5
-
-abbrev shared_d_ty : TyId
-shared_d_ty = ty_no 6
-
 abbrev tuple_d_d_ty : TyId
 tuple_d_d_ty = ty_no 7
 
 abbrev items : ItemTable
-items = record {
-  types = Ty.Int IntKind.I32 ∷ Ty.Unit ∷ Ty.Bool ∷ Ty.Never ∷ Ty.Adt 0 ∷ Ty.Unique d_ty ∷ Ty.Shared d_ty ∷ Ty.Tuple (d_ty ∷ d_ty ∷ []) ∷ [];
-  adts = struct (codes "D") (i32 ∷ []) (Some 0) ∷ [];
+items = with_d (record {
+  types = Ty.Tuple (d_ty ∷ d_ty ∷ []) ∷ [];
+  adts = [];
   traits = [];
   impls = [];
   closures = [];
-  bodies =
-      head (codes "D::drop") (unique_d_ty ∷ []) unit
-      ∷ head (codes "take") (d_ty ∷ []) unit
-      ∷ head (codes "main") ([]) unit
-      ∷ [];
-}
+  bodies = head (codes "main") [] unit ∷ [];
+})
 
 -- all lists of so many items
 abbrev with_item : List (List Bool) → List (List Bool)
@@ -74,15 +49,10 @@ abbrev reaches_none_within : BodyTree → ℕ → Bool
 reaches_none_within body zero = reaches_none body (lists_of zero)
 reaches_none_within body (suc k) = reaches_none body (lists_of (suc k)) && reaches_none_within body k
 
-abbrev drop_d : BodyTree
-drop_d = record { number = 0; params = param (used 0 unique_d_ty Use.Copy Binding) unique_d_ty ∷ []; answer = unit; block = (n 1 unit (Block no_node absent)) }
-
-abbrev take : BodyTree
-take = record { number = 1; params = param (used 0 d_ty Use.Move Binding) d_ty ∷ []; answer = unit; block = (n 1 unit (Block no_node absent)) }
-
 -- fn main() { let x = D(1); loop { take(x); } }
 abbrev main_loop : BodyTree
-main_loop = record { number = 2; params = []; answer = unit; block = (n 0 never (Block (a_node (n 1 unit (Let (used 2 d_ty Use.Move Binding) (present (n 3 d_ty (Make 0 0 (a_field 0 (n 4 i32 (Number (pos 1))) no_field)))))) no_node) (present (n 5 never (Loop (n 6 unit (Block (a_node (n 7 unit (Evaluate (n 8 unit (Call 1 (a_node (used 9 d_ty Use.Move (Variable 2)) no_node))))) no_node) absent))))))) }
+main_loop = body 2 [] unit
+    (n 0 never (Block (nodes ((let_ 1 (used 2 d_ty Use.Move Binding) (d 3 (pos 1))) ∷ [])) (present (n 5 never (Loop (n 6 unit (Block (nodes ((stmt 7 (n 8 unit (Call 1 (nodes ((used 9 d_ty Use.Move (Variable 2)) ∷ []))))) ∷ [])) absent)))))))
 
 the_second_turn_moves_again : node_of (reached_by items main_loop (false ∷ false ∷ false ∷ [])) ≡ Some 9
 the_second_turn_moves_again = refl
@@ -92,15 +62,27 @@ no_shorter_list = refl
 
 -- fn main() { let x = D(1); if ask() == 0 { take(x); } }
 abbrev main_if : BodyTree
-main_if = record { number = 2; params = []; answer = unit; block = (n 0 unit (Block (a_node (n 1 unit (Let (used 2 d_ty Use.Move Binding) (present (n 3 d_ty (Make 0 0 (a_field 0 (n 4 i32 (Number (pos 1))) no_field)))))) no_node) (present (n 5 unit (If (n 6 bool (Comparison Cmp.Eq (n 7 i32 Ask) (n 8 i32 (Number (pos 0))))) (n 9 unit (Block (a_node (n 10 unit (Evaluate (n 11 unit (Call 1 (a_node (used 12 d_ty Use.Move (Variable 2)) no_node))))) no_node) absent)) absent))))) }
+main_if = body 2 [] unit
+    (n 0 unit (Block (nodes ((let_ 1 (used 2 d_ty Use.Move Binding) (d 3 (pos 1))) ∷ [])) (present (n 5 unit (If (n 6 bool (Comparison Cmp.Eq (n 7 i32 Ask) (n 8 i32 (Number (pos 0))))) (n 9 unit (Block (nodes ((stmt 10 (n 11 unit (Call 1 (nodes ((used 12 d_ty Use.Move (Variable 2)) ∷ []))))) ∷ [])) absent)) absent)))))
 
 -- fn main() { let mut x = D(1); take(x); x = D(2); take(x); }
 abbrev main_again : BodyTree
-main_again = record { number = 2; params = []; answer = unit; block = (n 0 unit (Block (a_node (n 1 unit (Let (used 2 d_ty Use.Move Binding) (present (n 3 d_ty (Make 0 0 (a_field 0 (n 4 i32 (Number (pos 1))) no_field)))))) (a_node (n 5 unit (Evaluate (n 6 unit (Call 1 (a_node (used 7 d_ty Use.Move (Variable 2)) no_node))))) (a_node (n 8 unit (Evaluate (n 9 unit (Assign (used 10 d_ty Use.Store (Variable 2)) (n 11 d_ty (Make 0 0 (a_field 0 (n 12 i32 (Number (pos 2))) no_field))))))) (a_node (n 13 unit (Evaluate (n 14 unit (Call 1 (a_node (used 15 d_ty Use.Move (Variable 2)) no_node))))) no_node)))) absent)) }
+main_again = body 2 [] unit
+    (n 0 unit (Block (nodes (
+    (let_ 1 (used 2 d_ty Use.Move Binding) (d 3 (pos 1)))
+    ∷ (stmt 5 (n 6 unit (Call 1 (nodes ((used 7 d_ty Use.Move (Variable 2)) ∷ [])))))
+    ∷ (stmt 8 (n 9 unit (Assign (used 10 d_ty Use.Store (Variable 2)) (d 11 (pos 2)))))
+    ∷ (stmt 13 (n 14 unit (Call 1 (nodes ((used 15 d_ty Use.Move (Variable 2)) ∷ [])))))
+    ∷ [])) absent))
 
 -- fn main() { let t = (D(1), D(2)); let s = t; t.0 = D(3); }
 abbrev main_part : BodyTree
-main_part = record { number = 2; params = []; answer = unit; block = (n 0 unit (Block (a_node (n 1 unit (Let (used 2 tuple_d_d_ty Use.Move Binding) (present (n 3 tuple_d_d_ty (Tuple (a_node (n 4 d_ty (Make 0 0 (a_field 0 (n 5 i32 (Number (pos 1))) no_field))) (a_node (n 6 d_ty (Make 0 0 (a_field 0 (n 7 i32 (Number (pos 2))) no_field))) no_node))))))) (a_node (n 8 unit (Let (used 9 tuple_d_d_ty Use.Move Binding) (present (used 10 tuple_d_d_ty Use.Move (Variable 2))))) (a_node (n 11 unit (Evaluate (n 12 unit (Assign (used 13 d_ty Use.Store (Field (n 14 tuple_d_d_ty (Variable 2)) 0)) (n 15 d_ty (Make 0 0 (a_field 0 (n 16 i32 (Number (pos 3))) no_field))))))) no_node))) absent)) }
+main_part = body 2 [] unit
+    (n 0 unit (Block (nodes (
+    (let_ 1 (used 2 tuple_d_d_ty Use.Move Binding) (n 3 tuple_d_d_ty (Tuple (nodes ((d 4 (pos 1)) ∷ (d 6 (pos 2)) ∷ [])))))
+    ∷ (let_ 8 (used 9 tuple_d_d_ty Use.Move Binding) (used 10 tuple_d_d_ty Use.Move (Variable 2)))
+    ∷ (stmt 11 (n 12 unit (Assign (used 13 d_ty Use.Store (Field (n 14 tuple_d_d_ty (Variable 2)) 0)) (d 15 (pos 3)))))
+    ∷ [])) absent))
 
 a_store_into_what_is_gone : node_of (reached_by items main_part []) ≡ Some 13
 a_store_into_what_is_gone = refl
@@ -110,14 +92,25 @@ no_longer_list i rest = refl
 
 -- fn main() { let t = (D(1), D(2)); take(t.0); match t { (_, _) => {} } }
 abbrev main_scrutinee : BodyTree
-main_scrutinee = record { number = 2; params = []; answer = unit; block = (n 0 unit (Block (a_node (n 1 unit (Let (used 2 tuple_d_d_ty Use.Move Binding) (present (n 3 tuple_d_d_ty (Tuple (a_node (n 4 d_ty (Make 0 0 (a_field 0 (n 5 i32 (Number (pos 1))) no_field))) (a_node (n 6 d_ty (Make 0 0 (a_field 0 (n 7 i32 (Number (pos 2))) no_field))) no_node))))))) (a_node (n 8 unit (Evaluate (n 9 unit (Call 1 (a_node (used 10 d_ty Use.Move (Field (n 11 tuple_d_d_ty (Variable 2)) 0)) no_node))))) no_node)) (present (n 12 unit (Match (used 13 tuple_d_d_ty Use.Borrow (Variable 2)) (a_node (n 14 unit (Arm (n 15 tuple_d_d_ty (TuplePattern (a_node (n 16 d_ty Wildcard) (a_node (n 17 d_ty Wildcard) no_node)))) absent (n 18 unit (Block no_node absent)))) no_node)))))) }
+main_scrutinee = body 2 [] unit
+    (n 0 unit (Block (nodes (
+    (let_ 1 (used 2 tuple_d_d_ty Use.Move Binding) (n 3 tuple_d_d_ty (Tuple (nodes ((d 4 (pos 1)) ∷ (d 6 (pos 2)) ∷ [])))))
+    ∷ (stmt 8 (n 9 unit (Call 1 (nodes ((used 10 d_ty Use.Move (Field (n 11 tuple_d_d_ty (Variable 2)) 0)) ∷ [])))))
+    ∷ [])) (present (n 12 unit (Match (used 13 tuple_d_d_ty Use.Borrow (Variable 2)) (nodes (
+    (n 14 unit (Arm (n 15 tuple_d_d_ty (TuplePattern (nodes ((n 16 d_ty Wildcard) ∷ (n 17 d_ty Wildcard) ∷ [])))) absent (n 18 unit (Block no_node absent))))
+    ∷ [])))))))
 
 a_scrutinee_is_borrowed_whole : node_of (reached_by items main_scrutinee (false ∷ [])) ≡ Some 13
 a_scrutinee_is_borrowed_whole = refl
 
 -- fn main() { let t = (D(1), D(2)); take(t.0); let (_, b) = t; }
 abbrev main_let : BodyTree
-main_let = record { number = 2; params = []; answer = unit; block = (n 0 unit (Block (a_node (n 1 unit (Let (used 2 tuple_d_d_ty Use.Move Binding) (present (n 3 tuple_d_d_ty (Tuple (a_node (n 4 d_ty (Make 0 0 (a_field 0 (n 5 i32 (Number (pos 1))) no_field))) (a_node (n 6 d_ty (Make 0 0 (a_field 0 (n 7 i32 (Number (pos 2))) no_field))) no_node))))))) (a_node (n 8 unit (Evaluate (n 9 unit (Call 1 (a_node (used 10 d_ty Use.Move (Field (n 11 tuple_d_d_ty (Variable 2)) 0)) no_node))))) (a_node (n 12 unit (Let (n 13 tuple_d_d_ty (TuplePattern (a_node (n 14 d_ty Wildcard) (a_node (used 15 d_ty Use.Move Binding) no_node)))) (present (n 16 tuple_d_d_ty (Variable 2))))) no_node))) absent)) }
+main_let = body 2 [] unit
+    (n 0 unit (Block (nodes (
+    (let_ 1 (used 2 tuple_d_d_ty Use.Move Binding) (n 3 tuple_d_d_ty (Tuple (nodes ((d 4 (pos 1)) ∷ (d 6 (pos 2)) ∷ [])))))
+    ∷ (stmt 8 (n 9 unit (Call 1 (nodes ((used 10 d_ty Use.Move (Field (n 11 tuple_d_d_ty (Variable 2)) 0)) ∷ [])))))
+    ∷ (let_ 12 (n 13 tuple_d_d_ty (TuplePattern (nodes ((n 14 d_ty Wildcard) ∷ (used 15 d_ty Use.Move Binding) ∷ [])))) (n 16 tuple_d_d_ty (Variable 2)))
+    ∷ [])) absent))
 
 a_let_uses_only_what_it_takes : reaches_none_within main_let 5 ≡ true
 a_let_uses_only_what_it_takes = refl

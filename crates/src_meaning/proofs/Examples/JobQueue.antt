@@ -11,9 +11,9 @@ use Rattle.mir_ty.specs.declared.ty.Ty.{Ty}
 use Rattle.mir_ty.specs.declared.ty.TyId.{TyId}
 use Rattle.mir_ty.specs.ItemTable.{ItemTable}
 use Rattle.typed_tree.specs.declared.node.Use.{Use}
-use Rattle.typed_tree.specs.Tree.{no_node, a_node, no_field, a_field, absent, present, Number, Truth, Variable, Field, Deref, Not, Arithmetic, Comparison, And, Assign, Call, VirtualCall, Make, NewBox, Print, Ask, Panic, Borrow, Unsize, Block, Let, Evaluate, If, Match, Arm, While, Return, Wildcard, Binding, VariantPattern, BodyTree, ProgramTree}
+use Rattle.typed_tree.specs.Tree.{no_node, no_field, absent, present, Number, Truth, Variable, Field, Deref, Not, Arithmetic, Comparison, And, Assign, Call, VirtualCall, Make, NewBox, Print, Ask, Panic, Borrow, Unsize, Block, If, Match, Arm, While, Return, Wildcard, Binding, VariantPattern, BodyTree, ProgramTree}
 use Rattle.src_meaning.specs.Programs.{source}
-use Rattle.src_meaning.proofs.Examples.Words.{n, used, param, ty_no, variant, struct, enum, head}
+use Rattle.src_meaning.proofs.Examples.Words.{n, used, nodes, fields, let_, stmt, body, param, ty_no, variant, struct, enum, head}
 
 abbrev i32 : TyId
 i32 = ty_no 0
@@ -85,54 +85,118 @@ items = record {
   traits = (record { name = codes "Job"; methods = head (codes "cost") (shared_dyn_job_ty ∷ []) i32 ∷ head (codes "run") (unique_dyn_job_ty ∷ i32 ∷ []) bool ∷ [] }) ∷ [];
   impls = (record { trait_no = 0; adt = 1; bodies = 2 ∷ 3 ∷ [] }) ∷ (record { trait_no = 0; adt = 2; bodies = 4 ∷ 5 ∷ [] }) ∷ [];
   closures = [];
-  bodies =
-      head (codes "Buf::drop") (unique_buf_ty ∷ []) unit
-      ∷ head (codes "Send::new") (i32 ∷ []) send_ty
-      ∷ head (codes "Send::cost") (shared_send_ty ∷ []) i32
-      ∷ head (codes "Send::run") (unique_send_ty ∷ i32 ∷ []) bool
-      ∷ head (codes "Fail::cost") (shared_fail_ty ∷ []) i32
-      ∷ head (codes "Fail::run") (unique_fail_ty ∷ i32 ∷ []) bool
-      ∷ head (codes "step") (slot_ty ∷ i32 ∷ []) slot_ty
-      ∷ head (codes "is_done") (shared_slot_ty ∷ []) bool
-      ∷ head (codes "main") ([]) unit
-      ∷ [];
+  bodies = head (codes "Buf::drop") (unique_buf_ty ∷ []) unit ∷ head (codes "Send::new") (i32 ∷ []) send_ty ∷ head (codes "Send::cost") (shared_send_ty ∷ []) i32 ∷ head (codes "Send::run") (unique_send_ty ∷ i32 ∷ []) bool ∷ head (codes "Fail::cost") (shared_fail_ty ∷ []) i32 ∷ head (codes "Fail::run") (unique_fail_ty ∷ i32 ∷ []) bool ∷ head (codes "step") (slot_ty ∷ i32 ∷ []) slot_ty ∷ head (codes "is_done") (shared_slot_ty ∷ []) bool ∷ head (codes "main") [] unit ∷ [];
 }
 
 -- fn drop(&mut self) { print(self.0); }
 abbrev drop_buf : BodyTree
-drop_buf = record { number = 0; params = param (used 0 unique_buf_ty Use.Copy Binding) unique_buf_ty ∷ []; answer = unit; block = (n 1 unit (Block (a_node (n 2 unit (Evaluate (n 3 unit (Print (used 4 i32 Use.Copy (Field (n 5 buf_ty (Deref (n 6 unique_buf_ty (Variable 0)))) 0)))))) no_node) absent)) }
+drop_buf = body 0 (param (used 0 unique_buf_ty Use.Copy Binding) unique_buf_ty ∷ []) unit
+    (n 1 unit (Block (nodes (
+    (stmt 2 (n 3 unit (Print (used 4 i32 Use.Copy (Field (n 5 buf_ty (Deref (n 6 unique_buf_ty (Variable 0)))) 0)))))
+    ∷ [])) absent))
 
 -- fn new(n: i32) -> Self { Send { head: Buf(n), body: Buf(n + 1), sent: 0 } }
 abbrev send_new : BodyTree
-send_new = record { number = 1; params = param (used 0 i32 Use.Copy Binding) i32 ∷ []; answer = send_ty; block = (n 1 send_ty (Block no_node (present (n 2 send_ty (Make 1 0 (a_field 0 (n 3 buf_ty (Make 0 0 (a_field 0 (used 4 i32 Use.Copy (Variable 0)) no_field))) (a_field 1 (n 5 buf_ty (Make 0 0 (a_field 0 (n 6 i32 (Arithmetic Math.Add (used 7 i32 Use.Copy (Variable 0)) (n 8 i32 (Number (pos 1))))) no_field))) (a_field 2 (n 9 i32 (Number (pos 0))) no_field)))))))) }
+send_new = body 1 (param (used 0 i32 Use.Copy Binding) i32 ∷ []) send_ty
+    (n 1 send_ty (Block no_node (present (n 2 send_ty (Make 1 0 (fields (
+    (0, (n 3 buf_ty (Make 0 0 (fields ((0, (used 4 i32 Use.Copy (Variable 0))) ∷ [])))))
+    ∷ (
+      1,
+      (n 5 buf_ty (Make 0 0 (fields (
+          (0, (n 6 i32 (Arithmetic Math.Add (used 7 i32 Use.Copy (Variable 0)) (n 8 i32 (Number (pos 1))))))
+          ∷ [])))),
+    )
+    ∷ (2, (n 9 i32 (Number (pos 0))))
+    ∷ [])))))))
 
 -- fn cost(&self) -> i32 { 2 - self.sent }
 abbrev send_cost : BodyTree
-send_cost = record { number = 2; params = param (used 0 shared_send_ty Use.Copy Binding) shared_send_ty ∷ []; answer = i32; block = (n 1 i32 (Block no_node (present (n 2 i32 (Arithmetic Math.Sub (n 3 i32 (Number (pos 2))) (used 4 i32 Use.Copy (Field (n 5 send_ty (Deref (n 6 shared_send_ty (Variable 0)))) 2))))))) }
+send_cost = body 2 (param (used 0 shared_send_ty Use.Copy Binding) shared_send_ty ∷ []) i32
+    (n 1 i32 (Block no_node (present (n 2 i32 (Arithmetic Math.Sub (n 3 i32 (Number (pos 2))) (used 4 i32 Use.Copy (Field (n 5 send_ty (Deref (n 6 shared_send_ty (Variable 0)))) 2)))))))
 
 -- fn run(&mut self, turn: i32) -> bool { self.sent = self.sent + 1; if self.sent == 1 { self.body = Buf(turn); return false; } true }
 abbrev send_run : BodyTree
-send_run = record { number = 3; params = param (used 0 unique_send_ty Use.Copy Binding) unique_send_ty ∷ param (used 1 i32 Use.Copy Binding) i32 ∷ []; answer = bool; block = (n 2 bool (Block (a_node (n 3 unit (Evaluate (n 4 unit (Assign (used 5 i32 Use.Store (Field (n 6 send_ty (Deref (n 7 unique_send_ty (Variable 0)))) 2)) (n 8 i32 (Arithmetic Math.Add (used 9 i32 Use.Copy (Field (n 10 send_ty (Deref (n 11 unique_send_ty (Variable 0)))) 2)) (n 12 i32 (Number (pos 1))))))))) (a_node (n 13 unit (Evaluate (n 14 unit (If (n 15 bool (Comparison Cmp.Eq (used 16 i32 Use.Copy (Field (n 17 send_ty (Deref (n 18 unique_send_ty (Variable 0)))) 2)) (n 19 i32 (Number (pos 1))))) (n 20 never (Block (a_node (n 21 unit (Evaluate (n 22 unit (Assign (used 23 buf_ty Use.Store (Field (n 24 send_ty (Deref (n 25 unique_send_ty (Variable 0)))) 1)) (n 26 buf_ty (Make 0 0 (a_field 0 (used 27 i32 Use.Copy (Variable 1)) no_field))))))) (a_node (n 28 unit (Evaluate (n 29 never (Return (present (n 30 bool (Truth false))))))) no_node)) absent)) absent)))) no_node)) (present (n 31 bool (Truth true))))) }
+send_run = body 3 (param (used 0 unique_send_ty Use.Copy Binding) unique_send_ty ∷ param (used 1 i32 Use.Copy Binding) i32 ∷ []) bool
+    (n 2 bool (Block (nodes (
+    (stmt 3 (n 4 unit (Assign (used 5 i32 Use.Store (Field (n 6 send_ty (Deref (n 7 unique_send_ty (Variable 0)))) 2)) (n 8 i32 (Arithmetic Math.Add (used 9 i32 Use.Copy (Field (n 10 send_ty (Deref (n 11 unique_send_ty (Variable 0)))) 2)) (n 12 i32 (Number (pos 1))))))))
+    ∷ (stmt 13 (n 14 unit (If (n 15 bool (Comparison Cmp.Eq (used 16 i32 Use.Copy (Field (n 17 send_ty (Deref (n 18 unique_send_ty (Variable 0)))) 2)) (n 19 i32 (Number (pos 1))))) (n 20 never (Block (nodes (
+    (stmt 21 (n 22 unit (Assign (used 23 buf_ty Use.Store (Field (n 24 send_ty (Deref (n 25 unique_send_ty (Variable 0)))) 1)) (n 26 buf_ty (Make 0 0 (fields ((0, (used 27 i32 Use.Copy (Variable 1))) ∷ [])))))))
+    ∷ (stmt 28 (n 29 never (Return (present (n 30 bool (Truth false))))))
+    ∷ [])) absent)) absent)))
+    ∷ [])) (present (n 31 bool (Truth true)))))
 
 -- fn cost(&self) -> i32 { 1 }
 abbrev fail_cost : BodyTree
-fail_cost = record { number = 4; params = param (used 0 shared_fail_ty Use.Copy Binding) shared_fail_ty ∷ []; answer = i32; block = (n 1 i32 (Block no_node (present (n 2 i32 (Number (pos 1)))))) }
+fail_cost = body 4 (param (used 0 shared_fail_ty Use.Copy Binding) shared_fail_ty ∷ []) i32
+    (n 1 i32 (Block no_node (present (n 2 i32 (Number (pos 1))))))
 
 -- fn run(&mut self, turn: i32) -> bool { if turn > 2 { panic!("job failed") } true }
 abbrev fail_run : BodyTree
-fail_run = record { number = 5; params = param (used 0 unique_fail_ty Use.Copy Binding) unique_fail_ty ∷ param (used 1 i32 Use.Copy Binding) i32 ∷ []; answer = bool; block = (n 2 bool (Block (a_node (n 3 unit (Evaluate (n 4 unit (If (n 5 bool (Comparison Cmp.Gt (used 6 i32 Use.Copy (Variable 1)) (n 7 i32 (Number (pos 2))))) (n 8 never (Block no_node (present (n 9 never Panic)))) absent)))) no_node) (present (n 10 bool (Truth true))))) }
+fail_run = body 5 (param (used 0 unique_fail_ty Use.Copy Binding) unique_fail_ty ∷ param (used 1 i32 Use.Copy Binding) i32 ∷ []) bool
+    (n 2 bool (Block (nodes (
+    (stmt 3 (n 4 unit (If (n 5 bool (Comparison Cmp.Gt (used 6 i32 Use.Copy (Variable 1)) (n 7 i32 (Number (pos 2))))) (n 8 never (Block no_node (present (n 9 never Panic)))) absent)))
+    ∷ [])) (present (n 10 bool (Truth true)))))
 
 -- fn step(slot: Slot, turn: i32) -> Slot { match slot { Slot::Ready(mut job) => { if job.cost() > 3 { return Slot::Free; } if job.run(turn) { return Slot::Done(turn); } Slot::Ready(job) } other => other, } }
 abbrev step : BodyTree
-step = record { number = 6; params = param (used 0 slot_ty Use.Move Binding) slot_ty ∷ param (used 1 i32 Use.Copy Binding) i32 ∷ []; answer = slot_ty; block = (n 2 slot_ty (Block no_node (present (n 3 slot_ty (Match (used 4 slot_ty Use.Borrow (Variable 0)) (a_node (n 5 slot_ty (Arm (used 6 slot_ty Use.Test (VariantPattern 1 true (a_field 0 (used 7 boxed_dyn_job_ty Use.Move Binding) no_field))) absent (n 8 slot_ty (Block (a_node (n 9 unit (Evaluate (n 10 unit (If (n 11 bool (Comparison Cmp.Gt (n 12 i32 (VirtualCall 0 0 (n 13 shared_dyn_job_ty (Borrow false (used 14 dyn_job_ty Use.Borrow (Deref (n 15 boxed_dyn_job_ty (Variable 7)))))) no_node)) (n 16 i32 (Number (pos 3))))) (n 17 never (Block (a_node (n 18 unit (Evaluate (n 19 never (Return (present (n 20 slot_ty (Make 3 0 no_field))))))) no_node) absent)) absent)))) (a_node (n 21 unit (Evaluate (n 22 unit (If (n 23 bool (VirtualCall 0 1 (n 24 unique_dyn_job_ty (Borrow true (used 25 dyn_job_ty Use.BorrowMut (Deref (n 26 boxed_dyn_job_ty (Variable 7)))))) (a_node (used 27 i32 Use.Copy (Variable 1)) no_node))) (n 28 never (Block (a_node (n 29 unit (Evaluate (n 30 never (Return (present (n 31 slot_ty (Make 3 2 (a_field 0 (used 32 i32 Use.Copy (Variable 1)) no_field)))))))) no_node) absent)) absent)))) no_node)) (present (n 33 slot_ty (Make 3 1 (a_field 0 (used 34 boxed_dyn_job_ty Use.Move (Variable 7)) no_field)))))))) (a_node (n 35 slot_ty (Arm (used 36 slot_ty Use.Move Binding) absent (used 37 slot_ty Use.Move (Variable 36)))) no_node))))))) }
+step = body 6 (param (used 0 slot_ty Use.Move Binding) slot_ty ∷ param (used 1 i32 Use.Copy Binding) i32 ∷ []) slot_ty
+    (n 2 slot_ty (Block no_node (present (n 3 slot_ty (Match (used 4 slot_ty Use.Borrow (Variable 0)) (nodes (
+    (n 5 slot_ty (Arm (used 6 slot_ty Use.Test (VariantPattern 1 true (fields ((0, (used 7 boxed_dyn_job_ty Use.Move Binding)) ∷ [])))) absent (n 8 slot_ty (Block (nodes (
+    (stmt 9 (n 10 unit (If (n 11 bool (Comparison Cmp.Gt (n 12 i32 (VirtualCall 0 0 (n 13 shared_dyn_job_ty (Borrow false (used 14 dyn_job_ty Use.Borrow (Deref (n 15 boxed_dyn_job_ty (Variable 7)))))) no_node)) (n 16 i32 (Number (pos 3))))) (n 17 never (Block (nodes ((stmt 18 (n 19 never (Return (present (n 20 slot_ty (Make 3 0 no_field)))))) ∷ [])) absent)) absent)))
+    ∷ (stmt 21 (n 22 unit (If (n 23 bool (VirtualCall 0 1 (n 24 unique_dyn_job_ty (Borrow true (used 25 dyn_job_ty Use.BorrowMut (Deref (n 26 boxed_dyn_job_ty (Variable 7)))))) (nodes ((used 27 i32 Use.Copy (Variable 1)) ∷ [])))) (n 28 never (Block (nodes (
+    (stmt 29 (n 30 never (Return (present (n 31 slot_ty (Make 3 2 (fields ((0, (used 32 i32 Use.Copy (Variable 1))) ∷ []))))))))
+    ∷ [])) absent)) absent)))
+    ∷ [])) (present (n 33 slot_ty (Make 3 1 (fields ((0, (used 34 boxed_dyn_job_ty Use.Move (Variable 7))) ∷ [])))))))))
+    ∷ (n 35 slot_ty (Arm (used 36 slot_ty Use.Move Binding) absent (used 37 slot_ty Use.Move (Variable 36))))
+    ∷ [])))))))
 
 -- fn is_done(slot: &Slot) -> bool { match *slot { Slot::Done(_) => true, _ => false, } }
 abbrev is_done : BodyTree
-is_done = record { number = 7; params = param (used 0 shared_slot_ty Use.Copy Binding) shared_slot_ty ∷ []; answer = bool; block = (n 1 bool (Block no_node (present (n 2 bool (Match (used 3 slot_ty Use.Borrow (Deref (n 4 shared_slot_ty (Variable 0)))) (a_node (n 5 bool (Arm (used 6 slot_ty Use.Test (VariantPattern 2 true (a_field 0 (n 7 i32 Wildcard) no_field))) absent (n 8 bool (Truth true)))) (a_node (n 9 bool (Arm (n 10 slot_ty Wildcard) absent (n 11 bool (Truth false)))) no_node))))))) }
+is_done = body 7 (param (used 0 shared_slot_ty Use.Copy Binding) shared_slot_ty ∷ []) bool
+    (n 1 bool (Block no_node (present (n 2 bool (Match (used 3 slot_ty Use.Borrow (Deref (n 4 shared_slot_ty (Variable 0)))) (nodes (
+    (n 5 bool (Arm (used 6 slot_ty Use.Test (VariantPattern 2 true (fields ((0, (n 7 i32 Wildcard)) ∷ [])))) absent (n 8 bool (Truth true))))
+    ∷ (n 9 bool (Arm (n 10 slot_ty Wildcard) absent (n 11 bool (Truth false))))
+    ∷ [])))))))
 
 -- fn main() { let mut q = Queue { a: Slot::Ready(Box::new(Send::new(10))), b: Slot::Ready(Box::new(Fail(Buf(20)))) }; let mut turn = ask(); while !(is_done(&q.a) && is_done(&q.b)) { q.a = step(q.a, turn); q.b = step(q.b, turn); turn = turn + 1; } print(turn); }
 abbrev main_ : BodyTree
-main_ = record { number = 8; params = []; answer = unit; block = (n 0 unit (Block (a_node (n 1 unit (Let (used 2 queue_ty Use.Move Binding) (present (n 3 queue_ty (Make 4 0 (a_field 0 (n 4 slot_ty (Make 3 1 (a_field 0 (n 5 boxed_dyn_job_ty (Unsize 0 (n 6 boxed_send_ty (NewBox (n 7 send_ty (Call 1 (a_node (n 8 i32 (Number (pos 10))) no_node))))))) no_field))) (a_field 1 (n 9 slot_ty (Make 3 1 (a_field 0 (n 10 boxed_dyn_job_ty (Unsize 0 (n 11 boxed_fail_ty (NewBox (n 12 fail_ty (Make 2 0 (a_field 0 (n 13 buf_ty (Make 0 0 (a_field 0 (n 14 i32 (Number (pos 20))) no_field))) no_field))))))) no_field))) no_field))))))) (a_node (n 15 unit (Let (used 16 i32 Use.Copy Binding) (present (n 17 i32 Ask)))) (a_node (n 18 unit (Evaluate (n 19 unit (While (n 20 bool (Not (n 21 bool (And (n 22 bool (Call 7 (a_node (n 23 shared_slot_ty (Borrow false (used 24 slot_ty Use.Borrow (Field (n 25 queue_ty (Variable 2)) 0)))) no_node))) (n 26 bool (Call 7 (a_node (n 27 shared_slot_ty (Borrow false (used 28 slot_ty Use.Borrow (Field (n 29 queue_ty (Variable 2)) 1)))) no_node))))))) (n 30 unit (Block (a_node (n 31 unit (Evaluate (n 32 unit (Assign (used 33 slot_ty Use.Store (Field (n 34 queue_ty (Variable 2)) 0)) (n 35 slot_ty (Call 6 (a_node (used 36 slot_ty Use.Move (Field (n 37 queue_ty (Variable 2)) 0)) (a_node (used 38 i32 Use.Copy (Variable 16)) no_node)))))))) (a_node (n 39 unit (Evaluate (n 40 unit (Assign (used 41 slot_ty Use.Store (Field (n 42 queue_ty (Variable 2)) 1)) (n 43 slot_ty (Call 6 (a_node (used 44 slot_ty Use.Move (Field (n 45 queue_ty (Variable 2)) 1)) (a_node (used 46 i32 Use.Copy (Variable 16)) no_node)))))))) (a_node (n 47 unit (Evaluate (n 48 unit (Assign (used 49 i32 Use.Store (Variable 16)) (n 50 i32 (Arithmetic Math.Add (used 51 i32 Use.Copy (Variable 16)) (n 52 i32 (Number (pos 1))))))))) no_node))) absent)))))) (a_node (n 53 unit (Evaluate (n 54 unit (Print (used 55 i32 Use.Copy (Variable 16)))))) no_node)))) absent)) }
+main_ = body 8 [] unit
+    (n 0 unit (Block (nodes (
+    (let_ 1 (used 2 queue_ty Use.Move Binding) (n 3 queue_ty (Make 4 0 (fields ((
+      0,
+      (n 4 slot_ty (Make 3 1 (fields (
+          (0, (n 5 boxed_dyn_job_ty (Unsize 0 (n 6 boxed_send_ty (NewBox (n 7 send_ty (Call 1 (nodes ((n 8 i32 (Number (pos 10))) ∷ [])))))))))
+          ∷ [])))),
+    )
+    ∷ (
+      1,
+      (n 9 slot_ty (Make 3 1 (fields ((
+        0,
+        (n 10 boxed_dyn_job_ty (Unsize 0 (n 11 boxed_fail_ty (NewBox (n 12 fail_ty (Make 2 0 (fields (
+            (0, (n 13 buf_ty (Make 0 0 (fields ((0, (n 14 i32 (Number (pos 20)))) ∷ [])))))
+            ∷ [])))))))),
+      )
+          ∷ [])))),
+    )
+    ∷ [])))))
+    ∷ (let_ 15 (used 16 i32 Use.Copy Binding) (n 17 i32 Ask))
+    ∷ (stmt 18 (n 19 unit (While (n 20 bool (Not (n 21 bool (And (n 22 bool (Call 7 (nodes (
+    (n 23 shared_slot_ty (Borrow false (used 24 slot_ty Use.Borrow (Field (n 25 queue_ty (Variable 2)) 0))))
+    ∷ [])))) (n 26 bool (Call 7 (nodes (
+    (n 27 shared_slot_ty (Borrow false (used 28 slot_ty Use.Borrow (Field (n 29 queue_ty (Variable 2)) 1))))
+    ∷ [])))))))) (n 30 unit (Block (nodes (
+    (stmt 31 (n 32 unit (Assign (used 33 slot_ty Use.Store (Field (n 34 queue_ty (Variable 2)) 0)) (n 35 slot_ty (Call 6 (nodes (
+    (used 36 slot_ty Use.Move (Field (n 37 queue_ty (Variable 2)) 0))
+    ∷ (used 38 i32 Use.Copy (Variable 16))
+    ∷ [])))))))
+    ∷ (stmt 39 (n 40 unit (Assign (used 41 slot_ty Use.Store (Field (n 42 queue_ty (Variable 2)) 1)) (n 43 slot_ty (Call 6 (nodes (
+    (used 44 slot_ty Use.Move (Field (n 45 queue_ty (Variable 2)) 1))
+    ∷ (used 46 i32 Use.Copy (Variable 16))
+    ∷ [])))))))
+    ∷ (stmt 47 (n 48 unit (Assign (used 49 i32 Use.Store (Variable 16)) (n 50 i32 (Arithmetic Math.Add (used 51 i32 Use.Copy (Variable 16)) (n 52 i32 (Number (pos 1))))))))
+    ∷ [])) absent)))))
+    ∷ (stmt 53 (n 54 unit (Print (used 55 i32 Use.Copy (Variable 16)))))
+    ∷ [])) absent))
 
 abbrev job_queue : ProgramTree
 job_queue = record { items = items; bodies = drop_buf ∷ send_new ∷ send_cost ∷ send_run ∷ fail_cost ∷ fail_run ∷ step ∷ is_done ∷ main_ ∷ [] }

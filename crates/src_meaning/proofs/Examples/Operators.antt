@@ -1,6 +1,6 @@
 -- Bounds and overflow panic, and what is held is dropped.
 use Rattle.std.proofs.Common.{◌≡◌, refl, [], ◌∷◌, pos, negsuc}
-use Rattle.std.specs.Prelude.{Some, codes}
+use Rattle.std.specs.Prelude.{codes}
 use Rattle.mir_base.specs.declared.int_kind.IntKind.{IntKind}
 use Rattle.mir_base.specs.declared.operator.Math.{Math}
 use Rattle.mir_base.specs.declared.trace.End.{End}
@@ -10,30 +10,10 @@ use Rattle.mir_ty.specs.declared.ty.Ty.{Ty}
 use Rattle.mir_ty.specs.declared.ty.TyId.{TyId}
 use Rattle.mir_ty.specs.ItemTable.{ItemTable}
 use Rattle.typed_tree.specs.declared.node.Use.{Use}
-use Rattle.typed_tree.specs.Tree.{no_node, a_node, no_field, a_field, absent, present, Number, Variable, Field, Index, Arithmetic, Make, Array, Print, Ask, Block, Let, Evaluate, Binding, BodyTree, ProgramTree}
+use Rattle.typed_tree.specs.Tree.{absent, Number, Variable, Field, Index, Arithmetic, Array, Print, Ask, Block, Binding, BodyTree, ProgramTree}
 use Rattle.src_meaning.specs.Programs.{source}
-use Rattle.src_meaning.proofs.Examples.Words.{n, used, param, ty_no, struct, head}
-
-abbrev i32 : TyId
-i32 = ty_no 0
-
-abbrev unit : TyId
-unit = ty_no 1
-
-abbrev bool : TyId
-bool = ty_no 2
-
-abbrev never : TyId
-never = ty_no 3
-
-abbrev d_ty : TyId
-d_ty = ty_no 4
-
-abbrev unique_d_ty : TyId
-unique_d_ty = ty_no 5
-
-abbrev shared_d_ty : TyId
-shared_d_ty = ty_no 6
+use Rattle.src_meaning.proofs.Examples.Words.{n, used, nodes, let_, stmt, body, ty_no, head}
+use Rattle.src_meaning.proofs.Examples.WithD.{i32, unit, d_ty, d, drop_d, take, with_d}
 
 abbrev array_d_2_ty : TyId
 array_d_2_ty = ty_no 7
@@ -42,33 +22,28 @@ abbrev usize : TyId
 usize = ty_no 8
 
 abbrev items : ItemTable
-items = record {
-  types = Ty.Int IntKind.I32 ∷ Ty.Unit ∷ Ty.Bool ∷ Ty.Never ∷ Ty.Adt 0 ∷ Ty.Unique d_ty ∷ Ty.Shared d_ty ∷ Ty.Array d_ty 2 ∷ Ty.Int IntKind.Usize ∷ [];
-  adts = struct (codes "D") (i32 ∷ []) (Some 0) ∷ [];
+items = with_d (record {
+  types = Ty.Array d_ty 2 ∷ Ty.Int IntKind.Usize ∷ [];
+  adts = [];
   traits = [];
   impls = [];
   closures = [];
-  bodies =
-      head (codes "D::drop") (unique_d_ty ∷ []) unit
-      ∷ head (codes "take") (d_ty ∷ []) unit
-      ∷ head (codes "main") ([]) unit
-      ∷ [];
-}
-
-abbrev drop_d : BodyTree
-drop_d = record { number = 0; params = param (used 0 unique_d_ty Use.Copy Binding) unique_d_ty ∷ []; answer = unit; block = (n 1 unit (Block no_node absent)) }
-
-abbrev take : BodyTree
-take = record { number = 1; params = param (used 0 d_ty Use.Move Binding) d_ty ∷ []; answer = unit; block = (n 1 unit (Block no_node absent)) }
+  bodies = head (codes "main") [] unit ∷ [];
+})
 
 -- fn main() { let a = [D(5), D(6)]; let i: usize = 2; print(a[i].0); }
 abbrev main_index : BodyTree
-main_index = record { number = 2; params = []; answer = unit; block = (n 0 unit (Block (a_node (n 1 unit (Let (used 2 array_d_2_ty Use.Move Binding) (present (n 3 array_d_2_ty (Array (a_node (n 4 d_ty (Make 0 0 (a_field 0 (n 5 i32 (Number (pos 5))) no_field))) (a_node (n 6 d_ty (Make 0 0 (a_field 0 (n 7 i32 (Number (pos 6))) no_field))) no_node))))))) (a_node (n 8 unit (Let (used 9 usize Use.Copy Binding) (present (n 10 usize (Number (pos 2)))))) (a_node (n 11 unit (Evaluate (n 12 unit (Print (used 13 i32 Use.Copy (Field (n 14 d_ty (Index (n 15 array_d_2_ty (Variable 2)) (used 16 usize Use.Copy (Variable 9)) 2)) 0)))))) no_node))) absent)) }
+main_index = body 2 [] unit
+    (n 0 unit (Block (nodes (
+    (let_ 1 (used 2 array_d_2_ty Use.Move Binding) (n 3 array_d_2_ty (Array (nodes ((d 4 (pos 5)) ∷ (d 6 (pos 6)) ∷ [])))))
+    ∷ (let_ 8 (used 9 usize Use.Copy Binding) (n 10 usize (Number (pos 2))))
+    ∷ (stmt 11 (n 12 unit (Print (used 13 i32 Use.Copy (Field (n 14 d_ty (Index (n 15 array_d_2_ty (Variable 2)) (used 16 usize Use.Copy (Variable 9)) 2)) 0)))))
+    ∷ [])) absent))
 
 abbrev past_the_end : ProgramTree
 past_the_end = record { items = items; bodies = drop_d ∷ take ∷ main_index ∷ [] }
 
-an_index_past_the_end : source past_the_end ([]) 100
+an_index_past_the_end : source past_the_end [] 100
     ≡ (
       call 2 ∷ make 0 1 ∷ make 0 2 ∷ panic Why.Index ∷ drop 0 1 ∷ return 0 ∷ drop 0 2 ∷ return 0 ∷
           unwind 2 ∷ [],
@@ -78,12 +53,17 @@ an_index_past_the_end = refl
 
 -- the same with let i: usize = 1
 abbrev main_element : BodyTree
-main_element = record { number = 2; params = []; answer = unit; block = (n 0 unit (Block (a_node (n 1 unit (Let (used 2 array_d_2_ty Use.Move Binding) (present (n 3 array_d_2_ty (Array (a_node (n 4 d_ty (Make 0 0 (a_field 0 (n 5 i32 (Number (pos 5))) no_field))) (a_node (n 6 d_ty (Make 0 0 (a_field 0 (n 7 i32 (Number (pos 6))) no_field))) no_node))))))) (a_node (n 8 unit (Let (used 9 usize Use.Copy Binding) (present (n 10 usize (Number (pos 1)))))) (a_node (n 11 unit (Evaluate (n 12 unit (Print (used 13 i32 Use.Copy (Field (n 14 d_ty (Index (n 15 array_d_2_ty (Variable 2)) (used 16 usize Use.Copy (Variable 9)) 2)) 0)))))) no_node))) absent)) }
+main_element = body 2 [] unit
+    (n 0 unit (Block (nodes (
+    (let_ 1 (used 2 array_d_2_ty Use.Move Binding) (n 3 array_d_2_ty (Array (nodes ((d 4 (pos 5)) ∷ (d 6 (pos 6)) ∷ [])))))
+    ∷ (let_ 8 (used 9 usize Use.Copy Binding) (n 10 usize (Number (pos 1))))
+    ∷ (stmt 11 (n 12 unit (Print (used 13 i32 Use.Copy (Field (n 14 d_ty (Index (n 15 array_d_2_ty (Variable 2)) (used 16 usize Use.Copy (Variable 9)) 2)) 0)))))
+    ∷ [])) absent))
 
 abbrev within : ProgramTree
 within = record { items = items; bodies = drop_d ∷ take ∷ main_element ∷ [] }
 
-an_index_within_the_array : source within ([]) 100
+an_index_within_the_array : source within [] 100
     ≡ (
       call 2 ∷ make 0 1 ∷ make 0 2 ∷ printed (pos 6) ∷ drop 0 1 ∷ return 0 ∷ drop 0 2 ∷ return 0 ∷
           return 2 ∷ [],
@@ -93,7 +73,10 @@ an_index_within_the_array = refl
 
 -- fn main() { print(2147483647 + ask()); }
 abbrev main_sum : BodyTree
-main_sum = record { number = 2; params = []; answer = unit; block = (n 0 unit (Block (a_node (n 1 unit (Evaluate (n 2 unit (Print (n 3 i32 (Arithmetic Math.Add (n 4 i32 (Number (pos 2147483647))) (n 5 i32 Ask))))))) no_node) absent)) }
+main_sum = body 2 [] unit
+    (n 0 unit (Block (nodes (
+    (stmt 1 (n 2 unit (Print (n 3 i32 (Arithmetic Math.Add (n 4 i32 (Number (pos 2147483647))) (n 5 i32 Ask))))))
+    ∷ [])) absent))
 
 abbrev sum_ : ProgramTree
 sum_ = record { items = items; bodies = drop_d ∷ take ∷ main_sum ∷ [] }
@@ -108,7 +91,10 @@ a_sum_that_fits = refl
 
 -- fn main() { print(-7 % ask()); }
 abbrev main_rem : BodyTree
-main_rem = record { number = 2; params = []; answer = unit; block = (n 0 unit (Block (a_node (n 1 unit (Evaluate (n 2 unit (Print (n 3 i32 (Arithmetic Math.Rem (n 4 i32 (Number (negsuc 6))) (n 5 i32 Ask))))))) no_node) absent)) }
+main_rem = body 2 [] unit
+    (n 0 unit (Block (nodes (
+    (stmt 1 (n 2 unit (Print (n 3 i32 (Arithmetic Math.Rem (n 4 i32 (Number (negsuc 6))) (n 5 i32 Ask))))))
+    ∷ [])) absent))
 
 abbrev remainder : ProgramTree
 remainder = record { items = items; bodies = drop_d ∷ take ∷ main_rem ∷ [] }

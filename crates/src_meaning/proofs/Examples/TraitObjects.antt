@@ -1,7 +1,6 @@
 -- A trait object is called and dropped by the impl of the value in its box.
 use Rattle.std.proofs.Common.{◌≡◌, refl, [], ◌∷◌, pos}
 use Rattle.std.specs.Prelude.{Some, false, codes}
-use Rattle.mir_base.specs.declared.int_kind.IntKind.{IntKind}
 use Rattle.mir_base.specs.declared.operator.Cmp.{Cmp}
 use Rattle.mir_base.specs.declared.trace.End.{End}
 use Rattle.mir_base.specs.declared.trace.Event.TheVariants.{Call as call, Return as return, Unwind as unwind, Make as make, Boxed as box, Dropped as drop, Freed as free, Printed as printed, Asked as asked, Panicked as panic}
@@ -10,30 +9,10 @@ use Rattle.mir_ty.specs.declared.ty.Ty.{Ty}
 use Rattle.mir_ty.specs.declared.ty.TyId.{TyId}
 use Rattle.mir_ty.specs.ItemTable.{ItemTable}
 use Rattle.typed_tree.specs.declared.node.Use.{Use}
-use Rattle.typed_tree.specs.Tree.{no_node, a_node, no_field, a_field, absent, present, Number, Variable, Field, Deref, Comparison, Call, VirtualCall, Make, NewBox, Print, Ask, Panic, Borrow, Unsize, Block, Evaluate, If, Binding, BodyTree, ProgramTree}
+use Rattle.typed_tree.specs.Tree.{no_node, absent, present, Number, Variable, Field, Deref, Comparison, Call, VirtualCall, Make, NewBox, Print, Ask, Panic, Borrow, Unsize, Block, If, Binding, BodyTree, ProgramTree}
 use Rattle.src_meaning.specs.Programs.{source}
-use Rattle.src_meaning.proofs.Examples.Words.{n, used, param, ty_no, struct, head}
-
-abbrev i32 : TyId
-i32 = ty_no 0
-
-abbrev unit : TyId
-unit = ty_no 1
-
-abbrev bool : TyId
-bool = ty_no 2
-
-abbrev never : TyId
-never = ty_no 3
-
-abbrev d_ty : TyId
-d_ty = ty_no 4
-
-abbrev unique_d_ty : TyId
-unique_d_ty = ty_no 5
-
-abbrev shared_d_ty : TyId
-shared_d_ty = ty_no 6
+use Rattle.src_meaning.proofs.Examples.Words.{n, used, nodes, fields, stmt, body, param, ty_no, struct, head}
+use Rattle.src_meaning.proofs.Examples.WithD.{i32, unit, bool, never, d_ty, shared_d_ty, d, drop_d, take, with_d}
 
 abbrev e_ty : TyId
 e_ty = ty_no 7
@@ -60,52 +39,47 @@ abbrev boxed_e_ty : TyId
 boxed_e_ty = ty_no 14
 
 abbrev items : ItemTable
-items = record {
-  types = Ty.Int IntKind.I32 ∷ Ty.Unit ∷ Ty.Bool ∷ Ty.Never ∷ Ty.Adt 0 ∷ Ty.Unique d_ty ∷ Ty.Shared d_ty ∷ Ty.Adt 1 ∷ Ty.Unique e_ty ∷ Ty.Shared e_ty ∷ Ty.Dyn 0 ∷ Ty.Boxed dyn_show_ty ∷ Ty.Shared dyn_show_ty ∷ Ty.Boxed d_ty ∷ Ty.Boxed e_ty ∷ [];
-  adts = struct (codes "D") (i32 ∷ []) (Some 0) ∷ struct (codes "E") (i32 ∷ []) (Some 2) ∷ [];
+items = with_d (record {
+  types = Ty.Adt 1 ∷ Ty.Unique e_ty ∷ Ty.Shared e_ty ∷ Ty.Dyn 0 ∷ Ty.Boxed dyn_show_ty ∷ Ty.Shared dyn_show_ty ∷ Ty.Boxed d_ty ∷ Ty.Boxed e_ty ∷ [];
+  adts = struct (codes "E") (i32 ∷ []) (Some 2) ∷ [];
   traits = (record { name = codes "Show"; methods = head (codes "show") (shared_dyn_show_ty ∷ []) unit ∷ [] }) ∷ [];
   impls = (record { trait_no = 0; adt = 0; bodies = 3 ∷ [] }) ∷ (record { trait_no = 0; adt = 1; bodies = 4 ∷ [] }) ∷ [];
   closures = [];
-  bodies =
-      head (codes "D::drop") (unique_d_ty ∷ []) unit
-      ∷ head (codes "take") (d_ty ∷ []) unit
-      ∷ head (codes "E::drop") (unique_e_ty ∷ []) unit
-      ∷ head (codes "D::show") (shared_d_ty ∷ []) unit
-      ∷ head (codes "E::show") (shared_e_ty ∷ []) unit
-      ∷ head (codes "pick") ([]) boxed_dyn_show_ty
-      ∷ head (codes "run") (boxed_dyn_show_ty ∷ []) unit
-      ∷ head (codes "main") ([]) unit
-      ∷ [];
-}
-
-abbrev drop_d : BodyTree
-drop_d = record { number = 0; params = param (used 0 unique_d_ty Use.Copy Binding) unique_d_ty ∷ []; answer = unit; block = (n 1 unit (Block no_node absent)) }
-
-abbrev take : BodyTree
-take = record { number = 1; params = param (used 0 d_ty Use.Move Binding) d_ty ∷ []; answer = unit; block = (n 1 unit (Block no_node absent)) }
+  bodies = head (codes "E::drop") (unique_e_ty ∷ []) unit ∷ head (codes "D::show") (shared_d_ty ∷ []) unit ∷ head (codes "E::show") (shared_e_ty ∷ []) unit ∷ head (codes "pick") [] boxed_dyn_show_ty ∷ head (codes "run") (boxed_dyn_show_ty ∷ []) unit ∷ head (codes "main") [] unit ∷ [];
+})
 
 abbrev drop_e : BodyTree
-drop_e = record { number = 2; params = param (used 0 unique_e_ty Use.Copy Binding) unique_e_ty ∷ []; answer = unit; block = (n 1 unit (Block no_node absent)) }
+drop_e = body 2 (param (used 0 unique_e_ty Use.Copy Binding) unique_e_ty ∷ []) unit (n 1 unit (Block no_node absent))
 
 -- fn show(&self) { print(self.0); }
 abbrev show_d : BodyTree
-show_d = record { number = 3; params = param (used 0 shared_d_ty Use.Copy Binding) shared_d_ty ∷ []; answer = unit; block = (n 1 unit (Block (a_node (n 2 unit (Evaluate (n 3 unit (Print (used 4 i32 Use.Copy (Field (n 5 d_ty (Deref (n 6 shared_d_ty (Variable 0)))) 0)))))) no_node) absent)) }
+show_d = body 3 (param (used 0 shared_d_ty Use.Copy Binding) shared_d_ty ∷ []) unit
+    (n 1 unit (Block (nodes (
+    (stmt 2 (n 3 unit (Print (used 4 i32 Use.Copy (Field (n 5 d_ty (Deref (n 6 shared_d_ty (Variable 0)))) 0)))))
+    ∷ [])) absent))
 
 -- fn show(&self) { print(9); }
 abbrev show_e : BodyTree
-show_e = record { number = 4; params = param (used 0 shared_e_ty Use.Copy Binding) shared_e_ty ∷ []; answer = unit; block = (n 1 unit (Block (a_node (n 2 unit (Evaluate (n 3 unit (Print (n 4 i32 (Number (pos 9))))))) no_node) absent)) }
+show_e = body 4 (param (used 0 shared_e_ty Use.Copy Binding) shared_e_ty ∷ []) unit
+    (n 1 unit (Block (nodes ((stmt 2 (n 3 unit (Print (n 4 i32 (Number (pos 9)))))) ∷ [])) absent))
 
 -- fn pick() -> Box<dyn Show> { if ask() == 0 { Box::new(D(1)) } else { Box::new(E(2)) } }
 abbrev pick : BodyTree
-pick = record { number = 5; params = []; answer = boxed_dyn_show_ty; block = (n 0 boxed_dyn_show_ty (Block no_node (present (n 1 boxed_dyn_show_ty (If (n 2 bool (Comparison Cmp.Eq (n 3 i32 Ask) (n 4 i32 (Number (pos 0))))) (n 5 boxed_dyn_show_ty (Block no_node (present (n 6 boxed_dyn_show_ty (Unsize 0 (n 7 boxed_d_ty (NewBox (n 8 d_ty (Make 0 0 (a_field 0 (n 9 i32 (Number (pos 1))) no_field)))))))))) (present (n 10 boxed_dyn_show_ty (Block no_node (present (n 11 boxed_dyn_show_ty (Unsize 0 (n 12 boxed_e_ty (NewBox (n 13 e_ty (Make 1 0 (a_field 0 (n 14 i32 (Number (pos 2))) no_field)))))))))))))))) }
+pick = body 5 [] boxed_dyn_show_ty
+    (n 0 boxed_dyn_show_ty (Block no_node (present (n 1 boxed_dyn_show_ty (If (n 2 bool (Comparison Cmp.Eq (n 3 i32 Ask) (n 4 i32 (Number (pos 0))))) (n 5 boxed_dyn_show_ty (Block no_node (present (n 6 boxed_dyn_show_ty (Unsize 0 (n 7 boxed_d_ty (NewBox (d 8 (pos 1))))))))) (present (n 10 boxed_dyn_show_ty (Block no_node (present (n 11 boxed_dyn_show_ty (Unsize 0 (n 12 boxed_e_ty (NewBox (n 13 e_ty (Make 1 0 (fields ((0, (n 14 i32 (Number (pos 2)))) ∷ [])))))))))))))))))
 
 -- fn run(b: Box<dyn Show>) { b.show(); panic!(); }
 abbrev run : BodyTree
-run = record { number = 6; params = param (used 0 boxed_dyn_show_ty Use.Move Binding) boxed_dyn_show_ty ∷ []; answer = unit; block = (n 1 never (Block (a_node (n 2 unit (Evaluate (n 3 unit (VirtualCall 0 0 (n 4 shared_dyn_show_ty (Borrow false (used 5 dyn_show_ty Use.Borrow (Deref (n 6 boxed_dyn_show_ty (Variable 0)))))) no_node)))) (a_node (n 7 unit (Evaluate (n 8 never Panic))) no_node)) absent)) }
+run = body 6 (param (used 0 boxed_dyn_show_ty Use.Move Binding) boxed_dyn_show_ty ∷ []) unit
+    (n 1 never (Block (nodes (
+    (stmt 2 (n 3 unit (VirtualCall 0 0 (n 4 shared_dyn_show_ty (Borrow false (used 5 dyn_show_ty Use.Borrow (Deref (n 6 boxed_dyn_show_ty (Variable 0)))))) no_node)))
+    ∷ (stmt 7 (n 8 never Panic))
+    ∷ [])) absent))
 
 -- fn main() { run(pick()); }
 abbrev main_ : BodyTree
-main_ = record { number = 7; params = []; answer = unit; block = (n 0 unit (Block (a_node (n 1 unit (Evaluate (n 2 unit (Call 6 (a_node (n 3 boxed_dyn_show_ty (Call 5 no_node)) no_node))))) no_node) absent)) }
+main_ = body 7 [] unit
+    (n 0 unit (Block (nodes ((stmt 1 (n 2 unit (Call 6 (nodes ((n 3 boxed_dyn_show_ty (Call 5 no_node)) ∷ []))))) ∷ [])) absent))
 
 abbrev shown : ProgramTree
 shown = record { items = items; bodies = drop_d ∷ take ∷ drop_e ∷ show_d ∷ show_e ∷ pick ∷ run ∷ main_ ∷ [] }

@@ -6,7 +6,7 @@ use Rattle.mir_ty.specs.declared.adt.Variant.{Variant}
 use Rattle.mir_ty.specs.declared.def.Sig.{Sig}
 use Rattle.mir_ty.specs.declared.ty.TyId.{TyId}
 use Rattle.typed_tree.specs.declared.node.Use.{Use}
-use Rattle.typed_tree.specs.Tree.{Node, node, Form, ParamTree}
+use Rattle.typed_tree.specs.Tree.{Node, node, Form, Nodes, no_node, a_node, Fields, no_field, a_field, present, Let, Evaluate, ParamTree, BodyTree}
 
 -- The examples have no text, so all nodes stand at one place.
 abbrev here : Pos
@@ -40,3 +40,24 @@ enum name variants = record { name = name; is_enum = true; variants = variants; 
 
 abbrev pub head : List ℕ → List TyId → TyId → Sig
 head name params answer = record { name = name; params = params; result = answer }
+
+abbrev pub nodes : List Node → Nodes
+nodes [] = no_node
+nodes (first ∷ rest) = a_node first (nodes rest)
+
+abbrev pub fields : List (ℕ × Node) → Fields
+fields [] = no_field
+fields (first ∷ rest) = a_field first.0 first.1 (fields rest)
+
+-- the type `()`, which is the second of all items here
+abbrev unit_ty : TyId
+unit_ty = record { 0 = 1 }
+
+abbrev pub let_ : ℕ → Node → Node → Node
+let_ id pattern value = n id unit_ty (Let pattern (present value))
+
+abbrev pub stmt : ℕ → Node → Node
+stmt id expression = n id unit_ty (Evaluate expression)
+
+abbrev pub body : ℕ → List ParamTree → TyId → Node → BodyTree
+body number params answer block = record { number = number; params = params; answer = answer; block = block }
