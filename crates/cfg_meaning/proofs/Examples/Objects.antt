@@ -9,7 +9,7 @@ use Rattle.cfg_graph.specs.declared.place.Step.{Step}
 use Rattle.cfg_graph.specs.declared.statement.Stmt.{Stmt}
 use Rattle.cfg_graph.specs.declared.terminator.Term.{Term}
 use Rattle.cfg_graph.specs.declared.terminator.Unwind.{Unwind}
-use Rattle.cfg_meaning.proofs.Examples.Words.{block, body, at, within, ty_no, struct, head}
+use Rattle.cfg_meaning.proofs.Examples.Words.{i32, unit, block, body, at, within, ty_no, struct, head, gives_unit}
 use Rattle.cfg_meaning.specs.Programs.{graph_run}
 use Rattle.mir_base.specs.declared.int_kind.IntKind.{IntKind}
 use Rattle.mir_base.specs.declared.trace.End.{End}
@@ -17,12 +17,6 @@ use Rattle.mir_base.specs.declared.trace.Event.TheVariants.{Call as call, Return
 use Rattle.mir_ty.specs.declared.ty.Ty.{Ty}
 use Rattle.mir_ty.specs.declared.ty.TyId.{TyId}
 use Rattle.mir_ty.specs.ItemTable.{ItemTable}
-
-abbrev i32 : TyId
-i32 = ty_no 0
-
-abbrev unit : TyId
-unit = ty_no 1
 
 abbrev d_ty : TyId
 d_ty = ty_no 2
@@ -74,9 +68,6 @@ items = record {
       ∷ [];
 }
 
-abbrev drops_nothing : TyId → Body
-drops_nothing self = body 1 (unit ∷ self ∷ []) (block Kind.Plain 0 (Stmt.Put (at 0) Operand.Unit ∷ []) Term.Return ∷ [])
-
 -- prints its number
 abbrev shows : TyId → Body
 shows self = body 1 (unit ∷ self ∷ [])
@@ -97,7 +88,7 @@ main number adt boxed = body 0 (unit ∷ adt ∷ boxed ∷ object_ty ∷ shared_
     ∷ block Kind.Cleanup 0 [] Term.Resume ∷ [])
 
 abbrev of : ℕ → TyId → TyId → Graph
-of number adt boxed = record { items = items; bodies = drops_nothing unique_d_ty ∷ drops_nothing unique_e_ty ∷ shows shared_d_ty ∷ shows shared_e_ty ∷ main number adt boxed ∷ [] }
+of number adt boxed = record { items = items; bodies = gives_unit unique_d_ty ∷ gives_unit unique_e_ty ∷ shows shared_d_ty ∷ shows shared_e_ty ∷ main number adt boxed ∷ [] }
 
 by_the_first_impl : graph_run (of 0 d_ty boxed_d_ty) [] 100
     ≡ (call 4 ∷ make 0 1 ∷ box 2 ∷ call 2 ∷ printed (pos 5) ∷ return 2 ∷ drop 0 1 ∷ return 0 ∷ free 2 ∷ return 4 ∷ [], End.Returned)

@@ -8,7 +8,7 @@ use Rattle.cfg_graph.specs.declared.place.Operand.{Operand}
 use Rattle.cfg_graph.specs.declared.statement.Stmt.{Stmt}
 use Rattle.cfg_graph.specs.declared.terminator.Term.{Term}
 use Rattle.cfg_graph.specs.declared.terminator.Unwind.{Unwind}
-use Rattle.cfg_meaning.proofs.Examples.Words.{block, body, at, ty_no, struct, head}
+use Rattle.cfg_meaning.proofs.Examples.Words.{i32, unit, block, body, at, ty_no, struct, head, gives_unit}
 use Rattle.cfg_meaning.specs.Programs.{graph_run, raw_graph_run}
 use Rattle.mir_base.specs.declared.int_kind.IntKind.{IntKind}
 use Rattle.mir_base.specs.declared.trace.End.{End}
@@ -16,12 +16,6 @@ use Rattle.mir_base.specs.declared.trace.Event.TheVariants.{Call as call, Return
 use Rattle.mir_ty.specs.declared.ty.Ty.{Ty}
 use Rattle.mir_ty.specs.declared.ty.TyId.{TyId}
 use Rattle.mir_ty.specs.ItemTable.{ItemTable}
-
-abbrev i32 : TyId
-i32 = ty_no 0
-
-abbrev unit : TyId
-unit = ty_no 1
 
 abbrev d_ty : TyId
 d_ty = ty_no 2
@@ -40,7 +34,7 @@ items = record {
 }
 
 abbrev drop_d : Body
-drop_d = body 1 (unit ∷ unique_d_ty ∷ []) (block Kind.Plain 0 (Stmt.Put (at 0) Operand.Unit ∷ []) Term.Return ∷ [])
+drop_d = gives_unit unique_d_ty
 
 abbrev main : Body
 main = body 0 (unit ∷ d_ty ∷ [])

@@ -9,7 +9,7 @@ use Rattle.cfg_graph.specs.declared.place.Step.{Step}
 use Rattle.cfg_graph.specs.declared.statement.Stmt.{Stmt}
 use Rattle.cfg_graph.specs.declared.terminator.Term.{Term}
 use Rattle.cfg_graph.specs.declared.terminator.Unwind.{Unwind}
-use Rattle.cfg_meaning.proofs.Examples.Words.{block, body, at, within, ty_no, struct, head}
+use Rattle.cfg_meaning.proofs.Examples.Words.{i32, unit, block, body, at, within, ty_no, struct, head}
 use Rattle.cfg_meaning.specs.Programs.{graph_run}
 use Rattle.mir_base.specs.declared.int_kind.IntKind.{IntKind}
 use Rattle.mir_base.specs.declared.operator.Cmp.{Cmp}
@@ -19,12 +19,6 @@ use Rattle.mir_base.specs.declared.trace.Why.{Why}
 use Rattle.mir_ty.specs.declared.ty.Ty.{Ty}
 use Rattle.mir_ty.specs.declared.ty.TyId.{TyId}
 use Rattle.mir_ty.specs.ItemTable.{ItemTable}
-
-abbrev i32 : TyId
-i32 = ty_no 0
-
-abbrev unit : TyId
-unit = ty_no 1
 
 abbrev n_ty : TyId
 n_ty = ty_no 2

@@ -3,6 +3,7 @@ use Rattle.std.specs.Prelude.{ℕ, List, [], ◌∷◌, Option, false, codes}
 use Rattle.cfg_graph.specs.declared.graph.Block.{Block}
 use Rattle.cfg_graph.specs.declared.graph.Body.{Body}
 use Rattle.cfg_graph.specs.declared.graph.Kind.{Kind}
+use Rattle.cfg_graph.specs.declared.place.Operand.{Operand}
 use Rattle.cfg_graph.specs.declared.place.Place.{Place}
 use Rattle.cfg_graph.specs.declared.place.Step.{Step}
 use Rattle.cfg_graph.specs.declared.statement.Stmt.{Stmt}
@@ -27,6 +28,16 @@ within local steps = record { local = local; steps = steps }
 
 abbrev pub ty_no : ℕ → TyId
 ty_no k = record { 0 = k }
+
+abbrev pub i32 : TyId
+i32 = ty_no 0
+
+abbrev pub unit : TyId
+unit = ty_no 1
+
+-- a body with one parameter that gives `()`
+abbrev pub gives_unit : TyId → Body
+gives_unit param = body 1 (unit ∷ param ∷ []) (block Kind.Plain 0 (Stmt.Put (at 0) Operand.Unit ∷ []) Term.Return ∷ [])
 
 abbrev field_names : {A : Type 0} → List A → List (List ℕ)
 field_names [] = []
