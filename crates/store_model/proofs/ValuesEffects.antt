@@ -1,18 +1,20 @@
 -- The effects on values give no ticks back, if the bodies that are called give none; and a body spends a tick.
-use Rattle.std.proofs.Common.{ℕ, zero, suc, ◌≤◌, ℤ, Bool, true, false, List, [], ◌∷◌, Option, Some, None, arith}
+use Rattle.std.proofs.Common.{◌≡◌, inl, inr, sym, ℕ, zero, suc, ◌==◌, ◌<◌, ◌≤◌, ℤ, Bool, true, false, List, [], ◌∷◌, Option, Some, None, refl, ap, ◌∙◌, arith}
+use Rattle.std.proofs.lemmas.Bool.{true≢false}
+use Rattle.std.proofs.lemmas.Bool.Decides.{eqb_tells}
 use Rattle.std.specs.Option.{option_map_or, option_and_then}
 use Rattle.mir_base.specs.declared.int_kind.IntKind.{IntKind}
 use Rattle.mir_base.specs.declared.operator.Math.{Math}
 use Rattle.mir_base.specs.declared.trace.Event.{Event}
-use Rattle.store_model.proofs.EffectLaws.{NoMore, NoMoreOf, Ticked, Laws}
-use Rattle.store_model.specs.Acting.{Computed, Gives, PanicsBy, computed, or_no_step, used, taken, all_taken, taking, taking_two, taking_all, put, put_if, told, made_event, built, boxed, printed, if_nothing_numbered, freed, put_computed, compute, negate, within_bounds, bounded, answered, asked, chosen_truth, chosen_if, variant_tested, choose, called, act, give, dropped_if, nothing_if, drop, on_values}
+use Rattle.store_model.proofs.EffectLaws.{NoMore, NoMoreOf, Ticked, Laws, Tied}
+use Rattle.store_model.specs.Acting.{Computed, Gives, PanicsBy, computed, or_no_step, used, taken, all_taken, taking, taking_two, taking_all, put, put_if, told, made_event, built, boxed, printed, if_nothing_numbered, freed, put_computed, compute, negate, within_bounds, bounded, answered, asked, chosen_truth, chosen_if, variant_tested, choose, virtual_body, called, act, give, dropped_if, nothing_if, drop, on_values}
 use Rattle.store_model.specs.declared.address.At.TheVariants.{Part, Inside}
 use Rattle.store_model.specs.Data.{Datum, Data, Gone, Number, Truth, UnitValue, Aggregate, Box, Address, no_part, a_part}
-use Rattle.store_model.specs.DropAt.{drop_body_out, unwinding_out, in_mode, same_if, still_found, Stage, Begins, HasRun, gone_at, freed_at, as_read, if_part, with_body, drop_value, drop_parts, dropped_there, drop_at}
+use Rattle.store_model.specs.DropAt.{drop_body_out, unwinding_out, in_mode, same_if, still_found, Stage, Begins, HasRun, gone_at, freed_at, as_read, if_part, with_body, own_body, drop_impl, drop_value, drop_parts, dropped_there, drop_at}
 use Rattle.store_model.specs.Effects as effects
-use Rattle.store_model.specs.Effects.{Site, Operand, Kind, OfTuple, OfArray, OfVariant, OfClosure, Action, Test, Mode, Calm, Unwinding, Halt, NoStep, Out, Go, Unwind, Halts, Choice, Yes, No, Neither, Effects}
+use Rattle.store_model.specs.Effects.{Site, Operand, Kind, OfTuple, OfArray, OfVariant, OfClosure, Action, Test, Mode, Calm, Unwinding, Halt, OutOfTicks, NoStep, Out, Go, Unwind, Halts, Choice, Yes, No, Neither, Effects}
 use Rattle.store_model.specs.Entering.{Code, ended, after_tick, run_body}
-use Rattle.store_model.specs.Standing.{Setting, Found, Standing, into, Reached, Reaches, CutOff, Nowhere, reach, on_reached, stored_at}
+use Rattle.store_model.specs.Standing.{Setting, Found, concrete_ty, Standing, into, Reached, Reaches, CutOff, Nowhere, reach, on_reached, stored_at}
 use Rattle.store_model.specs.World.{World, telling, numbered_next, spend, Answer, Returns, Unwinds, HaltsIn, Bodies}
 use Rattle.store_model.specs.Wholeness.{serials}
 
@@ -381,3 +383,203 @@ module _ (setting : Setting) (code : Code) (keeps : KeepsTicks code) where
 
   pub body_thrifty : (n : ℕ) → Thrifty (run_body setting code n)
   body_thrifty n = spending_thrifty (run_body setting code n) (body_spends n)
+
+-- Two sets of bodies that agree where at most so many ticks are left, and two bounds that are greater, are the same
+-- effects there.
+abbrev pub Agree : ℕ → Bodies → Bodies → Type 0
+Agree n run run' = (event : Event) (body : ℕ) (args : List Datum) (w : World) → w.ticks ≤ n → run event body args w ≡ run' event body args w
+
+step_same : {A : Type 0} (o : Option A) (next next' : A → Out World) (w : World) → ((a : A) → next a ≡ next' a) → or_no_step o next w ≡ or_no_step o next' w
+step_same None next next' w e = refl
+step_same (Some a) next next' w e = e a
+
+after_taken_same : {A : Type 0} (m : ℕ) (o : Option (A × World)) (next next' : A → World → Out World) (w : World) → KeptTaken m o →
+    ((a : A) (v : World) → v.ticks ≤ m → next a v ≡ next' a v) → or_no_step o (λ t. next t.0 t.1) w ≡ or_no_step o (λ t. next' t.0 t.1) w
+after_taken_same m None next next' w h e = refl
+after_taken_same m (Some t) next next' w h e = e t.0 t.1 h.kept
+
+reached_same : (r : Reached) (f f' : Standing → Out World) (cut_off nowhere : Out World) → ((s : Standing) → f s ≡ f' s) →
+    on_reached r f cut_off nowhere ≡ on_reached r f' cut_off nowhere
+reached_same (Reaches s) f f' cut_off nowhere e = e s
+reached_same CutOff f f' cut_off nowhere e = refl
+reached_same Nowhere f f' cut_off nowhere e = refl
+
+in_mode_same : (m : ℕ) (mode : Mode) (o o' : Out World) (next next' : Mode → World → Out World) → o ≡ o' → Kept m o →
+    ((mode : Mode) (v : World) → v.ticks ≤ m → next mode v ≡ next' mode v) → in_mode mode o next ≡ in_mode mode o' next'
+in_mode_same m mode o o' next next' q h e = go o h ∙ ap (λ o. in_mode mode o next') q
+  where
+    go : (o : Out World) → Kept m o → in_mode mode o next ≡ in_mode mode o next'
+    go (Go w) h = e mode w h.kept
+    go (Unwind w) h = ap unwinding_out (e Unwinding w h.kept)
+    go (Halts halt w) h = refl
+
+after_body_same : (m : ℕ) (mode : Mode) (a : Answer) (next next' : Mode → World → Out World) → Spent m a →
+    ((mode : Mode) (v : World) → suc v.ticks ≤ m → next mode v ≡ next' mode v) → in_mode mode (drop_body_out mode a) next ≡ in_mode mode (drop_body_out mode a) next'
+after_body_same m mode (Returns value w) next next' h e = e mode w h.spent
+after_body_same m Calm (Unwinds w) next next' h e = ap unwinding_out (e Unwinding w h.spent)
+after_body_same m Unwinding (Unwinds w) next next' h e = refl
+after_body_same m mode (HaltsIn halt w) next next' h e = refl
+
+same_if_same : (b : Bool) (next next' : World → Out World) (w : World) → next w ≡ next' w → same_if b next w ≡ same_if b next' w
+same_if_same true next next' w e = e
+same_if_same false next next' w e = refl
+
+still_found_same : (found : Found) (o : Option Standing) (next next' : Standing → World → Out World) (w : World) → ((s : Standing) → next s w ≡ next' s w) →
+    still_found found o next w ≡ still_found found o next' w
+still_found_same found None next next' w e = refl
+still_found_same found (Some s) next next' w e = same_if_same _ (next s) (next' s) w (e s)
+
+module _ (setting : Setting) (run run' : Bodies) (spending : Spending run) (n : ℕ) (agree : Agree n run run') where
+  thrifty_run : Thrifty run
+  thrifty_run = spending_thrifty run spending
+
+  called_same : (to : Site) (body : Option ℕ) (args : List Datum) (w : World) → w.ticks ≤ n →
+      called setting run to body args w ≡ called setting run' to body args w
+  called_same to body args w l =
+      step_same body (λ body. answered setting to (run (Event.Call body) body args w)) (λ body. answered setting to (run' (Event.Call body) body args w)) w
+      (λ body. ap (answered setting to) (agree (Event.Call body) body args w l))
+
+  act_same : (action : Action) (w : World) → w.ticks ≤ n → act setting run action w ≡ act setting run' action w
+  act_same (effects.Call to body args) w l =
+      after_taken_same n (all_taken setting args w) (called setting run to (Some body)) (called setting run' to (Some body)) w (all_taken_less n setting args w l)
+      (called_same to (Some body))
+  act_same (effects.CallVirtual to trait_no method args) w l =
+      after_taken_same n (all_taken setting args w) (λ values w. called setting run to (virtual_body setting trait_no method w values) values w)
+      (λ values w. called setting run' to (virtual_body setting trait_no method w values) values w) w (all_taken_less n setting args w l)
+      (λ values v k. called_same to (virtual_body setting trait_no method v values) values v k)
+  act_same (effects.Put to from) w l = refl
+  act_same (effects.Compare to operator left right) w l = refl
+  act_same (effects.Not to operand) w l = refl
+  act_same (effects.Build to kind parts) w l = refl
+  act_same (effects.NewBox to content) w l = refl
+  act_same (effects.Unsize to trait_no operand) w l = refl
+  act_same (effects.Borrow to unique base) w l = refl
+  act_same (effects.Touch base) w l = refl
+  act_same (effects.Print operand) w l = refl
+  act_same (effects.Forget operand) w l = refl
+  act_same (effects.Free box) w l = refl
+  act_same (effects.Compute to operator left right) w l = refl
+  act_same (effects.Negate to operand) w l = refl
+  act_same (effects.Bounds index count) w l = refl
+  act_same (effects.Ask to) w l = refl
+
+  module _ (ticks : ℕ) (few : ticks ≤ n) (again again' : Stage → Standing → Mode → World → Out World)
+      (again_less : (stage : Stage) (s : Standing) (mode : Mode) (w : World) → w.ticks ≤ ticks → Kept ticks (again stage s mode w))
+      (again_same : (stage : Stage) (s : Standing) (mode : Mode) (w : World) → suc w.ticks ≤ ticks → again stage s mode w ≡ again' stage s mode w) where
+    fewer : (v : ℕ) → v ≤ ticks → (v == ticks) ≡ false → suc v ≤ ticks
+    fewer v l e = elim (eqb_tells v ticks) [ inl same ↦ absurd (true≢false (sym same.0 ∙ e)) | inr other ↦ let apart = other.1 in omega (arith, apart) ]
+
+    read_same : (b : Bool) (drop drop' : Standing → Mode → World → Out World) (s : Standing) (mode : Mode) (w : World) →
+        (b ≡ false → suc w.ticks ≤ ticks) → drop s mode w ≡ drop' s mode w →
+        as_read setting run again ticks b drop s mode w ≡ as_read setting run' again' ticks b drop' s mode w
+    read_same true drop drop' s mode w f h = h
+    read_same false drop drop' s mode w f h = again_same Begins s mode w (f refl)
+
+    part_same : (o : Option Standing) (drop drop' : Standing → Mode → World → Out World) (mode : Mode) (w : World) → w.ticks ≤ ticks →
+        ((s : Standing) → drop s mode w ≡ drop' s mode w) → if_part setting run again ticks o drop mode w ≡ if_part setting run' again' ticks o drop' mode w
+    part_same None drop drop' mode w l e = refl
+    part_same (Some s) drop drop' mode w l e = read_same (w.ticks == ticks) drop drop' s mode w (fewer w.ticks l) (e s)
+
+    with_body_same : (of : Option (ℕ × ℕ)) (serial : Option ℕ) (s : Standing) (parts parts' : Mode → World → Out World) (mode : Mode) (w : World) → w.ticks ≤ ticks →
+        parts mode w ≡ parts' mode w →
+        with_body setting run again ticks of serial s parts mode w ≡ with_body setting run' again' ticks of serial s parts' mode w
+    with_body_same None serial s parts parts' mode w l e = e
+    with_body_same (Some of) serial s parts parts' mode w l e =
+        after_body_same ticks mode _ (again HasRun s) (again' HasRun s) (spending ticks _ of.1 (Address s.address ∷ []) w l) (again_same HasRun s)
+        ∙ ap (λ a. in_mode mode (drop_body_out mode a) (again' HasRun s)) (agree _ of.1 (Address s.address ∷ []) w (omega arith))
+
+    mutual
+      value_same : (value : Datum) (stage : Stage) (s : Standing) (mode : Mode) (w : World) → w.ticks ≤ ticks →
+          drop_value setting run again ticks value stage s mode w ≡ drop_value setting run' again' ticks value stage s mode w
+      value_same Gone stage s mode w l = refl
+      value_same (Number number) stage s mode w l = refl
+      value_same (Truth truth) stage s mode w l = refl
+      value_same UnitValue stage s mode w l = refl
+      value_same (Address address) stage s mode w l = refl
+      value_same (Aggregate variant serial parts) stage s mode w l =
+          with_body_same (own_body setting run again ticks stage (drop_impl setting.items (concrete_ty setting.items s.found))) serial s
+          (λ mode w. in_mode mode (drop_parts setting run again ticks parts zero s mode w) (λ mode. gone_at setting run s))
+          (λ mode w. in_mode mode (drop_parts setting run' again' ticks parts zero s mode w) (λ mode. gone_at setting run' s)) mode w l
+          (in_mode_same ticks mode (drop_parts setting run again ticks parts zero s mode w) (drop_parts setting run' again' ticks parts zero s mode w)
+          (λ mode. gone_at setting run s) (λ mode. gone_at setting run' s)
+          (parts_same parts zero s mode w l) (parts_less ticks setting run thrifty_run again again_less ticks parts zero s mode w l) (λ mode v k. refl))
+      value_same (Box serial impl_no inside) stage s mode w l =
+          in_mode_same ticks mode _ _ (λ mode. freed_at setting run serial s) (λ mode. freed_at setting run' serial s)
+          (part_same (into setting.items Inside s) (drop_value setting run again ticks inside Begins) (drop_value setting run' again' ticks inside Begins) mode w l
+          (λ s. value_same inside Begins s mode w l))
+          (part_less ticks setting run thrifty_run again again_less ticks (into setting.items Inside s) (drop_value setting run again ticks inside Begins) mode w l
+          (λ s. value_less ticks setting run thrifty_run again again_less ticks inside Begins s mode w l)) (λ mode v k. refl)
+
+      parts_same : (parts : Data) (k : ℕ) (s : Standing) (mode : Mode) (w : World) → w.ticks ≤ ticks →
+          drop_parts setting run again ticks parts k s mode w ≡ drop_parts setting run' again' ticks parts k s mode w
+      parts_same no_part k s mode w l = refl
+      parts_same (a_part first rest) k s mode w l =
+          in_mode_same ticks mode _ _ (drop_parts setting run again ticks rest (suc k) s) (drop_parts setting run' again' ticks rest (suc k) s)
+          (part_same (into setting.items (Part k) s) (drop_value setting run again ticks first Begins) (drop_value setting run' again' ticks first Begins) mode w l
+          (λ s. value_same first Begins s mode w l))
+          (part_less ticks setting run thrifty_run again again_less ticks (into setting.items (Part k) s) (drop_value setting run again ticks first Begins) mode w l
+          (λ s. value_less ticks setting run thrifty_run again again_less ticks first Begins s mode w l))
+          (λ mode v j. parts_same rest (suc k) s mode v j)
+
+  drop_at_same : (b b' : ℕ) (stage : Stage) (s : Standing) (mode : Mode) (w : World) → w.ticks ≤ n → w.ticks < b → w.ticks < b' →
+      drop_at setting run b stage s mode w ≡ drop_at setting run' b' stage s mode w
+  drop_at_same zero b' stage s mode w l h h' = absurd (let never : ⊥ = omega arith in never)
+  drop_at_same (suc b) zero stage s mode w l h h' = absurd (let never : ⊥ = omega arith in never)
+  drop_at_same (suc b) (suc b') stage s mode w l h h' =
+      still_found_same s.found _ (dropped_there setting run (drop_at setting run b) stage mode) (dropped_there setting run' (drop_at setting run' b') stage mode) w
+      (λ s. value_same w.ticks l (drop_at setting run b) (drop_at setting run' b') (drop_at_less w.ticks setting run thrifty_run b)
+      (λ stage s mode v k. drop_at_same b b' stage s mode v (omega arith) (omega arith) (omega arith)) s.value stage s mode w (omega arith))
+
+  module _ (b b' : ℕ) (great : n < b) (great' : n < b') where
+    dropped_if_same : (whole : Bool) (mode : Mode) (s : Standing) (w : World) → w.ticks ≤ n →
+        dropped_if setting run b whole mode s w ≡ dropped_if setting run' b' whole mode s w
+    dropped_if_same true mode s w l = drop_at_same b b' Begins s mode w l (omega arith) (omega arith)
+    dropped_if_same false mode s w l = refl
+
+    drop_same : (mode : Mode) (site : Site) (w : World) → w.ticks ≤ n → drop setting run b mode site w ≡ drop setting run' b' mode site w
+    drop_same mode site w l = reached_same (reach setting w site.place) _ _ _ _ (λ s. dropped_if_same _ mode s w l)
+
+    pub values_tied : Tied (on_values setting run b) (on_values setting run' b') ticks_of n
+    values_tied = record {
+      acting = act_same;
+      choosing = λ test w l. refl;
+      dropping = drop_same;
+      panicking = λ why w l. refl;
+      ticking = λ w l. refl;
+      giving = λ site w l. refl;
+    }
+
+-- what is done within bodies is the same with effects that are, and with two bounds on turns that are greater than the
+-- ticks that are left
+abbrev pub TiesTicks : Code → Type 0
+TiesTicks code =
+    (p q : Effects World) → Laws p ticks_of → (m : ℕ) → Tied p q ticks_of m → (turns turns' body : ℕ) → m < turns → m < turns' →
+    (w : World) → w.ticks ≤ m → code.within p turns body w ≡ code.within q turns' body w
+
+out_of_ticks : (k : ℕ) (w : World) (next : World → Answer) → k ≤ 0 → after_tick (spend k w) next ≡ HaltsIn OutOfTicks w
+out_of_ticks zero w next l = refl
+out_of_ticks (suc k) w next l = absurd (let never : ⊥ = omega arith in never)
+
+after_spending_same : (k n m : ℕ) (w : World) (next next' : World → Answer) → k ≤ suc n → k ≤ suc m →
+    ((v : World) → v.ticks ≤ n → v.ticks ≤ m → next v ≡ next' v) → after_tick (spend k w) next ≡ after_tick (spend k w) next'
+after_spending_same zero n m w next next' l l' e = refl
+after_spending_same (suc k) n m w next next' l l' e = e (record w { ticks = k }) (omega arith) (omega arith)
+
+-- two bounds on nesting that are no less than the ticks that are left give the same
+module _ (setting : Setting) (code : Code) (keeps : KeepsTicks code) (ties : TiesTicks code) where
+  abbrev bodies : ℕ → Bodies
+  bodies n = run_body setting code n
+
+  pub bodies_agree : (n m : ℕ) (event : Event) (body : ℕ) (args : List Datum) (w : World) → w.ticks ≤ n → w.ticks ≤ m →
+      run_body setting code n event body args w ≡ run_body setting code m event body args w
+  bodies_agree zero zero event body args w l l' = refl
+  bodies_agree zero (suc m) event body args w l l' = sym (out_of_ticks w.ticks w _ l)
+  bodies_agree (suc n) zero event body args w l l' = out_of_ticks w.ticks w _ l'
+  bodies_agree (suc n) (suc m) event body args w l l' =
+      after_spending_same w.ticks n m w _ _ l l'
+      (λ v k k'. ap (ended body (code.answer body))
+      (ties (on_values setting (bodies n) (suc n)) (on_values setting (bodies m) (suc m))
+      (values_laws setting (bodies n) (body_thrifty setting code keeps n) (suc n)) v.ticks
+      (values_tied setting (bodies n) (bodies m) (body_spends setting code keeps n) v.ticks
+      (λ event body args u j. bodies_agree n m event body args u (omega arith) (omega arith)) (suc n) (suc m) (omega arith) (omega arith))
+      (suc n) (suc m) body (omega arith) (omega arith) _ (omega arith)))
