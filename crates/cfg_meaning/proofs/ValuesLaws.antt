@@ -1,13 +1,14 @@
--- The bodies of a graph give no ticks back. So the walk of a graph is one equation.
-use Rattle.std.proofs.Common.{ℕ, zero, suc, Bool, Option, Some, None, slice_get}
+-- The bodies of a graph give no ticks back. So the walk of a graph is one equation, and its runs have no bound.
+use Rattle.std.proofs.Common.{◌≡◌, ℕ, zero, suc, refl, Bool, Option, Some, None, slice_get}
 use Rattle.std.specs.Option.{option_map_or}
 use Rattle.cfg_graph.specs.declared.graph.Body.{Body}
 use Rattle.cfg_graph.specs.declared.graph.Graph.{Graph}
 use Rattle.cfg_meaning.proofs.WalkLaws.{walk_less, walk_on, walk_same}
-use Rattle.cfg_meaning.specs.Laws.{WalkIsOneEquation, WalkHasNoBound}
+use Rattle.cfg_meaning.proofs.WalkTied.{walk_tied}
+use Rattle.cfg_meaning.specs.Laws.{WalkIsOneEquation, WalkHasNoBound, GraphRunHasNoBound}
 use Rattle.cfg_meaning.specs.Programs.{setting_of, code_of}
 use Rattle.store_model.proofs.EffectLaws.{NoMore, Laws}
-use Rattle.store_model.proofs.ValuesEffects.{ticks_of, KeepsTicks, Thrifty, values_laws, body_thrifty}
+use Rattle.store_model.proofs.ValuesEffects.{ticks_of, KeepsTicks, TiesTicks, values_laws, body_thrifty, bodies_agree}
 use Rattle.store_model.specs.Acting.{on_values}
 use Rattle.store_model.specs.Effects.{NoStep, Out, Halts}
 use Rattle.store_model.specs.Entering.{run_body}
@@ -18,19 +19,26 @@ if_body_less : (m : ℕ) (o : Option Body) (f : Body → Out World) (w : World) 
 if_body_less m None f w e = tt
 if_body_less m (Some body) f w e = e body
 
+if_body_same : (o : Option Body) (f f' : Body → Out World) (w : World) → ((body : Body) → f body ≡ f' body) →
+    option_map_or f o (Halts NoStep w) ≡ option_map_or f' o (Halts NoStep w)
+if_body_same None f f' w e = refl
+if_body_same (Some body) f f' w e = e body
+
+pub graph_keeps : (graph : Graph) → KeepsTicks (code_of graph)
+graph_keeps graph p laws turns number m w l =
+    if_body_less m (slice_get graph.bodies number) _ w (λ body. walk_less ticks_of p laws number (λ block line. 0) body m turns zero w l)
+
+pub graph_ties : (graph : Graph) → TiesTicks (code_of graph)
+graph_ties graph p q laws m tied turns turns' number h h' w l =
+    if_body_same (slice_get graph.bodies number) _ _ w
+    (λ body. walk_tied ticks_of p q laws number (λ block line. 0) body m tied turns turns' zero h h' w l)
+
 module _ (strict : Bool) (graph : Graph) where
   abbrev bodies : ℕ → Bodies
   bodies n = run_body (setting_of strict graph) (code_of graph) n
 
-  graph_keeps : KeepsTicks (code_of graph)
-  graph_keeps p laws turns number m w l =
-      if_body_less m (slice_get graph.bodies number) _ w (λ body. walk_less ticks_of p laws number (λ block line. 0) body m turns zero w l)
-
-  pub run_thrifty : (n : ℕ) → Thrifty (bodies n)
-  run_thrifty n = body_thrifty (setting_of strict graph) (code_of graph) graph_keeps n
-
   graph_laws : (n : ℕ) → Laws (on_values (setting_of strict graph) (bodies n) (suc n)) ticks_of
-  graph_laws n = values_laws (setting_of strict graph) (bodies n) (run_thrifty n) (suc n)
+  graph_laws n = values_laws (setting_of strict graph) (bodies n) (body_thrifty (setting_of strict graph) (code_of graph) (graph_keeps graph) n) (suc n)
 
 pub values_walk_on : WalkIsOneEquation
 values_walk_on strict graph n number node body ranked most block w l =
@@ -39,3 +47,6 @@ values_walk_on strict graph n number node body ranked most block w l =
 pub values_walk_same : WalkHasNoBound
 values_walk_same strict graph n number node body ranked most other block w l l' =
     walk_same ticks_of (on_values (setting_of strict graph) (bodies strict graph n) (suc n)) (graph_laws strict graph n) number node body ranked most other block w l l'
+
+pub values_nested : GraphRunHasNoBound
+values_nested strict graph = bodies_agree (setting_of strict graph) (code_of graph) (graph_keeps graph) (graph_ties graph)

@@ -33,7 +33,7 @@ module _ {W : Type 0} (size : W → ℕ) where
   renamed_ticked name m (Unwinds w) l = tt
   renamed_ticked name m (Halts halt w) l = tt
 
-  naming_laws : (name : Halt → Halt) (p : Effects W) → Laws p size → Laws (naming name p) size
+  pub naming_laws : (name : Halt → Halt) (p : Effects W) → Laws p size → Laws (naming name p) size
   naming_laws name p laws = record {
     acting = λ action w. renamed_less name (size w) (p.act action w) (laws.acting action w);
     choosing = λ test w. renamed_choice_less name (size w) (p.choose test w) (laws.choosing test w);
@@ -44,7 +44,7 @@ module _ {W : Type 0} (size : W → ℕ) where
   }
 
   module _ (m : ℕ) where
-    go_same : (o : Out W) → NoMore size m o → (f f' : W → Out W) → Same size m f f' → on_go o f ≡ on_go o f'
+    pub go_same : (o : Out W) → NoMore size m o → (f f' : W → Out W) → Same size m f f' → on_go o f ≡ on_go o f'
     go_same (Go w) l f f' e = e w l
     go_same (Unwinds w) l f f' e = refl
     go_same (Halts halt w) l f f' e = refl
@@ -100,7 +100,7 @@ module _ {W : Type 0} (size : W → ℕ) where
     panics_less next Unwind.Abort e = λ w k. tt
 
 -- where a tick is spent, less is left for what comes after it
-tick_same : {W : Type 0} (size : W → ℕ) (m : ℕ) (o : Out W) → Ticked size m o → (f f' : W → Out W) →
+pub tick_same : {W : Type 0} (size : W → ℕ) (m : ℕ) (o : Out W) → Ticked size m o → (f f' : W → Out W) →
     ((w : W) → suc (size w) ≤ m → f w ≡ f' w) → ticked o f ≡ ticked o f'
 tick_same size m (Go w) l f f' e = e w l
 tick_same size m (Unwinds w) l f f' e = refl
@@ -113,7 +113,7 @@ tick_less size m k (Halts halt w) h l f e = tt
 
 -- a block does the same, and keeps the bound, if what comes after it does
 module _ {W : Type 0} (size : W → ℕ) (q : Effects W) (laws : Laws q size) (m : ℕ) where
-  acted : (action : Action) (w : W) → size w ≤ m → NoMore size m (q.act action w)
+  pub acted : (action : Action) (w : W) → size w ≤ m → NoMore size m (q.act action w)
   acted action w l = weaker size m (size w) (q.act action w) l (laws.acting action w)
 
   chosen : (test : Test) (w : W) → size w ≤ m → NoMoreOf size m (q.choose test w)
@@ -198,7 +198,7 @@ module _ {W : Type 0} (size : W → ℕ) (p : Effects W) (laws : Laws p size) (n
   abbrev block_at : ℕ → Option Block
   block_at n = slice_get body.blocks n
 
-  does_same : (m n : ℕ) (block : Block) (next next' : Next W) → ((d : ℕ) → Contains (targets block.term) d → Same size m (next d) (next' d)) →
+  pub does_same : (m n : ℕ) (block : Block) (next next' : Next W) → ((d : ℕ) → Contains (targets block.term) d → Same size m (next d) (next' d)) →
       Same size m (does_block p number node body n block next) (does_block p number node body n block next')
   does_same m n block next next' e =
       block_same size (naming (stuck_in number n) p) (naming_laws size (stuck_in number n) p laws) m (node n) block next next' e
@@ -213,7 +213,7 @@ module _ {W : Type 0} (size : W → ℕ) (p : Effects W) (laws : Laws p size) (n
   kinds_same Kind.Turn n block turn turn' plain plain' w e d = e refl
   kinds_same Kind.Cleanup n block turn turn' plain plain' w e d = d refl
 
-  entering_same : (o : Option Block) (n : ℕ) (turn turn' plain plain' : Block → Next W) (w : W) →
+  pub entering_same : (o : Option Block) (n : ℕ) (turn turn' plain plain' : Block → Next W) (w : W) →
       ((block : Block) → o ≡ Some block → turn block n w ≡ turn' block n w) →
       ((block : Block) → o ≡ Some block → is_turn block ≡ false → plain block n w ≡ plain' block n w) →
       if_there p number node body o n (λ block. by_kind p number node body block.kind n block (turn block) (plain block)) w
@@ -251,6 +251,11 @@ module _ {W : Type 0} (size : W → ℕ) (p : Effects W) (laws : Laws p size) (n
   pub walk_less : (m most n : ℕ) → Keeps size m (walk p number node body most n)
   walk_less m most n = blocks_less (turns p number node body most) m (turns_less m most) (suc (rank_at p number node body n)) n
 
+  pub there_same : (o : Option Block) (n : ℕ) (does does' : Block → W → Out W) (w : W) → ((block : Block) → does block w ≡ does' block w) →
+      if_there p number node body o n does w ≡ if_there p number node body o n does' w
+  there_same None n does does' w e = refl
+  there_same (Some block) n does does' w e = e block
+
   module _ (ranked : IsRanked body) where
     -- bounds on blocks that are greater than the rank are never met
     blocks_same : (turn turn' : Next W) (m : ℕ) → ((d : ℕ) → Same size m (turn d) (turn' d)) → (r r' n : ℕ) →
@@ -277,11 +282,6 @@ module _ {W : Type 0} (size : W → ℕ) (p : Effects W) (laws : Laws p size) (n
 
     by_rank : (n : ℕ) (block : Block) → block_at n ≡ Some block → is_turn block ≡ false → block.rank < suc (rank_at p number node body n)
     by_rank n block h f = let k = rank_of n block h in omega arith
-
-    there_same : (o : Option Block) (n : ℕ) (does does' : Block → W → Out W) (w : W) → ((block : Block) → does block w ≡ does' block w) →
-        if_there p number node body o n does w ≡ if_there p number node body o n does' w
-    there_same None n does does' w e = refl
-    there_same (Some block) n does does' w e = e block
 
     from_rank_same : (turn turn' : Next W) (m : ℕ) → ((d : ℕ) → Same size m (turn d) (turn' d)) → (n : ℕ) →
         Same size m (from_rank p number node body turn n) (from_rank p number node body turn' n)

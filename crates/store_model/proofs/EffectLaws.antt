@@ -57,3 +57,14 @@ pub record Tied {W : Type 0} (p q : Effects W) (size : W → ℕ) (m : ℕ) : Ty
   pub panicking : (why : Why) (w : W) → size w ≤ m → p.panic why w ≡ q.panic why w
   pub ticking : (w : W) → size w ≤ m → p.tick w ≡ q.tick w
   pub giving : (site : Site) (w : W) → size w ≤ m → p.give site w ≡ q.give site w
+
+-- the same where less is left
+pub fewer_tied : {W : Type 0} (size : W → ℕ) (p q : Effects W) (m k : ℕ) → k ≤ m → Tied p q size m → Tied p q size k
+fewer_tied size p q m k h tied = record {
+  acting = λ action w l. tied.acting action w (omega arith);
+  choosing = λ test w l. tied.choosing test w (omega arith);
+  dropping = λ mode site w l. tied.dropping mode site w (omega arith);
+  panicking = λ why w l. tied.panicking why w (omega arith);
+  ticking = λ w l. tied.ticking w (omega arith);
+  giving = λ site w l. tied.giving site w (omega arith);
+}
