@@ -2,3 +2,4 @@ mod Examples
 pub mod FreeLaws
 pub mod ValuesLaws
 pub mod WalkLaws
+pub mod WalkTied

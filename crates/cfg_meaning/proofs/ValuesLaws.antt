@@ -1,380 +1,44 @@
--- The effects on values give no ticks back, if the bodies that are called give none, and those of a graph give none. So
--- the walk of a graph is one equation.
-use Rattle.std.proofs.Common.{ℕ, zero, suc, ◌≤◌, ℤ, Bool, true, false, List, [], ◌∷◌, Option, Some, None, slice_get, arith}
-use Rattle.std.specs.Option.{option_map_or, option_and_then}
+-- The bodies of a graph give no ticks back. So the walk of a graph is one equation, and its runs have no bound.
+use Rattle.std.proofs.Common.{◌≡◌, ℕ, zero, suc, refl, Bool, Option, Some, None, slice_get}
+use Rattle.std.specs.Option.{option_map_or}
 use Rattle.cfg_graph.specs.declared.graph.Body.{Body}
 use Rattle.cfg_graph.specs.declared.graph.Graph.{Graph}
-use Rattle.cfg_meaning.proofs.WalkLaws.{NoMore, NoMoreOf, Ticked, Laws, walk_less, walk_on, walk_same}
-use Rattle.cfg_meaning.specs.Laws.{WalkIsOneEquation, WalkHasNoBound}
+use Rattle.cfg_meaning.proofs.WalkLaws.{walk_less, walk_on, walk_same}
+use Rattle.cfg_meaning.proofs.WalkTied.{walk_tied}
+use Rattle.cfg_meaning.specs.Laws.{WalkIsOneEquation, WalkHasNoBound, GraphRunHasNoBound}
 use Rattle.cfg_meaning.specs.Programs.{setting_of, code_of}
-use Rattle.mir_base.specs.declared.int_kind.IntKind.{IntKind}
-use Rattle.mir_base.specs.declared.operator.Math.{Math}
-use Rattle.mir_base.specs.declared.trace.Event.{Event}
-use Rattle.store_model.specs.Acting.{Computed, Gives, PanicsBy, computed, or_no_step, used, taken, all_taken, taking, taking_two, taking_all, put, put_if, told, made_event, built, boxed, printed, if_nothing_numbered, freed, put_computed, compute, negate, within_bounds, bounded, answered, asked, chosen_truth, chosen_if, variant_tested, choose, called, act, give, dropped_if, nothing_if, drop, on_values}
-use Rattle.store_model.specs.declared.address.At.TheVariants.{Part, Inside}
-use Rattle.store_model.specs.Data.{Datum, Data, Gone, Number, Truth, UnitValue, Aggregate, Box, Address, no_part, a_part}
-use Rattle.store_model.specs.DropAt.{drop_body_out, unwinding_out, in_mode, same_if, still_found, Stage, Begins, HasRun, gone_at, freed_at, as_read, if_part, with_body, drop_value, drop_parts, dropped_there, drop_at}
-use Rattle.store_model.specs.Effects as effects
-use Rattle.store_model.specs.Effects.{Site, Operand, Kind, OfTuple, OfArray, OfVariant, OfClosure, Action, Test, Mode, Calm, Unwinding, Halt, NoStep, Out, Go, Unwind, Halts, Choice, Yes, No, Neither}
-use Rattle.store_model.specs.Entering.{ended, after_tick, run_body}
-use Rattle.store_model.specs.Standing.{Setting, Found, Standing, into, Reached, Reaches, CutOff, Nowhere, reach, on_reached, stored_at}
-use Rattle.store_model.specs.World.{World, telling, numbered_next, spend, tick, Answer, Returns, Unwinds, HaltsIn, Bodies}
-use Rattle.store_model.specs.Wholeness.{serials}
-
-abbrev ticks_of : World → ℕ
-ticks_of w = w.ticks
-
-record Kept (m : ℕ) (o : Out World) : Type 0 where
-  kept : NoMore ticks_of m o
-
-record KeptChoice (m : ℕ) (o : Choice World) : Type 0 where
-  kept : NoMoreOf ticks_of m o
-
-abbrev AnswerLess : ℕ → Answer → Type 0
-AnswerLess m (Returns value w) = w.ticks ≤ m
-AnswerLess m (Unwinds w) = w.ticks ≤ m
-AnswerLess m (HaltsIn halt w) = Unit {0}
-
-record KeptAnswer (m : ℕ) (a : Answer) : Type 0 where
-  kept : AnswerLess m a
-
-abbrev TakenLess : {A : Type 0} → ℕ → Option (A × World) → Type 0
-TakenLess m None = Unit {0}
-TakenLess m (Some t) = t.1.ticks ≤ m
-
-record KeptTaken {A : Type 0} (m : ℕ) (o : Option (A × World)) : Type 0 where
-  kept : TakenLess m o
-
--- bodies that give no ticks back
-abbrev Thrifty : Bodies → Type 0
-Thrifty run = (m : ℕ) (event : Event) (body : ℕ) (args : List Datum) (w : World) → w.ticks ≤ m → KeptAnswer m (run event body args w)
-
-module _ (m : ℕ) where
-  halted : (halt : Halt) (w : World) → Kept m (Halts halt w)
-  halted halt w = record { kept = tt }
-
-  goes : (w : World) → w.ticks ≤ m → Kept m (Go w)
-  goes w l = record { kept = l }
-
-  step_less : {A : Type 0} (o : Option A) (next : A → Out World) (w : World) → ((a : A) → Kept m (next a)) → Kept m (or_no_step o next w)
-  step_less None next w e = halted NoStep w
-  step_less (Some a) next w e = e a
-
-  reached_less : (r : Reached) (f : Standing → Out World) (cut_off nowhere : Out World) → ((s : Standing) → Kept m (f s)) → Kept m cut_off → Kept m nowhere →
-      Kept m (on_reached r f cut_off nowhere)
-  reached_less (Reaches s) f cut_off nowhere e d c = e s
-  reached_less CutOff f cut_off nowhere e d c = d
-  reached_less Nowhere f cut_off nowhere e d c = c
-
-  after_taken : {A : Type 0} (o : Option (A × World)) (next : A → World → Out World) (w : World) → KeptTaken m o →
-      ((a : A) (v : World) → v.ticks ≤ m → Kept m (next a v)) → Kept m (or_no_step o (λ t. next t.0 t.1) w)
-  after_taken None next w h e = halted NoStep w
-  after_taken (Some t) next w h e = e t.0 t.1 h.kept
-
-  taken_of : (o : Option Standing) (f : Standing → Datum × World) → ((s : Standing) → (f s).1.ticks ≤ m) →
-      KeptTaken m (option_map_or (λ s. Some (f s)) o None)
-  taken_of None f e = record { kept = tt }
-  taken_of (Some s) f e = record { kept = e s }
-
-  with_rest : (one : Datum) (o : Option (List Datum × World)) → KeptTaken m o →
-      KeptTaken m (option_map_or (λ (rest : List Datum × World). Some (one ∷ rest.0, rest.1)) o None)
-  with_rest one None h = record { kept = tt }
-  with_rest one (Some rest) h = record { kept = h.kept }
-
-  module _ (setting : Setting) where
-    taken_less : (operand : Operand) (w : World) → w.ticks ≤ m → KeptTaken m (taken setting operand w)
-    taken_less (effects.Copied site) w l = taken_of (used setting w site) (λ s. (s.value, w)) (λ s. l)
-    taken_less (effects.Moved site) w l = taken_of (used setting w site) (λ s. (s.value, stored_at s.address Gone w)) (λ s. l)
-    taken_less (effects.Number value kind) w l = record { kept = l }
-    taken_less (effects.Truth value) w l = record { kept = l }
-    taken_less effects.UnitValue w l = record { kept = l }
-
-    all_taken_less : (operands : List Operand) (w : World) → w.ticks ≤ m → KeptTaken m (all_taken setting operands w)
-    all_taken_less [] w l = record { kept = l }
-    all_taken_less (operand ∷ operands) w l = go (all_taken_less operands) (taken setting operand w) (taken_less operand w l)
-      where
-        go : ((v : World) → v.ticks ≤ m → KeptTaken m (all_taken setting operands v)) → (o : Option (Datum × World)) → KeptTaken m o →
-            KeptTaken m (option_and_then (λ (one : Datum × World). option_map_or (λ (rest : List Datum × World). Some (one.0 ∷ rest.0, rest.1)) (all_taken setting operands one.1) None) o)
-        go ih None h = record { kept = tt }
-        go ih (Some one) h = with_rest one.0 (all_taken setting operands one.1) (ih one.1 h.kept)
-
-    taking_less : (operand : Operand) (next : Datum → World → Out World) → ((d : Datum) (v : World) → v.ticks ≤ m → Kept m (next d v)) →
-        (w : World) → w.ticks ≤ m → Kept m (taking setting operand w next)
-    taking_less operand next e w l = after_taken (taken setting operand w) next w (taken_less operand w l) e
-
-    taking_two_less : (left right : Operand) (next : Datum → Datum → World → Out World) → ((a b : Datum) (v : World) → v.ticks ≤ m → Kept m (next a b v)) →
-        (w : World) → w.ticks ≤ m → Kept m (taking_two setting left right w next)
-    taking_two_less left right next e w l = taking_less left (λ a v. taking setting right v (next a)) (λ a v k. taking_less right (next a) (e a) v k) w l
-
-    taking_all_less : (operands : List Operand) (next : List Datum → World → Out World) → ((d : List Datum) (v : World) → v.ticks ≤ m → Kept m (next d v)) →
-        (w : World) → w.ticks ≤ m → Kept m (taking_all setting operands w next)
-    taking_all_less operands next e w l = after_taken (all_taken setting operands w) next w (all_taken_less operands w l) e
-
-    put_less : (to : Site) (value : Datum) (w : World) → w.ticks ≤ m → Kept m (put setting to value w)
-    put_less to value w l =
-        reached_less (reach setting w to.place) (λ s. Go (stored_at s.address value w)) (Halts NoStep w) (Halts NoStep w)
-        (λ s. goes (stored_at s.address value w) l) (halted NoStep w) (halted NoStep w)
-
-    put_if_less : (to : Site) (value : Option Datum) (w : World) → w.ticks ≤ m → Kept m (put_if setting to value w)
-    put_if_less to value w l = step_less value (λ v. put setting to v w) w (λ v. put_less to v w l)
-
-    told_less : (event : Event) (o : Out World) → Kept m o → Kept m (told setting event o)
-    told_less event (Go w) h = record { kept = h.kept }
-    told_less event (Unwind w) h = record { kept = h.kept }
-    told_less event (Halts halt w) h = record { kept = tt }
-
-    made_less : (adt : ℕ) (to : Site) (value : Datum) (of : Option (ℕ × ℕ)) (w : World) → w.ticks ≤ m → Kept m (made_event setting adt to value of w)
-    made_less adt to value None w l = put_less to value w l
-    made_less adt to value (Some of) w l = told_less (Event.Make adt w.serial) (put setting to value (numbered_next w)) (put_less to value (numbered_next w) l)
-
-    built_less : (to : Site) (kind : Kind) (parts : List Datum) (w : World) → w.ticks ≤ m → Kept m (built setting to kind parts w)
-    built_less to OfTuple parts w l = put_less to _ w l
-    built_less to OfArray parts w l = put_less to _ w l
-    built_less to (OfClosure closure) parts w l = put_less to _ w l
-    built_less to (OfVariant adt variant) parts w l = made_less adt to _ _ w l
-
-    boxed_less : (to : Site) (content : Datum) (w : World) → w.ticks ≤ m → Kept m (boxed setting to content w)
-    boxed_less to content w l =
-        told_less (Event.Boxed w.serial) (put setting to (Box w.serial None content) (numbered_next w)) (put_less to (Box w.serial None content) (numbered_next w) l)
-
-    printed_less : (value : Datum) (w : World) → w.ticks ≤ m → Kept m (printed setting value w)
-    printed_less (Number number) w l = record { kept = l }
-    printed_less _ w l = record { kept = tt }
-
-    unnumbered_less : (list : List ℕ) (freed : Out World) (w : World) → Kept m freed → Kept m (if_nothing_numbered setting list freed w)
-    unnumbered_less [] freed w h = h
-    unnumbered_less (serial ∷ list) freed w h = halted NoStep w
-
-    freed_less : (s : Standing) (value : Datum) (w : World) → w.ticks ≤ m → Kept m (freed setting s value w)
-    freed_less s (Box serial impl_no inside) w l =
-        unnumbered_less (serials inside) (Go (telling (Event.Freed serial) (stored_at s.address Gone w))) w (record { kept = l })
-    freed_less s _ w l = record { kept = tt }
-
-    put_computed_less : (to : Site) (answer : Computed) (w : World) → w.ticks ≤ m → Kept m (put_computed setting to answer w)
-    put_computed_less to (Gives number) w l = put_less to (Number number) w l
-    put_computed_less to (PanicsBy why) w l = record { kept = l }
-
-    compute_less : (to : Site) (operator : Math) (kind : Option IntKind) (a b : Datum) (w : World) → w.ticks ≤ m → Kept m (compute setting to operator kind a b w)
-    compute_less to operator (Some kind) (Number a) (Number b) w l = put_computed_less to (computed operator kind a b) w l
-    compute_less to operator _ _ _ w l = record { kept = tt }
-
-    negate_less : (to : Site) (kind : Option IntKind) (a : Datum) (w : World) → w.ticks ≤ m → Kept m (negate setting to kind a w)
-    negate_less to (Some kind) (Number a) w l = put_computed_less to _ w l
-    negate_less to _ _ w l = record { kept = tt }
-
-    within_less : (b : Bool) (w : World) → w.ticks ≤ m → Kept m (within_bounds setting b w)
-    within_less true w l = record { kept = l }
-    within_less false w l = record { kept = l }
-
-    bounded_less : (count : ℕ) (value : Datum) (w : World) → w.ticks ≤ m → Kept m (bounded setting count value w)
-    bounded_less count (Number number) w l = within_less _ w l
-    bounded_less count _ w l = record { kept = tt }
-
-    answered_less : (to : Site) (answer : Answer) → KeptAnswer m answer → Kept m (answered setting to answer)
-    answered_less to (Returns value w) h = put_less to value w h.kept
-    answered_less to (Unwinds w) h = record { kept = h.kept }
-    answered_less to (HaltsIn halt w) h = record { kept = tt }
-
-    asked_less : (to : Site) (numbers : List ℤ) (w : World) → w.ticks ≤ m → Kept m (asked setting to numbers w)
-    asked_less to [] w l = record { kept = l }
-    asked_less to (number ∷ rest) w l = told_less (Event.Asked number) _ (put_less to (Number number) (record w { asked = rest }) l)
-
-    truth_less : (o : Option (Datum × World)) (w : World) → KeptTaken m o → KeptChoice m (chosen_truth setting o w)
-    truth_less (Some (Truth true, v)) w h = record { kept = h.kept }
-    truth_less (Some (Truth false, v)) w h = record { kept = h.kept }
-    truth_less _ w h = record { kept = tt }
-
-    chosen_if_less : (b : Bool) (w : World) → w.ticks ≤ m → KeptChoice m (chosen_if setting b w)
-    chosen_if_less true w l = record { kept = l }
-    chosen_if_less false w l = record { kept = l }
-
-    variant_less : (variant : ℕ) (value : Datum) (w : World) → w.ticks ≤ m → KeptChoice m (variant_tested setting variant value w)
-    variant_less variant (Aggregate active serial parts) w l = chosen_if_less _ w l
-    variant_less variant _ w l = record { kept = tt }
-
-    tested_less : (variant : ℕ) (r : Reached) (w : World) → w.ticks ≤ m →
-        KeptChoice m (on_reached r (λ s. variant_tested setting variant s.value w) (Neither NoStep w) (Neither NoStep w))
-    tested_less variant (Reaches s) w l = variant_less variant s.value w l
-    tested_less variant CutOff w l = record { kept = tt }
-    tested_less variant Nowhere w l = record { kept = tt }
-
-    choose_less : (test : Test) (w : World) → w.ticks ≤ m → KeptChoice m (choose setting test w)
-    choose_less (effects.IsTrue operand) w l = truth_less (taken setting operand w) w (taken_less operand w l)
-    choose_less (effects.HasVariant site variant) w l = tested_less variant (reach setting w site.place) w l
-
-    module _ (run : Bodies) (thrifty : Thrifty run) where
-      called_less : (to : Site) (body : Option ℕ) (args : List Datum) (w : World) → w.ticks ≤ m → Kept m (called setting run to body args w)
-      called_less to body args w l =
-          step_less body (λ body. answered setting to (run (Event.Call body) body args w)) w
-          (λ body. answered_less to (run (Event.Call body) body args w) (thrifty m (Event.Call body) body args w l))
-
-      act_less : (action : Action) (w : World) → w.ticks ≤ m → Kept m (act setting run action w)
-      act_less (effects.Put to from) w l = taking_less from _ (put_less to) w l
-      act_less (effects.Compare to operator left right) w l = taking_two_less left right _ (λ a b v k. put_if_less to _ v k) w l
-      act_less (effects.Not to operand) w l = taking_less operand _ (λ d v k. put_if_less to _ v k) w l
-      act_less (effects.Build to kind parts) w l = taking_all_less parts _ (built_less to kind) w l
-      act_less (effects.NewBox to content) w l = taking_less content _ (boxed_less to) w l
-      act_less (effects.Unsize to trait_no operand) w l = taking_less operand _ (λ d v k. put_if_less to _ v k) w l
-      act_less (effects.Borrow to unique base) w l = step_less (used setting w base) _ w (λ s. put_less to (Address s.address) w l)
-      act_less (effects.Touch base) w l = step_less (used setting w base) _ w (λ s. goes w l)
-      act_less (effects.Print operand) w l = taking_less operand _ printed_less w l
-      act_less (effects.Forget operand) w l = taking_less operand _ (λ d v k. record { kept = k }) w l
-      act_less (effects.Free box) w l =
-          reached_less (reach setting w box.place) (λ s. freed setting s s.value w) (Halts NoStep w) (Halts NoStep w)
-          (λ s. freed_less s s.value w l) (halted NoStep w) (halted NoStep w)
-      act_less (effects.Compute to operator left right) w l = taking_two_less left right _ (compute_less to operator _) w l
-      act_less (effects.Negate to operand) w l = taking_less operand _ (negate_less to _) w l
-      act_less (effects.Bounds index count) w l = taking_less index _ (bounded_less count) w l
-      act_less (effects.Call to body args) w l = taking_all_less args _ (called_less to (Some body)) w l
-      act_less (effects.CallVirtual to trait_no method args) w l = taking_all_less args _ (λ values v k. called_less to _ values v k) w l
-      act_less (effects.Ask to) w l = asked_less to w.asked w l
-
-      give_less : (site : Site) (w : World) → w.ticks ≤ m → Kept m (give setting run site w)
-      give_less site w l = step_less (used setting w site) _ w (λ s. goes w l)
-
-      -- dropping
-
-      body_out_less : (mode : Mode) (answer : Answer) → KeptAnswer m answer → Kept m (drop_body_out mode answer)
-      body_out_less mode (Returns value w) h = record { kept = h.kept }
-      body_out_less Calm (Unwinds w) h = record { kept = h.kept }
-      body_out_less Unwinding (Unwinds w) h = record { kept = tt }
-      body_out_less mode (HaltsIn halt w) h = record { kept = tt }
-
-      unwinding_less : (o : Out World) → Kept m o → Kept m (unwinding_out o)
-      unwinding_less (Go w) h = record { kept = h.kept }
-      unwinding_less (Unwind w) h = record { kept = h.kept }
-      unwinding_less (Halts halt w) h = record { kept = tt }
-
-      in_mode_less : (mode : Mode) (o : Out World) (next : Mode → World → Out World) → Kept m o → ((mode : Mode) (v : World) → v.ticks ≤ m → Kept m (next mode v)) →
-          Kept m (in_mode mode o next)
-      in_mode_less mode (Go w) next h e = e mode w h.kept
-      in_mode_less mode (Unwind w) next h e = unwinding_less (next Unwinding w) (e Unwinding w h.kept)
-      in_mode_less mode (Halts halt w) next h e = record { kept = tt }
-
-      same_if_less : (b : Bool) (next : World → Out World) (w : World) → Kept m (next w) → Kept m (same_if b next w)
-      same_if_less true next w h = h
-      same_if_less false next w h = halted NoStep w
-
-      still_found_less : (found : Found) (o : Option Standing) (next : Standing → World → Out World) (w : World) → ((s : Standing) → Kept m (next s w)) →
-          Kept m (still_found found o next w)
-      still_found_less found None next w e = halted NoStep w
-      still_found_less found (Some s) next w e = same_if_less _ (next s) w (e s)
-
-      gone_less : (s : Standing) (w : World) → w.ticks ≤ m → Kept m (gone_at setting run s w)
-      gone_less s w l = still_found_less s.found _ (λ s w. Go (stored_at s.address Gone w)) w (λ s. record { kept = l })
-
-      freed_at_less : (serial : ℕ) (s : Standing) (w : World) → w.ticks ≤ m → Kept m (freed_at setting run serial s w)
-      freed_at_less serial s w l =
-          still_found_less s.found _ (λ s w. Go (telling (Event.Freed serial) (stored_at s.address Gone w))) w (λ s. record { kept = l })
-
-      module _ (again : Stage → Standing → Mode → World → Out World)
-          (again_less : (stage : Stage) (s : Standing) (mode : Mode) (w : World) → w.ticks ≤ m → Kept m (again stage s mode w)) (ticks : ℕ) where
-        read_less : (b : Bool) (drop : Standing → Mode → World → Out World) (s : Standing) (mode : Mode) (w : World) → w.ticks ≤ m →
-            Kept m (drop s mode w) → Kept m (as_read setting run again ticks b drop s mode w)
-        read_less true drop s mode w l h = h
-        read_less false drop s mode w l h = again_less Begins s mode w l
-
-        part_less : (o : Option Standing) (drop : Standing → Mode → World → Out World) (mode : Mode) (w : World) → w.ticks ≤ m →
-            ((s : Standing) → Kept m (drop s mode w)) → Kept m (if_part setting run again ticks o drop mode w)
-        part_less None drop mode w l e = halted NoStep w
-        part_less (Some s) drop mode w l e = read_less _ drop s mode w l (e s)
-
-        with_body_less : (of : Option (ℕ × ℕ)) (serial : Option ℕ) (s : Standing) (parts : Mode → World → Out World) (mode : Mode) (w : World) → w.ticks ≤ m →
-            ((mode : Mode) (v : World) → v.ticks ≤ m → Kept m (parts mode v)) → Kept m (with_body setting run again ticks of serial s parts mode w)
-        with_body_less None serial s parts mode w l e = e mode w l
-        with_body_less (Some of) serial s parts mode w l e =
-            in_mode_less mode _ (again HasRun s) (body_out_less mode _ (thrifty m _ of.1 (Address s.address ∷ []) w l)) (again_less HasRun s)
-
-        mutual
-          value_less : (value : Datum) (stage : Stage) (s : Standing) (mode : Mode) (w : World) → w.ticks ≤ m →
-              Kept m (drop_value setting run again ticks value stage s mode w)
-          value_less Gone stage s mode w l = goes w l
-          value_less (Number number) stage s mode w l = gone_less s w l
-          value_less (Truth truth) stage s mode w l = gone_less s w l
-          value_less UnitValue stage s mode w l = gone_less s w l
-          value_less (Address address) stage s mode w l = gone_less s w l
-          value_less (Aggregate variant serial parts) stage s mode w l =
-              with_body_less _ serial s _ mode w l
-              (λ mode v k. in_mode_less mode (drop_parts setting run again ticks parts zero s mode v) _ (parts_less parts zero s mode v k) (λ mode u j. gone_less s u j))
-          value_less (Box serial impl_no inside) stage s mode w l =
-              in_mode_less mode _ _ (part_less (into setting.items Inside s) (drop_value setting run again ticks inside Begins) mode w l (λ s. value_less inside Begins s mode w l))
-              (λ mode u j. freed_at_less serial s u j)
-
-          parts_less : (parts : Data) (n : ℕ) (s : Standing) (mode : Mode) (w : World) → w.ticks ≤ m →
-              Kept m (drop_parts setting run again ticks parts n s mode w)
-          parts_less no_part n s mode w l = goes w l
-          parts_less (a_part first rest) n s mode w l =
-              in_mode_less mode _ _ (part_less (into setting.items (Part n) s) (drop_value setting run again ticks first Begins) mode w l (λ s. value_less first Begins s mode w l))
-              (λ mode u j. parts_less rest (suc n) s mode u j)
-
-      drop_at_less : (n : ℕ) (stage : Stage) (s : Standing) (mode : Mode) (w : World) → w.ticks ≤ m → Kept m (drop_at setting run n stage s mode w)
-      drop_at_less zero stage s mode w l = record { kept = tt }
-      drop_at_less (suc n) stage s mode w l =
-          still_found_less s.found _ (dropped_there setting run (drop_at setting run n) stage mode) w
-          (λ s. value_less (drop_at setting run n) (drop_at_less n) w.ticks s.value stage s mode w l)
-
-      dropped_if_less : (bound : ℕ) (b : Bool) (mode : Mode) (s : Standing) (w : World) → w.ticks ≤ m → Kept m (dropped_if setting run bound b mode s w)
-      dropped_if_less bound true mode s w l = drop_at_less bound Begins s mode w l
-      dropped_if_less bound false mode s w l = halted NoStep w
-
-      nothing_if_less : (b : Bool) (w : World) → w.ticks ≤ m → Kept m (nothing_if setting run b w)
-      nothing_if_less true w l = halted NoStep w
-      nothing_if_less false w l = goes w l
-
-      drop_less : (bound : ℕ) (mode : Mode) (site : Site) (w : World) → w.ticks ≤ m → Kept m (drop setting run bound mode site w)
-      drop_less bound mode site w l =
-          reached_less (reach setting w site.place) _ (nothing_if setting run setting.strict w) (Halts NoStep w)
-          (λ s. dropped_if_less bound _ mode s w l) (nothing_if_less setting.strict w l) (halted NoStep w)
-
-spent : (n m : ℕ) (w : World) → n ≤ m → Ticked ticks_of m (spend n w)
-spent zero m w l = tt
-spent (suc n) m w l = l
-
-spent_less : (n m : ℕ) (w : World) → n ≤ m → NoMore ticks_of m (spend n w)
-spent_less zero m w l = tt
-spent_less (suc n) m w l = omega arith
-
-values_laws : (setting : Setting) (run : Bodies) → Thrifty run → (bound : ℕ) → Laws (on_values setting run bound) ticks_of
-values_laws setting run thrifty bound = record {
-  acting = λ action w. (act_less w.ticks setting run thrifty action w (omega arith)).kept;
-  choosing = λ test w. (choose_less w.ticks setting test w (omega arith)).kept;
-  dropping = λ mode site w. (drop_less w.ticks setting run thrifty bound mode site w (omega arith)).kept;
-  panicking = λ why w. omega arith;
-  ticking = λ w. spent w.ticks w.ticks w (omega arith);
-  giving = λ site w. (give_less w.ticks setting run thrifty site w (omega arith)).kept;
-}
-
-after_tick_less : (m : ℕ) (o : Out World) (next : World → Answer) → NoMore ticks_of m o → ((v : World) → v.ticks ≤ m → KeptAnswer m (next v)) →
-    KeptAnswer m (after_tick o next)
-after_tick_less m (Go w) next l e = e w l
-after_tick_less m (Unwind w) next l e = record { kept = l }
-after_tick_less m (Halts halt w) next l e = record { kept = tt }
-
-ended_less : (m body answer : ℕ) (o : Out World) → NoMore ticks_of m o → KeptAnswer m (ended body answer o)
-ended_less m body answer (Go w) l = record { kept = l }
-ended_less m body answer (Unwind w) l = record { kept = l }
-ended_less m body answer (Halts halt w) l = record { kept = tt }
+use Rattle.store_model.proofs.EffectLaws.{NoMore, Laws}
+use Rattle.store_model.proofs.ValuesEffects.{ticks_of, KeepsTicks, TiesTicks, values_laws, body_thrifty, bodies_agree}
+use Rattle.store_model.specs.Acting.{on_values}
+use Rattle.store_model.specs.Effects.{NoStep, Out, Halts}
+use Rattle.store_model.specs.Entering.{run_body}
+use Rattle.store_model.specs.World.{World, Bodies}
 
 if_body_less : (m : ℕ) (o : Option Body) (f : Body → Out World) (w : World) → ((body : Body) → NoMore ticks_of m (f body)) →
     NoMore ticks_of m (option_map_or f o (Halts NoStep w))
 if_body_less m None f w e = tt
 if_body_less m (Some body) f w e = e body
 
+if_body_same : (o : Option Body) (f f' : Body → Out World) (w : World) → ((body : Body) → f body ≡ f' body) →
+    option_map_or f o (Halts NoStep w) ≡ option_map_or f' o (Halts NoStep w)
+if_body_same None f f' w e = refl
+if_body_same (Some body) f f' w e = e body
+
+pub graph_keeps : (graph : Graph) → KeepsTicks (code_of graph)
+graph_keeps graph p laws turns number m w l =
+    if_body_less m (slice_get graph.bodies number) _ w (λ body. walk_less ticks_of p laws number (λ block line. 0) body m turns zero w l)
+
+pub graph_ties : (graph : Graph) → TiesTicks (code_of graph)
+graph_ties graph p q laws m tied turns turns' number h h' w l =
+    if_body_same (slice_get graph.bodies number) _ _ w
+    (λ body. walk_tied ticks_of p q laws number (λ block line. 0) body m tied turns turns' zero h h' w l)
+
 module _ (strict : Bool) (graph : Graph) where
   abbrev bodies : ℕ → Bodies
   bodies n = run_body (setting_of strict graph) (code_of graph) n
 
-  run_thrifty : (n : ℕ) → Thrifty (bodies n)
-  run_thrifty zero m event number args w l = record { kept = tt }
-  run_thrifty (suc n) m event number args w l =
-      after_tick_less m (tick w) _ (spent_less w.ticks m w l)
-      (λ v k. ended_less m number zero _
-      (if_body_less m (slice_get graph.bodies number) _ _
-      (λ body. walk_less ticks_of (on_values (setting_of strict graph) (bodies n) (suc n)) (values_laws (setting_of strict graph) (bodies n) (run_thrifty n) (suc n))
-      number (λ block line. zero) body m (suc n) zero _ k)))
-
   graph_laws : (n : ℕ) → Laws (on_values (setting_of strict graph) (bodies n) (suc n)) ticks_of
-  graph_laws n = values_laws (setting_of strict graph) (bodies n) (run_thrifty n) (suc n)
+  graph_laws n = values_laws (setting_of strict graph) (bodies n) (body_thrifty (setting_of strict graph) (code_of graph) (graph_keeps graph) n) (suc n)
 
 pub values_walk_on : WalkIsOneEquation
 values_walk_on strict graph n number node body ranked most block w l =
@@ -383,3 +47,6 @@ values_walk_on strict graph n number node body ranked most block w l =
 pub values_walk_same : WalkHasNoBound
 values_walk_same strict graph n number node body ranked most other block w l l' =
     walk_same ticks_of (on_values (setting_of strict graph) (bodies strict graph n) (suc n)) (graph_laws strict graph n) number node body ranked most other block w l l'
+
+pub values_nested : GraphRunHasNoBound
+values_nested strict graph = bodies_agree (setting_of strict graph) (code_of graph) (graph_keeps graph) (graph_ties graph)

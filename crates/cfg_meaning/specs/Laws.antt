@@ -1,13 +1,15 @@
 -- The laws of walks. The bounds by which a walk is defined are never met, so it is one equation without them.
-use Rattle.std.specs.Prelude.{◌≡◌, ℕ, suc, ◌<◌, Bool, length, Option}
+use Rattle.std.specs.Prelude.{◌≡◌, ℕ, suc, ◌<◌, ◌≤◌, Bool, List, length, Option}
 use Rattle.cfg_graph.specs.declared.graph.Body.{Body}
 use Rattle.cfg_graph.specs.declared.graph.Graph.{Graph}
 use Rattle.cfg_graph.specs.Edges.{IsRanked}
 use Rattle.cfg_meaning.specs.Programs.{setting_of, code_of}
 use Rattle.cfg_meaning.specs.Walk.{entered, walk}
+use Rattle.mir_base.specs.declared.trace.Event.{Event}
 use Rattle.mir_ty.specs.declared.ty.TyId.{TyId}
 use Rattle.mir_ty.specs.ItemTable.{ItemTable}
 use Rattle.store_model.specs.Acting.{on_values}
+use Rattle.store_model.specs.Data.{Datum}
 use Rattle.store_model.specs.Effects.{Effects}
 use Rattle.store_model.specs.Entering.{run_body}
 use Rattle.store_model.specs.Free.{Free, on_presence}
@@ -43,3 +45,9 @@ abbrev pub FreeWalkHasNoBound : Type 0
 FreeWalkHasNoBound = (items : ItemTable) (local_ty : ℕ → Option TyId) (number : ℕ) (node : ℕ → ℕ → ℕ) (body : Body) → IsRanked body →
     (most other block : ℕ) (w : Free) → length w.items < most → length w.items < other →
     walk (on_presence items local_ty) number node body most block w ≡ walk (on_presence items local_ty) number node body other block w
+
+-- Two bounds on nesting that are no less than the ticks give the same run of a body, whatever its graph is: the bounds on
+-- turns and on drops, which go with them, are never met.
+abbrev pub GraphRunHasNoBound : Type 0
+GraphRunHasNoBound = (strict : Bool) (graph : Graph) (n m : ℕ) (event : Event) (body : ℕ) (args : List Datum) (w : World) → w.ticks ≤ n → w.ticks ≤ m →
+    run_body (setting_of strict graph) (code_of graph) n event body args w ≡ run_body (setting_of strict graph) (code_of graph) m event body args w

@@ -1,6 +1,6 @@
 use Rattle.cfg_meaning.proofs.FreeLaws.{free_walk_on, free_walk_same}
-use Rattle.cfg_meaning.proofs.ValuesLaws.{values_walk_on, values_walk_same}
+use Rattle.cfg_meaning.proofs.ValuesLaws.{values_walk_on, values_walk_same, values_nested}
 use Rattle.cfg_meaning.proofs.laws.law_of_walks.Goals as goal
 
 pub returns : goal.returns
-returns c = record { values = values_walk_on; values_bound = values_walk_same; free = free_walk_on; free_bound = free_walk_same }
+returns c = record { values = values_walk_on; values_bound = values_walk_same; free = free_walk_on; free_bound = free_walk_same; nested = values_nested }
