@@ -1,1 +1,4 @@
+pub mod Alike
 mod Examples
+pub mod FormsAlike
+pub mod ProgramsAlike
