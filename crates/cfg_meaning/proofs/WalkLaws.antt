@@ -11,47 +11,12 @@ use Rattle.cfg_graph.specs.Edges.{IsRanked, targets, unwind_block, is_turn, is_t
 use Rattle.cfg_meaning.specs.Actions.{site_of, operand_of, operands_of, action_of, mode_of}
 use Rattle.cfg_meaning.specs.Walk.{Next, stuck_in, on_go, fork, branch, renamed, renamed_choice, naming, unwinding, stmts_do, acts, term_does, block_does, ticked, rank_at, does_block, does_turn, by_kind, if_there, entered, blocks, from_rank, turns, walk}
 use Rattle.mir_base.specs.declared.trace.Why.{Why}
+use Rattle.store_model.proofs.EffectLaws.{NoMore, NoMoreOf, Ticked, Laws, weaker, weaker_of, Same, Keeps}
 use Rattle.store_model.specs.Effects as effects
 use Rattle.store_model.specs.Effects.{Action, Test, Mode, Site, Halt, Aborted, NoStep, Out, Go, Unwind as Unwinds, Halts, Choice, Yes, No, Neither, Effects}
 use Rattle.store_model.specs.NamedPlace.{whole_local}
 
--- at most so much is left
-abbrev pub NoMore : {W : Type 0} → (W → ℕ) → ℕ → Out W → Type 0
-NoMore size m (Go w) = size w ≤ m
-NoMore size m (Unwinds w) = size w ≤ m
-NoMore size m (Halts halt w) = Unit {0}
-
-abbrev pub NoMoreOf : {W : Type 0} → (W → ℕ) → ℕ → Choice W → Type 0
-NoMoreOf size m (Yes w) = size w ≤ m
-NoMoreOf size m (No w) = size w ≤ m
-NoMoreOf size m (Neither halt w) = Unit {0}
-
--- where a run goes on, less than so much is left
-abbrev pub Ticked : {W : Type 0} → (W → ℕ) → ℕ → Out W → Type 0
-Ticked size m (Go w) = suc (size w) ≤ m
-Ticked size m (Unwinds w) = Unit {0}
-Ticked size m (Halts halt w) = Unit {0}
-
--- nothing is given back, and a turn takes something
-pub record Laws {W : Type 0} (p : Effects W) (size : W → ℕ) : Type 0 where
-  pub acting : (action : Action) (w : W) → NoMore size (size w) (p.act action w)
-  pub choosing : (test : Test) (w : W) → NoMoreOf size (size w) (p.choose test w)
-  pub dropping : (mode : Mode) (site : Site) (w : W) → NoMore size (size w) (p.drop mode site w)
-  pub panicking : (why : Why) (w : W) → size (p.panic why w) ≤ size w
-  pub ticking : (w : W) → Ticked size (size w) (p.tick w)
-  pub giving : (site : Site) (w : W) → NoMore size (size w) (p.give site w)
-
 module _ {W : Type 0} (size : W → ℕ) where
-  pub weaker : (m k : ℕ) (o : Out W) → k ≤ m → NoMore size k o → NoMore size m o
-  weaker m k (Go w) h l = omega arith
-  weaker m k (Unwinds w) h l = omega arith
-  weaker m k (Halts halt w) h l = tt
-
-  weaker_of : (m k : ℕ) (o : Choice W) → k ≤ m → NoMoreOf size k o → NoMoreOf size m o
-  weaker_of m k (Yes w) h l = omega arith
-  weaker_of m k (No w) h l = omega arith
-  weaker_of m k (Neither halt w) h l = tt
-
   -- effects that name where they halt keep the laws
   renamed_less : (name : Halt → Halt) (m : ℕ) (o : Out W) → NoMore size m o → NoMore size m (renamed name o)
   renamed_less name m (Go w) l = l
@@ -79,64 +44,57 @@ module _ {W : Type 0} (size : W → ℕ) where
   }
 
   module _ (m : ℕ) where
-    -- the same where at most so much is left
-    abbrev pub Same : (W → Out W) → (W → Out W) → Type 0
-    Same f f' = (w : W) → size w ≤ m → f w ≡ f' w
-
-    abbrev pub Keeps : (W → Out W) → Type 0
-    Keeps f = (w : W) → size w ≤ m → NoMore size m (f w)
-
-    go_same : (o : Out W) → NoMore size m o → (f f' : W → Out W) → Same f f' → on_go o f ≡ on_go o f'
+    go_same : (o : Out W) → NoMore size m o → (f f' : W → Out W) → Same size m f f' → on_go o f ≡ on_go o f'
     go_same (Go w) l f f' e = e w l
     go_same (Unwinds w) l f f' e = refl
     go_same (Halts halt w) l f f' e = refl
 
-    fork_same : (o : Out W) → NoMore size m o → (f f' h h' : W → Out W) → Same f f' → Same h h' → fork o f h ≡ fork o f' h'
+    fork_same : (o : Out W) → NoMore size m o → (f f' h h' : W → Out W) → Same size m f f' → Same size m h h' → fork o f h ≡ fork o f' h'
     fork_same (Go w) l f f' h h' e d = e w l
     fork_same (Unwinds w) l f f' h h' e d = d w l
     fork_same (Halts halt w) l f f' h h' e d = refl
 
-    branch_same : (o : Choice W) → NoMoreOf size m o → (f f' h h' : W → Out W) → Same f f' → Same h h' → branch o f h ≡ branch o f' h'
+    branch_same : (o : Choice W) → NoMoreOf size m o → (f f' h h' : W → Out W) → Same size m f f' → Same size m h h' → branch o f h ≡ branch o f' h'
     branch_same (Yes w) l f f' h h' e d = e w l
     branch_same (No w) l f f' h h' e d = d w l
     branch_same (Neither halt w) l f f' h h' e d = refl
 
     -- the ways on from an effect that may panic
     acts_same : (o : Out W) → NoMore size m o → (next next' : Next W) (to : ℕ) (unwind : Unwind) →
-        ((d : ℕ) → Contains (to ∷ (unwind_block unwind ++ [])) d → Same (next d) (next' d)) → acts o next to unwind ≡ acts o next' to unwind
+        ((d : ℕ) → Contains (to ∷ (unwind_block unwind ++ [])) d → Same size m (next d) (next' d)) → acts o next to unwind ≡ acts o next' to unwind
     acts_same o l next next' to (Unwind.Block b) e =
         fork_same o l (next to) (next' to) (next b) (next' b) (e to (0, omega arith, refl)) (e b (1, omega arith, refl))
     acts_same o l next next' to Unwind.Resume e = fork_same o l (next to) (next' to) _ _ (e to (0, omega arith, refl)) (λ w k. refl)
     acts_same o l next next' to Unwind.Abort e = fork_same o l (next to) (next' to) _ _ (e to (0, omega arith, refl)) (λ w k. refl)
 
     panics_same : (next next' : Next W) (unwind : Unwind) →
-        ((d : ℕ) → Contains (unwind_block unwind ++ []) d → Same (next d) (next' d)) → Same (unwinding unwind next) (unwinding unwind next')
+        ((d : ℕ) → Contains (unwind_block unwind ++ []) d → Same size m (next d) (next' d)) → Same size m (unwinding unwind next) (unwinding unwind next')
     panics_same next next' (Unwind.Block b) e = e b (0, omega arith, refl)
     panics_same next next' Unwind.Resume e = λ w k. refl
     panics_same next next' Unwind.Abort e = λ w k. refl
 
-    go_less : (o : Out W) → NoMore size m o → (f : W → Out W) → Keeps f → NoMore size m (on_go o f)
+    go_less : (o : Out W) → NoMore size m o → (f : W → Out W) → Keeps size m f → NoMore size m (on_go o f)
     go_less (Go w) l f e = e w l
     go_less (Unwinds w) l f e = tt
     go_less (Halts halt w) l f e = tt
 
-    fork_less : (o : Out W) → NoMore size m o → (f h : W → Out W) → Keeps f → Keeps h → NoMore size m (fork o f h)
+    fork_less : (o : Out W) → NoMore size m o → (f h : W → Out W) → Keeps size m f → Keeps size m h → NoMore size m (fork o f h)
     fork_less (Go w) l f h e d = e w l
     fork_less (Unwinds w) l f h e d = d w l
     fork_less (Halts halt w) l f h e d = tt
 
-    branch_less : (o : Choice W) → NoMoreOf size m o → (f h : W → Out W) → Keeps f → Keeps h → NoMore size m (branch o f h)
+    branch_less : (o : Choice W) → NoMoreOf size m o → (f h : W → Out W) → Keeps size m f → Keeps size m h → NoMore size m (branch o f h)
     branch_less (Yes w) l f h e d = e w l
     branch_less (No w) l f h e d = d w l
     branch_less (Neither halt w) l f h e d = tt
 
-    acts_less : (o : Out W) → NoMore size m o → (next : Next W) (to : ℕ) (unwind : Unwind) → ((d : ℕ) → Keeps (next d)) →
+    acts_less : (o : Out W) → NoMore size m o → (next : Next W) (to : ℕ) (unwind : Unwind) → ((d : ℕ) → Keeps size m (next d)) →
         NoMore size m (acts o next to unwind)
     acts_less o l next to (Unwind.Block b) e = fork_less o l (next to) (next b) (e to) (e b)
     acts_less o l next to Unwind.Resume e = fork_less o l (next to) _ (e to) (λ w k. k)
     acts_less o l next to Unwind.Abort e = fork_less o l (next to) _ (e to) (λ w k. tt)
 
-    panics_less : (next : Next W) (unwind : Unwind) → ((d : ℕ) → Keeps (next d)) → Keeps (unwinding unwind next)
+    panics_less : (next : Next W) (unwind : Unwind) → ((d : ℕ) → Keeps size m (next d)) → Keeps size m (unwinding unwind next)
     panics_less next (Unwind.Block b) e = e b
     panics_less next Unwind.Resume e = λ w k. k
     panics_less next Unwind.Abort e = λ w k. tt

@@ -2,8 +2,11 @@ mod CountLemmas
 mod DropExamples
 mod PlacePieces
 pub mod DataLemmas
+pub mod EffectLaws
+pub mod FreeEffects
 pub mod PartLaws
 pub mod PlaceLaws
 pub mod PlaceSteps
 pub mod SerialLaws
+pub mod ValuesEffects
 pub mod WholenessLaws

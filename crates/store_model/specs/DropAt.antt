@@ -91,7 +91,7 @@ module _ (setting : Setting) (run : Bodies) where
     with_body (Some of) serial s parts mode w =
         in_mode mode (drop_body_out mode (run (Event.Dropped of.0 (serial_or_none serial)) of.1 (Address s.address ∷ []) w)) (again HasRun s)
 
-    abbrev own_body : Stage → Option (ℕ × ℕ) → Option (ℕ × ℕ)
+    abbrev pub own_body : Stage → Option (ℕ × ℕ) → Option (ℕ × ℕ)
     own_body Begins of = of
     own_body HasRun of = None
 
