@@ -1,6 +1,6 @@
 -- Runs, and what leads to them, that do the same where at most so much is left, and give nothing of it back. Scopes are
 -- left alike, where the effects are alike.
-use Rattle.std.proofs.Common.{◌≡◌, ℕ, zero, suc, ◌<◌, ◌≤◌, ◌==◌, Bool, true, false, List, [], ◌∷◌, ◌++◌, if◌then◌else◌, refl, arith}
+use Rattle.std.proofs.Common.{◌≡◌, ℕ, suc, ◌≤◌, List, [], ◌∷◌, ◌++◌, refl, arith}
 use Rattle.mir_base.specs.declared.trace.Why.{Why}
 use Rattle.store_model.specs.Effects.{Site, Action, Test, Mode, Calm, Unwinding, Halt, Aborted, Out, Go, Unwind, Halts, aborting, Choice, Yes, No, Neither, Effects, on_go}
 use Rattle.src_meaning.specs.Forms.{Does, chosen}
@@ -31,7 +31,7 @@ pub data Alike {W : Type 0} (size : W → ℕ) (m : ℕ) : Run W → Run W → T
 abbrev pub AlikeOuts : {W : Type 0} → (W → ℕ) → ℕ → (W → Out W) → (W → Out W) → Type 0
 AlikeOuts {W} size k f f' = (w : W) → size w ≤ k → AlikeOut size (size w) (f w) (f' w)
 
-abbrev pub AlikeRuns : {W : Type 0} → (W → ℕ) → ℕ → (W → Run W) → (W → Run W) → Type 0
+abbrev AlikeRuns : {W : Type 0} → (W → ℕ) → ℕ → (W → Run W) → (W → Run W) → Type 0
 AlikeRuns {W} size k f f' = (w : W) → size w ≤ k → Alike size (size w) (f w) (f' w)
 
 abbrev pub AlikeDoes : {W : Type 0} → (W → ℕ) → ℕ → Does W → Does W → Type 0

@@ -1,14 +1,14 @@
 -- Each form is evaluated alike over effects that are alike, if its parts are.
-use Rattle.std.proofs.Common.{◌≡◌, ℕ, zero, suc, ◌<◌, ◌≤◌, ◌==◌, Bool, true, false, not, ◌||◌, List, [], ◌∷◌, Option, Some, None, if◌then◌else◌, refl, ap, subst, arith}
+use Rattle.std.proofs.Common.{◌≡◌, ℕ, zero, suc, ◌<◌, ◌≤◌, ◌==◌, Bool, true, false, List, [], ◌∷◌, Option, Some, None, if◌then◌else◌, refl, ap, subst, arith}
 use Rattle.mir_base.specs.declared.operator.Cmp.{Cmp}
 use Rattle.mir_base.specs.declared.trace.Why.{Why}
 use Rattle.mir_ty.specs.Facts.{needs_drop}
 use Rattle.mir_ty.specs.ItemTable.{ItemTable}
-use Rattle.store_model.specs.Effects.{Site, Operand, Moved, Copied, Number, Truth, UnitValue, Action, Put, Compare, Touch, Bounds, Borrow, Unsize, IsTrue, HasVariant, Calm, NoStep, OutOfTicks, Out, Go, Unwind, Halts, Choice, Yes, No, Neither, Effects, on_go}
+use Rattle.store_model.specs.Effects.{Site, Operand, Copied, Number, Truth, UnitValue, Action, Put, Compare, Touch, Bounds, Borrow, Unsize, IsTrue, HasVariant, Calm, NoStep, OutOfTicks, Out, Choice, Effects}
 use Rattle.store_model.specs.NamedPlace.{Place, whole_local}
-use Rattle.src_meaning.proofs.Alike.{AlikeOut, goes_on, unwinds, halts, AlikeChoice, takes, refuses, neither, AlikeTick, spends, unwinds_at_tick, halts_at_tick, Alike, is_at, is_over, AlikeOuts, AlikeRuns, AlikeDoes, AlikeEffects, weaker, weaker_out, weaker_choice, stays, goes, after_value, scoped, after_go, after_choice, leave_alike, value_or_leave}
-use Rattle.src_meaning.specs.Forms.{Destination, Into, Coerced, Around, in_loop, in_guard, aliases_with, Does, Meaning, entry_of, site_of_key, moved, keys_of, all_moved, site_of, is_never, when, deliver, in_own_scope, becomes_entry, operand, operands, acting, dropping, temporary, use_of_place, array_around, reach_element, borrowing, stored, panicking, replacing, dropped_first, assigning, condition, branch, put_unit, put_unit_if, tested, equals, tests_after, alternatives_after, holds, all_hold, any_holds, bind, touched, scrutinised, if_taken, no_arm, arms_in_order, matching, taken_arm, guarded, arm, statements, tail_of, block, evaluating, let_name, let_parts, declared, letting, ticked, turned, turns, ends_loop, jumping}
-use Rattle.src_meaning.specs.Scopes.{Scope, Scopes, entered, innermost, around_innermost, without_operands, Exit, Value, Breaks, Continues, Returns, Panics, Run, At, Over, in_scopes}
+use Rattle.src_meaning.proofs.Alike.{AlikeOut, goes_on, unwinds, halts, AlikeChoice, takes, refuses, neither, AlikeTick, spends, unwinds_at_tick, halts_at_tick, Alike, is_at, is_over, AlikeOuts, AlikeDoes, AlikeEffects, weaker, weaker_choice, stays, goes, after_value, scoped, after_go, after_choice, leave_alike, value_or_leave}
+use Rattle.src_meaning.specs.Forms.{Destination, Into, Coerced, Around, in_loop, aliases_with, Does, Meaning, site_of_key, moved, keys_of, all_moved, is_never, deliver, in_own_scope, operand, operands, acting, dropping, temporary, use_of_place, array_around, reach_element, borrowing, stored, replacing, dropped_first, assigning, condition, branch, put_unit, put_unit_if, tested, equals, tests_after, alternatives_after, holds, all_hold, any_holds, bind, touched, scrutinised, if_taken, arms_in_order, matching, taken_arm, guarded, arm, statements, tail_of, block, evaluating, let_name, let_parts, declared, letting, ticked, turned, turns, ends_loop, jumping}
+use Rattle.src_meaning.specs.Scopes.{Scope, Scopes, entered, innermost, around_innermost, without_operands, Exit, Value, Breaks, Continues, Returns, Panics, Run, At, in_scopes}
 use Rattle.src_meaning.specs.Shape.{Head, Shape, Aliases, PatternTest, IsVariant, IsNumber, IsTruth, AnyOf, PatternTests, no_test, a_test, Alternatives, no_alternative, an_alternative, Bound, site_at, operand_at}
 
 -- the same but for what happens where an arm is not taken, which is alike
@@ -40,8 +40,13 @@ pub data AlikeIfAny {W : Type 0} (size : W → ℕ) (k : ℕ) : Option (Meaning 
   without : AlikeIfAny size k None None
   with_one : (m m' : Meaning W) → AlikeMeaning size k m m' → AlikeIfAny size k (Some m) (Some m')
 
+-- bounds on turns that are one, or that are greater than what is left
+pub data AlikeBounds (k : ℕ) : ℕ → ℕ → Type 0 where
+  one_bound : (n : ℕ) → AlikeBounds k n n
+  great_bounds : (n n' : ℕ) → k < n → k < n' → AlikeBounds k n n'
+
 module _ {W : Type 0} (size : W → ℕ) (k : ℕ) where
-  pub same_keys : {ms ms' : List (Meaning W)} → AlikeMeanings size k ms ms' → keys_of ms ≡ keys_of ms'
+  same_keys : {ms ms' : List (Meaning W)} → AlikeMeanings size k ms ms' → keys_of ms ≡ keys_of ms'
   same_keys no_meaning = refl
   same_keys (and_means _ _ ms ms' (means h s e e' r r' ae ar) ts) = ap (λ keys. h.id ∷ keys) (same_keys ts)
 
@@ -52,13 +57,8 @@ module _ {W : Type 0} (size : W → ℕ) (k : ℕ) where
   pub within_loop : {a a' : Around W} (id : ℕ) (to : Destination) → AlikeAround size k a a' → AlikeAround size k (in_loop id to a) (in_loop id to a')
   within_loop id to (arounds answer loops aliases matched f f' d) = arounds answer ((id, to) ∷ loops) aliases matched f f' d
 
-  within_guard : {a a' : Around W} (bounds : List Bound) → AlikeAround size k a a' → AlikeAround size k (in_guard bounds a) (in_guard bounds a')
-  within_guard bounds (arounds answer loops aliases matched f f' d) = arounds answer loops (aliases_with bounds aliases) matched f f' d
-
-  within_match : {a a' : Around W} (place : Place) → AlikeAround size k a a' → AlikeAround size k (record a { matched = place }) (record a' { matched = place })
-  within_match place (arounds answer loops aliases matched f f' d) = arounds answer loops aliases place f f' d
-
-  or_else : {a a' : Around W} (g g' : Does W) → AlikeDoes size k g g' → AlikeAround size k a a' → AlikeAround size k (record a { otherwise = g }) (record a' { otherwise = g' })
+  or_else : {a a' : Around W} (g g' : Does W) → AlikeDoes size k g g' → AlikeAround size k a a' →
+      AlikeAround size k (record a { otherwise = g }) (record a' { otherwise = g' })
   or_else g g' c (arounds answer loops aliases matched f f' d) = arounds answer loops aliases matched g g' c
 
   module _ (items : ItemTable) (p q : Effects W) (alike : AlikeEffects size k p q) where
@@ -72,28 +72,34 @@ module _ {W : Type 0} (size : W → ℕ) (k : ℕ) where
     own_scope_alike true d S w l = leave_alike size k p q alike (size w) l (d (entered true S) w l)
     own_scope_alike false d S w l = d S w l
 
-    pub operand_alike : {a a' : Around W} {m m' : Meaning W} → AlikeAround size k a a' → AlikeMeaning size k m m' → AlikeDoes size k (operand items p a m) (operand items q a' m')
+    operand_alike : {a a' : Around W} {m m' : Meaning W} → AlikeAround size k a a' → AlikeMeaning size k m m' →
+        AlikeDoes size k (operand items p a m) (operand items q a' m')
     operand_alike {a} {a'} c (means h s e e' r r' ae ar) S w l = after_value size k (size w) l (ae a a' c false (Into h.id) _ w l) (λ S v j. stays size Value _ v)
 
-    pub operands_alike : {a a' : Around W} {ms ms' : List (Meaning W)} → AlikeAround size k a a' → AlikeMeanings size k ms ms' → AlikeDoes size k (operands items p a ms) (operands items q a' ms')
+    operands_alike : {a a' : Around W} {ms ms' : List (Meaning W)} → AlikeAround size k a a' → AlikeMeanings size k ms ms' →
+        AlikeDoes size k (operands items p a ms) (operands items q a' ms')
     operands_alike c no_meaning S w l = stays size Value S w
     operands_alike c (and_means _ _ ms ms' t ts) S w l = after_value size k (size w) l (operand_alike c t S w l) (operands_alike c ts)
 
-    pub acting_alike : {a a' : Around W} {ms ms' : List (Meaning W)} {act act' : Does W} → AlikeAround size k a a' → (own : Bool) → AlikeMeanings size k ms ms' → AlikeDoes size k act act' →
+    pub acting_alike : {a a' : Around W} {ms ms' : List (Meaning W)} {act act' : Does W} → AlikeAround size k a a' → (own : Bool) → AlikeMeanings size k ms ms' →
+        AlikeDoes size k act act' →
         AlikeDoes size k (acting items p a own ms act) (acting items q a' own ms' act')
     acting_alike {a} {a'} {ms} {ms'} {act} {act'} c own ts d S w l =
         leave_alike size k p q alike (size w) l (after_value size k (size w) l (operands_alike c ts (entered own S) w l)
         (λ S v j. subst (λ keys. Alike size (size v) (act (innermost (without_operands (keys_of ms)) S) v) (act' (innermost (without_operands keys) S) v)) (same_keys ts)
         (d (innermost (without_operands (keys_of ms)) S) v j)))
 
-    pub dropping_alike : {a a' : Around W} {m m' : Meaning W} {act act' : Does W} → AlikeAround size k a a' → (own : Bool) → AlikeMeaning size k m m' → AlikeDoes size k act act' →
+    pub dropping_alike : {a a' : Around W} {m m' : Meaning W} {act act' : Does W} → AlikeAround size k a a' → (own : Bool) → AlikeMeaning size k m m' →
+        AlikeDoes size k act act' →
         AlikeDoes size k (dropping items p a own m act) (dropping items q a' own m' act')
     dropping_alike c own t d S w l = leave_alike size k p q alike (size w) l (after_value size k (size w) l (operand_alike c t (entered own S) w l) d)
 
-    pub temporary_alike : {e e' : Around W → Bool → Destination → Does W} (h : Head) (s : Shape) → AlikeEvaluate size k e e' → AlikeReach size k (temporary items p h s e) (temporary items q h s e')
+    pub temporary_alike : {e e' : Around W → Bool → Destination → Does W} (h : Head) (s : Shape) → AlikeEvaluate size k e e' →
+        AlikeReach size k (temporary items p h s e) (temporary items q h s e')
     temporary_alike h s ae a a' c S w l = after_value size k (size w) l (ae a a' c false (Into h.id) _ w l) (λ S v j. stays size Value _ v)
 
-    pub use_alike : {r r' : Around W → Does W} (h : Head) (s : Shape) → AlikeReach size k r r' → AlikeEvaluate size k (use_of_place items p h s r) (use_of_place items q h s r')
+    pub use_alike : {r r' : Around W → Does W} (h : Head) (s : Shape) → AlikeReach size k r r' →
+        AlikeEvaluate size k (use_of_place items p h s r) (use_of_place items q h s r')
     use_alike h s ar _ _ (arounds answer loops aliases matched f f' d) own to =
         own_scope_alike own (λ S w l. after_value size k (size w) l (ar _ _ (arounds answer loops aliases matched f f' d) S w l)
         (deliver_alike h (λ site. Put site (operand_at h (s.place aliases))) to))
@@ -106,7 +112,8 @@ module _ {W : Type 0} (size : W → ℕ) (k : ℕ) where
         (λ S w l. scoped size S (size w) (after_go size k (size w) l (alike.acting (Touch (site_at h (array_around items p (s.place aliases)))) w l)
         (alike.acting (Bounds (Copied (site_of_key h'.id)) length)))))
 
-    pub borrowing_alike : {base base' : Meaning W} (h : Head) (unique : Bool) → AlikeMeaning size k base base' → AlikeEvaluate size k (borrowing items p h unique base) (borrowing items q h unique base')
+    pub borrowing_alike : {base base' : Meaning W} (h : Head) (unique : Bool) → AlikeMeaning size k base base' →
+        AlikeEvaluate size k (borrowing items p h unique base) (borrowing items q h unique base')
     borrowing_alike h unique (means h' s e e' r r' ae ar) _ _ (arounds answer loops aliases matched f f' d) own to =
         own_scope_alike own (λ S w l. after_value size k (size w) l (ar _ _ (arounds answer loops aliases matched f f' d) S w l)
         (deliver_alike h (λ site. Borrow site unique (site_at h' (s.place aliases))) to))
@@ -114,7 +121,8 @@ module _ {W : Type 0} (size : W → ℕ) (k : ℕ) where
     stored_alike : (site : Site) (key : ℕ) → AlikeDoes size k (stored items p site key) (stored items q site key)
     stored_alike site key S w l = scoped size _ (size w) (alike.acting (Put site (moved key)) w l)
 
-    replacing_alike : {o o' : Out W} (site : Site) (key : ℕ) (S : Scopes) (m : ℕ) → m ≤ k → AlikeOut size m o o' → Alike size m (replacing items p site key S o) (replacing items q site key S o')
+    replacing_alike : {o o' : Out W} (site : Site) (key : ℕ) (S : Scopes) (m : ℕ) → m ≤ k → AlikeOut size m o o' →
+        Alike size m (replacing items p site key S o) (replacing items q site key S o')
     replacing_alike site key S m b (goes_on w l) = weaker size (size w) m l (stored_alike site key S w (omega arith))
     replacing_alike site key S m b (unwinds w l) =
         weaker size (size w) m l (after_value size k (size w) (omega arith) (stored_alike site key S w (omega arith)) (λ S v j. stays size Panics S v))
@@ -134,13 +142,15 @@ module _ {W : Type 0} (size : W → ℕ) (k : ℕ) where
         (replacing_alike (site_at ph (ps.place aliases)) h'.id S (size w) l (dropped_first_alike (needs_drop items ph.ty) (site_at ph (ps.place aliases)) w l))
         (deliver_alike h (λ site. Put site UnitValue) to))))
 
-    pub condition_alike : {a a' : Around W} {m m' : Meaning W} {f f' g g' : Does W} → AlikeAround size k a a' → AlikeMeaning size k m m' → AlikeDoes size k f f' → AlikeDoes size k g g' →
+    pub condition_alike : {a a' : Around W} {m m' : Meaning W} {f f' g g' : Does W} → AlikeAround size k a a' → AlikeMeaning size k m m' → AlikeDoes size k f f' →
+        AlikeDoes size k g g' →
         AlikeDoes size k (condition items p a m f g) (condition items q a' m' f' g')
     condition_alike {a} {a'} c (means h s e e' r r' ae ar) d b S w l =
         after_value size k (size w) l (ae a a' c true (Into h.id) S w l)
         (λ S w l. after_choice size k (size w) l (alike.choosing (IsTrue (moved h.id)) w l) (d S) (b S))
 
-    pub branch_alike : {a a' : Around W} {o o' : Option (Meaning W)} {f f' : Does W} → AlikeAround size k a a' → (to : Destination) → AlikeIfAny size k o o' → AlikeDoes size k f f' →
+    pub branch_alike : {a a' : Around W} {o o' : Option (Meaning W)} {f f' : Does W} → AlikeAround size k a a' → (to : Destination) → AlikeIfAny size k o o' →
+        AlikeDoes size k f f' →
         AlikeDoes size k (branch items p a to o f) (branch items q a' to o' f')
     branch_alike c to without d S w l = d S w l
     branch_alike {a} {a'} c to (with_one _ _ (means h s e e' r r' ae ar)) d S w l = ae a a' c true to S w l
@@ -163,7 +173,8 @@ module _ {W : Type 0} (size : W → ℕ) (k : ℕ) where
     equals_alike : (site : Site) (value : Operand) → AlikeTests (equals items p site value) (equals items q site value)
     equals_alike site value w l = tested_alike (moved site.node) (size w) l (alike.acting (Compare (site_of_key site.node) Cmp.Eq (Copied site) value) w l)
 
-    after_tests : {o o' : Choice W} {f f' : W → Choice W} (m : ℕ) → m ≤ k → AlikeChoice size m o o' → AlikeTests f f' → AlikeChoice size m (tests_after items p o f) (tests_after items q o' f')
+    after_tests : {o o' : Choice W} {f f' : W → Choice W} (m : ℕ) → m ≤ k → AlikeChoice size m o o' → AlikeTests f f' →
+        AlikeChoice size m (tests_after items p o f) (tests_after items q o' f')
     after_tests m b (takes w l) e = weaker_choice size (size w) m l (e w (omega arith))
     after_tests m b (refuses w l) e = refuses w l
     after_tests m b (neither halt w) e = neither halt w
@@ -198,11 +209,13 @@ module _ {W : Type 0} (size : W → ℕ) (k : ℕ) where
     touched_alike true site S w l = scoped size S (size w) (alike.acting (Touch site) w l)
     touched_alike false site S w l = stays size Value S w
 
-    scrutinised_alike : {a a' : Around W} {m m' : Meaning W} → AlikeAround size k a a' → AlikeMeaning size k m m' → AlikeDoes size k (scrutinised items p a m) (scrutinised items q a' m')
+    scrutinised_alike : {a a' : Around W} {m m' : Meaning W} → AlikeAround size k a a' → AlikeMeaning size k m m' →
+        AlikeDoes size k (scrutinised items p a m) (scrutinised items q a' m')
     scrutinised_alike (arounds answer loops aliases matched f f' d) (means h s e e' r r' ae ar) S w l =
         after_value size k (size w) l (ar _ _ (arounds answer loops aliases matched f f' d) S w l) (touched_alike s.is_place (site_at h (s.place aliases)))
 
-    pub if_taken_alike : {a a' : Around W} {pattern pattern' m m' : Meaning W} {body body' g g' : Does W} → AlikeAround size k a a' → AlikeMeaning size k pattern pattern' → AlikeMeaning size k m m' →
+    pub if_taken_alike : {a a' : Around W} {pattern pattern' m m' : Meaning W} {body body' g g' : Does W} → AlikeAround size k a a' →
+        AlikeMeaning size k pattern pattern' → AlikeMeaning size k m m' →
         AlikeDoes size k body body' → AlikeDoes size k g g' → AlikeDoes size k (if_taken items p a pattern m body g) (if_taken items q a' pattern' m' body' g')
     if_taken_alike (arounds answer loops aliases matched f f' d) (means ph ps pe pe' pr pr' ape apr) (means h s e e' r r' ae ar) b c S w l =
         value_or_leave size k p q alike (size w) l (scrutinised_alike (arounds answer loops aliases matched f f' d) (means h s e e' r r' ae ar) (entered true S) w l)
@@ -210,11 +223,12 @@ module _ {W : Type 0} (size : W → ℕ) (k : ℕ) where
         (λ w l. leave_alike size k p q alike (size w) l (after_value size k (size w) l (bind_alike innermost (ps.bindings (s.place aliases)) S w l) b))
         (λ w l. after_value size k (size w) l (leave_alike size k p q alike (size w) l (stays size Value S w)) c))
 
-    pub arms_alike : {ms ms' : List (Meaning W)} → AlikeMeanings size k ms ms' → AlikeInto size k (arms_in_order items p ms) (arms_in_order items q ms')
+    arms_alike : {ms ms' : List (Meaning W)} → AlikeMeanings size k ms ms' → AlikeInto size k (arms_in_order items p ms) (arms_in_order items q ms')
     arms_alike no_meaning a a' c to S w l = scoped size S (size w) (alike.panicking Why.Match w l)
     arms_alike (and_means _ _ ms ms' (means h s e e' r r' ae ar) ts) a a' c to S w l = ae _ _ (or_else _ _ (arms_alike ts a a' c to) c) false to S w l
 
-    pub matching_alike : {m m' : Meaning W} {ms ms' : List (Meaning W)} → AlikeMeaning size k m m' → AlikeMeanings size k ms ms' → AlikeEvaluate size k (matching items p m ms) (matching items q m' ms')
+    pub matching_alike : {m m' : Meaning W} {ms ms' : List (Meaning W)} → AlikeMeaning size k m m' → AlikeMeanings size k ms ms' →
+        AlikeEvaluate size k (matching items p m ms) (matching items q m' ms')
     matching_alike (means h s e e' r r' ae ar) ts _ _ (arounds answer loops aliases matched f f' d) own to =
         own_scope_alike own (λ S w l. after_value size k (size w) l (scrutinised_alike (arounds answer loops aliases matched f f' d) (means h s e e' r r' ae ar) S w l)
         (arms_alike ts _ _ (arounds answer loops aliases (s.place aliases) f f' d) to))
@@ -224,20 +238,23 @@ module _ {W : Type 0} (size : W → ℕ) (k : ℕ) where
     taken_arm_alike {a} {a'} c bounds (means h s e e' r r' ae ar) to S w l =
         leave_alike size k p q alike (size w) l (after_value size k (size w) l (bind_alike innermost bounds (entered false S) w l) (ae a a' c true to))
 
-    guarded_alike : {a a' : Around W} {o o' : Option (Meaning W)} {g g' : Does W} → AlikeAround size k a a' → (bounds : List Bound) → AlikeIfAny size k o o' → AlikeDoes size k g g' →
+    guarded_alike : {a a' : Around W} {o o' : Option (Meaning W)} {g g' : Does W} → AlikeAround size k a a' → (bounds : List Bound) → AlikeIfAny size k o o' →
+        AlikeDoes size k g g' →
         AlikeDoes size k (guarded items p a bounds o g) (guarded items q a' bounds o' g')
     guarded_alike c bounds without b S w l = b S w l
     guarded_alike (arounds answer loops aliases matched f f' d) bounds (with_one _ _ t) b S w l =
         condition_alike (arounds answer loops (aliases_with bounds aliases) matched f f' d) t b d S w l
 
-    pub arm_alike : {pattern pattern' body body' : Meaning W} {o o' : Option (Meaning W)} → AlikeMeaning size k pattern pattern' → AlikeIfAny size k o o' → AlikeMeaning size k body body' →
+    pub arm_alike : {pattern pattern' body body' : Meaning W} {o o' : Option (Meaning W)} → AlikeMeaning size k pattern pattern' → AlikeIfAny size k o o' →
+        AlikeMeaning size k body body' →
         AlikeInto size k (arm items p pattern o body) (arm items q pattern' o' body')
     arm_alike (means ph ps pe pe' pr pr' ape apr) g t _ _ (arounds answer loops aliases matched f f' d) to S w l =
         after_choice size k (size w) l (all_alike (ps.tests matched) w l)
         (guarded_alike (arounds answer loops aliases matched f f' d) (ps.bindings matched) g (taken_arm_alike (arounds answer loops aliases matched f f' d) (ps.bindings matched) t to) S)
         (d S)
 
-    statements_alike : {a a' : Around W} {ms ms' : List (Meaning W)} → AlikeAround size k a a' → AlikeMeanings size k ms ms' → AlikeDoes size k (statements items p a ms) (statements items q a' ms')
+    statements_alike : {a a' : Around W} {ms ms' : List (Meaning W)} → AlikeAround size k a a' → AlikeMeanings size k ms ms' →
+        AlikeDoes size k (statements items p a ms) (statements items q a' ms')
     statements_alike c no_meaning S w l = stays size Value S w
     statements_alike {a} {a'} c (and_means _ _ ms ms' (means h s e e' r r' ae ar) ts) S w l =
         after_value size k (size w) l (ae a a' c false (Into h.id) S w l) (statements_alike c ts)
@@ -310,19 +327,31 @@ module _ {W : Type 0} (size : W → ℕ) (k : ℕ) where
     after_turn id m S0 (is_at Panics S w l) e = is_at Panics S w l
     after_turn id m S0 (is_over halt w) e = is_over halt w
 
-    -- bounds on turns that are greater than what is left are never met
-    pub turns_alike : {turn turn' : Does W} (most most' id : ℕ) → AlikeDoes size k turn turn' → (S : Scopes) (w : W) → size w ≤ k → size w < most → size w < most' →
-        Alike size (size w) (turns items p most id turn S w) (turns items q most' id turn' S w)
-    turns_alike zero most' id d S w l h h' = absurd (let never : ⊥ = omega arith in never)
-    turns_alike (suc most) zero id d S w l h h' = absurd (let never : ⊥ = omega arith in never)
-    turns_alike (suc most) (suc most') id d S w l h h' =
+    turns_of_one : {turn turn' : Does W} (most id : ℕ) → AlikeDoes size k turn turn' → AlikeDoes size k (turns items p most id turn) (turns items q most id turn')
+    turns_of_one zero id d S w l = is_over OutOfTicks w
+    turns_of_one (suc most) id d S w l =
         after_tick (size w) (alike.ticking w l)
-        (λ v j. after_turn id (size v) S (d S v (omega arith)) (λ T u i. turns_alike most most' id d T u (omega arith) (omega arith) (omega arith)))
+        (λ v j. after_turn id (size v) S (d S v (omega arith)) (λ T u i. turns_of_one most id d T u (omega arith)))
+
+    -- bounds that are greater than what is left are never met
+    great_turns : {turn turn' : Does W} (most most' id : ℕ) → AlikeDoes size k turn turn' → (S : Scopes) (w : W) → size w ≤ k → size w < most → size w < most' →
+        Alike size (size w) (turns items p most id turn S w) (turns items q most' id turn' S w)
+    great_turns zero most' id d S w l h h' = absurd (let never : ⊥ = omega arith in never)
+    great_turns (suc most) zero id d S w l h h' = absurd (let never : ⊥ = omega arith in never)
+    great_turns (suc most) (suc most') id d S w l h h' =
+        after_tick (size w) (alike.ticking w l)
+        (λ v j. after_turn id (size v) S (d S v (omega arith)) (λ T u i. great_turns most most' id d T u (omega arith) (omega arith) (omega arith)))
+
+    pub turns_alike : {most most' : ℕ} {turn turn' : Does W} (id : ℕ) → AlikeBounds k most most' → AlikeDoes size k turn turn' →
+        AlikeDoes size k (turns items p most id turn) (turns items q most' id turn')
+    turns_alike id (one_bound n) d S w l = turns_of_one n id d S w l
+    turns_alike id (great_bounds n n' h h') d S w l = great_turns n n' id d S w l (omega arith) (omega arith)
 
     pub end_alike : (h : Head) (to : Destination) → AlikeDoes size k (ends_loop items p h to) (ends_loop items q h to)
     end_alike h to S w l = after_value size k (size w) l (unit_alike h to S w l) (λ S v j. stays size (Breaks h.id) S v)
 
-    pub jumping_alike : {o o' : Option (Meaning W)} (exit : Exit) (h : Head) → AlikeIfAny size k o o' → AlikeInto size k (jumping items p exit h o) (jumping items q exit h o')
+    pub jumping_alike : {o o' : Option (Meaning W)} (exit : Exit) (h : Head) → AlikeIfAny size k o o' →
+        AlikeInto size k (jumping items p exit h o) (jumping items q exit h o')
     jumping_alike exit h without a a' c to S w l = after_value size k (size w) l (unit_alike h to S w l) (λ S v j. stays size exit S v)
     jumping_alike exit h (with_one _ _ (means h' s e e' r r' ae ar)) a a' c to S w l =
         after_value size k (size w) l (ae a a' c false to S w l) (λ S v j. stays size exit S v)

@@ -1,17 +1,17 @@
 -- Over effects that are alike a node has meanings that are alike, and a body does the same, whatever the bounds on the
--- turns of loops, if they are greater than what is left.
-use Rattle.std.proofs.Common.{◌≡◌, ℕ, zero, suc, ◌<◌, ◌≤◌, nat_lt, Bool, true, false, List, [], ◌∷◌, Option, if◌then◌else◌, refl, ap, subst, arith}
+-- turns of loops, if they are one or are greater than what is left.
+use Rattle.std.proofs.Common.{◌≡◌, ℕ, ◌≤◌, nat_lt, Bool, true, false, List, [], ◌∷◌, Option, if◌then◌else◌, refl, ap, subst, arith}
 use Rattle.mir_base.specs.declared.trace.Why.{Why}
 use Rattle.mir_ty.specs.ItemTable.{ItemTable}
 use Rattle.store_model.specs.Effects as effects
 use Rattle.store_model.specs.Effects.{Site, Operand, Action, OfTuple, OfArray, OfVariant, OfClosure, Halt, NoStep, Out, Effects, Unwinding}
 use Rattle.store_model.specs.NamedPlace.{whole_local}
 use Rattle.src_meaning.proofs.Alike.{AlikeOut, halts, unwinds, Alike, is_at, is_over, AlikeOuts, AlikeDoes, AlikeEffects, weaker_out, stays, after_value, scoped, after_drop, leave_alike}
-use Rattle.src_meaning.proofs.FormsAlike.{AlikeAround, arounds, AlikeEvaluate, AlikeReach, AlikeInto, AlikeMeaning, means, AlikeMeanings, no_meaning, and_means, AlikeIfAny, without, with_one, same_moved, within_loop, deliver_alike, own_scope_alike, acting_alike, dropping_alike, temporary_alike, use_alike, element_alike, borrowing_alike, assigning_alike, condition_alike, branch_alike, unit_alike, bind_alike, if_taken_alike, matching_alike, arm_alike, block_alike, evaluating_alike, letting_alike, turns_alike, end_alike, jumping_alike}
+use Rattle.src_meaning.proofs.FormsAlike.{AlikeBounds, AlikeAround, arounds, AlikeEvaluate, AlikeReach, AlikeInto, AlikeMeaning, means, AlikeMeanings, no_meaning, and_means, AlikeIfAny, without, with_one, same_moved, within_loop, deliver_alike, own_scope_alike, acting_alike, dropping_alike, temporary_alike, use_alike, element_alike, borrowing_alike, assigning_alike, condition_alike, branch_alike, unit_alike, bind_alike, if_taken_alike, matching_alike, arm_alike, block_alike, evaluating_alike, letting_alike, turns_alike, end_alike, jumping_alike}
 use Rattle.src_meaning.specs.Evaluation.{insert_field, in_number_order, values_of, made_in, to_own_key, a_value, a_place, on_operands, gives_unit, unit_after, in_scope_of_its_own, body_in, shortcut, coerce, a_pattern, meaning, meaning_of, meanings, fields_of, meaning_if_any}
 use Rattle.src_meaning.specs.Forms.{Destination, Into, coerced, Around, loop_destination, Does, Meaning, moved, all_moved, is_never, site_of_key, deliver, turns, jumping}
 use Rattle.src_meaning.specs.Programs.{param_names, params_entered, unwinds as further_unwinds, body_end, around_body, answer_key, activation}
-use Rattle.src_meaning.specs.Scopes.{Entry, Scopes, Exit, Value, Breaks, Continues, Returns, Panics, Run, At, Over, innermost, entry_site, all_entries}
+use Rattle.src_meaning.specs.Scopes.{Entry, Scopes, Value, Breaks, Continues, Returns, Panics, Run, At, innermost, entry_site, all_entries}
 use Rattle.src_meaning.specs.Shape.{Head, Shape, kind_of, shape, shape_of}
 use Rattle.typed_tree.specs.Nodes.{number_of}
 use Rattle.typed_tree.specs.Tree as tree
@@ -20,7 +20,8 @@ use Rattle.typed_tree.specs.Tree.{Node, node, Form, Nodes, no_node, a_node, Fiel
 -- fields with the same numbers, whose values are alike
 data AlikeFields {W : Type 0} (size : W → ℕ) (k : ℕ) : List (ℕ × Meaning W) → List (ℕ × Meaning W) → Type 0 where
   no_more : AlikeFields size k [] []
-  and_field : (n : ℕ) (m m' : Meaning W) (fs fs' : List (ℕ × Meaning W)) → AlikeMeaning size k m m' → AlikeFields size k fs fs' → AlikeFields size k ((n, m) ∷ fs) ((n, m') ∷ fs')
+  and_field : (n : ℕ) (m m' : Meaning W) (fs fs' : List (ℕ × Meaning W)) → AlikeMeaning size k m m' → AlikeFields size k fs fs' →
+      AlikeFields size k ((n, m) ∷ fs) ((n, m') ∷ fs')
 
 module _ {W : Type 0} (size : W → ℕ) (k : ℕ) where
   values_alike : {fs fs' : List (ℕ × Meaning W)} → AlikeFields size k fs fs' → AlikeMeanings size k (values_of fs) (values_of fs')
@@ -48,17 +49,21 @@ module _ {W : Type 0} (size : W → ℕ) (k : ℕ) where
   evaluated : {m m' : Meaning W} → AlikeMeaning size k m m' → AlikeEvaluate size k m.evaluate m'.evaluate
   evaluated (means h s e e' r r' ae ar) = ae
 
-  module _ (items : ItemTable) (p q : Effects W) (alike : AlikeEffects size k p q) (most most' : ℕ) (enough : k < most) (enough' : k < most') where
-    made_alike : {e e' : Around W → Bool → Destination → Does W} (h : Head) → AlikeEvaluate size k e e' → AlikeEvaluate size k (made_in items p most h e) (made_in items q most' h e')
+  module _ (items : ItemTable) (p q : Effects W) (alike : AlikeEffects size k p q) (most most' : ℕ) (bounds : AlikeBounds k most most') where
+    made_alike : {e e' : Around W → Bool → Destination → Does W} (h : Head) → AlikeEvaluate size k e e' →
+        AlikeEvaluate size k (made_in items p most h e) (made_in items q most' h e')
     made_alike h ae a a' c own to = ae a a' c own (to_own_key items p most (is_never items h.ty) h.id to)
 
-    value_alike : {e e' : Around W → Bool → Destination → Does W} (h : Head) (s : Shape) → AlikeEvaluate size k e e' → AlikeMeaning size k (a_value items p most h s e) (a_value items q most' h s e')
+    value_alike : {e e' : Around W → Bool → Destination → Does W} (h : Head) (s : Shape) → AlikeEvaluate size k e e' →
+        AlikeMeaning size k (a_value items p most h s e) (a_value items q most' h s e')
     value_alike h s ae = means h s _ _ _ _ (made_alike h ae) (temporary_alike size k items p q alike h s (made_alike h ae))
 
-    place_alike : {r r' : Around W → Does W} (h : Head) (s : Shape) → AlikeReach size k r r' → AlikeMeaning size k (a_place items p most h s r) (a_place items q most' h s r')
+    place_alike : {r r' : Around W → Does W} (h : Head) (s : Shape) → AlikeReach size k r r' →
+        AlikeMeaning size k (a_place items p most h s r) (a_place items q most' h s r')
     place_alike h s ar = means h s _ _ _ _ (made_alike h (use_alike size k items p q alike h s ar)) ar
 
-    in_own_alike : {e e' : Around W → Destination → Does W} → AlikeInto size k e e' → AlikeEvaluate size k (in_scope_of_its_own items p most e) (in_scope_of_its_own items q most' e')
+    in_own_alike : {e e' : Around W → Destination → Does W} → AlikeInto size k e e' →
+        AlikeEvaluate size k (in_scope_of_its_own items p most e) (in_scope_of_its_own items q most' e')
     in_own_alike d a a' c own to = own_scope_alike size k items p q alike own (d a a' c to)
 
     effect_alike : (h : Head) (s : Shape) (action : Site → Action) →
@@ -84,9 +89,14 @@ module _ {W : Type 0} (size : W → ℕ) (k : ℕ) where
         on_operands_alike h s (and_means _ _ _ _ (means mh ms me me' mr mr' ame amr) (and_means _ _ [] [] (means h' s' e e' r r' ae ar) no_meaning))
         (action (moved mh.id) (moved h'.id)) (action (moved mh.id) (moved h'.id)) refl
 
-    on_all : {ms ms' ns ns' : List (Meaning W)} (h : Head) (s : Shape) (action : List Operand → Site → Action) → AlikeMeanings size k ms ms' → AlikeMeanings size k ns ns' →
+    on_all : {ms ms' ns ns' : List (Meaning W)} (h : Head) (s : Shape) (action : List Operand → Site → Action) → AlikeMeanings size k ms ms' →
+        AlikeMeanings size k ns ns' →
         AlikeMeaning size k (on_operands items p most h s ms (action (all_moved ns))) (on_operands items q most' h s ms' (action (all_moved ns')))
     on_all {ms} {ms'} {ns} {ns'} h s action ts us = on_operands_alike h s ts (action (all_moved ns)) (action (all_moved ns')) (ap action (same_moved size k us))
+
+    on_these : {ms ms' : List (Meaning W)} (h : Head) (s : Shape) (action : List Operand → Site → Action) → AlikeMeanings size k ms ms' →
+        AlikeMeaning size k (on_operands items p most h s ms (action (all_moved ms))) (on_operands items q most' h s ms' (action (all_moved ms')))
+    on_these h s action ts = on_all h s action ts ts
 
     unit_after_alike : (h : Head) (action : Action) (to : Destination) → AlikeDoes size k (unit_after items p most h action to) (unit_after items q most' h action to)
     unit_after_alike h action to S w l =
@@ -98,7 +108,8 @@ module _ {W : Type 0} (size : W → ℕ) (k : ℕ) where
         value_alike h s (λ a a' c own to. acting_alike size k items p q alike c own (and_means _ _ [] [] (means h' s' e e' r r' ae ar) no_meaning)
         (unit_after_alike h (action (moved h'.id)) to))
 
-    coerce_alike : {m m' : Meaning W} (h : Head) (trait_no : ℕ) → AlikeMeaning size k m m' → AlikeEvaluate size k (coerce items p most h trait_no m) (coerce items q most' h trait_no m')
+    coerce_alike : {m m' : Meaning W} (h : Head) (trait_no : ℕ) → AlikeMeaning size k m m' →
+        AlikeEvaluate size k (coerce items p most h trait_no m) (coerce items q most' h trait_no m')
     coerce_alike h trait_no (means h' s' e e' r r' ae ar) a a' c own to = ae a a' c own (coerced h'.id trait_no to)
 
     body_alike : {m m' : Meaning W} → AlikeMeaning size k m m' → AlikeReach size k (body_in items p most m) (body_in items q most' m')
@@ -108,7 +119,7 @@ module _ {W : Type 0} (size : W → ℕ) (k : ℕ) where
     shortcut_alike h truth to = deliver_alike size k items p q alike h (λ site. effects.Put site (effects.Truth truth)) to
 
     loop_alike : {turn turn' : Does W} (id : ℕ) → AlikeDoes size k turn turn' → AlikeDoes size k (turns items p most id turn) (turns items q most' id turn')
-    loop_alike id d S w l = turns_alike size k items p q alike most most' id d S w l (omega arith) (omega arith)
+    loop_alike id d = turns_alike size k items p q alike id bounds d
 
     break_alike : {o o' : Option (Meaning W)} (loop : ℕ) (h : Head) → AlikeIfAny size k o o' →
         AlikeInto size k (λ a to. jumping items p (Breaks loop) h o a (loop_destination loop a.loops)) (λ a to. jumping items q (Breaks loop) h o' a (loop_destination loop a.loops))
@@ -124,7 +135,7 @@ module _ {W : Type 0} (size : W → ℕ) (k : ℕ) where
     pattern_alike h s = value_alike h s (λ a a' c own to S w l. stays size Value S w)
 
     mutual
-      pub meaning_alike : (n : Node) → AlikeMeaning size k (meaning items p most n) (meaning items q most' n)
+      meaning_alike : (n : Node) → AlikeMeaning size k (meaning items p most n) (meaning items q most' n)
       meaning_alike (node id at ty by form) = form_alike form (record { id = id; ty = ty; by = by }) (shape_of items form (record { id = id; ty = ty; by = by }))
 
       form_alike : (form : Form) (h : Head) (s : Shape) → AlikeMeaning size k (meaning_of items p most form h s) (meaning_of items q most' form h s)
@@ -150,19 +161,19 @@ module _ {W : Type 0} (size : W → ℕ) (k : ℕ) where
           value_alike h s (in_own_alike (λ a a' c to. condition_alike size k items p q alike c (meaning_alike left)
           (shortcut_alike h true to) (evaluated (meaning_alike right) a a' c true to)))
       form_alike (tree.Assign place value) h s = value_alike h s (assigning_alike size k items p q alike h (meaning_alike place) (meaning_alike value))
-      form_alike (tree.Call body args) h s = on_all h s (λ list site. effects.Call site body list) (meanings_alike args) (meanings_alike args)
+      form_alike (tree.Call body args) h s = on_these h s (λ list site. effects.Call site body list) (meanings_alike args)
       form_alike (tree.MethodCall body receiver args) h s =
-          on_all h s (λ list site. effects.Call site body list) (and_means _ _ _ _ (meaning_alike receiver) (meanings_alike args)) (and_means _ _ _ _ (meaning_alike receiver) (meanings_alike args))
+          on_these h s (λ list site. effects.Call site body list) (and_means _ _ _ _ (meaning_alike receiver) (meanings_alike args))
       form_alike (tree.VirtualCall trait_no method receiver args) h s =
-          on_all h s (λ list site. effects.CallVirtual site trait_no method list) (and_means _ _ _ _ (meaning_alike receiver) (meanings_alike args)) (and_means _ _ _ _ (meaning_alike receiver) (meanings_alike args))
+          on_these h s (λ list site. effects.CallVirtual site trait_no method list) (and_means _ _ _ _ (meaning_alike receiver) (meanings_alike args))
       form_alike (tree.ClosureCall body callee args) h s =
-          on_all h s (λ list site. effects.Call site body list) (and_means _ _ _ _ (meaning_alike callee) (meanings_alike args)) (and_means _ _ _ _ (meaning_alike callee) (meanings_alike args))
+          on_these h s (λ list site. effects.Call site body list) (and_means _ _ _ _ (meaning_alike callee) (meanings_alike args))
       form_alike (tree.Make adt variant fields) h s =
           on_all h s (λ list site. effects.Build site (OfVariant adt variant) list) (values_alike (fields_alike fields)) (values_alike (ordered_alike (fields_alike fields)))
-      form_alike (tree.Tuple parts) h s = on_all h s (λ list site. effects.Build site OfTuple list) (meanings_alike parts) (meanings_alike parts)
-      form_alike (tree.Array elements) h s = on_all h s (λ list site. effects.Build site OfArray list) (meanings_alike elements) (meanings_alike elements)
+      form_alike (tree.Tuple parts) h s = on_these h s (λ list site. effects.Build site OfTuple list) (meanings_alike parts)
+      form_alike (tree.Array elements) h s = on_these h s (λ list site. effects.Build site OfArray list) (meanings_alike elements)
       form_alike (tree.Closure closure captures) h s =
-          on_all h s (λ list site. effects.Build site (OfClosure closure) list) (meanings_alike captures) (meanings_alike captures)
+          on_these h s (λ list site. effects.Build site (OfClosure closure) list) (meanings_alike captures)
       form_alike (tree.NewBox content) h s = on_one h s (λ v site. effects.NewBox site v) (meaning_alike content)
       form_alike (tree.Print operand) h s = gives_unit_alike h s effects.Print (meaning_alike operand)
       form_alike tree.Ask h s = effect_alike h s effects.Ask
@@ -220,7 +231,8 @@ module _ {W : Type 0} (size : W → ℕ) (k : ℕ) where
 
     -- bodies
 
-    names_if : {r r' : Run W} (b : Bool) (S : Scopes) (w : W) → Alike size (size w) r r' → Alike size (size w) (if b then At Value S w else r) (if b then At Value S w else r')
+    names_if : {r r' : Run W} (b : Bool) (S : Scopes) (w : W) → Alike size (size w) r r' →
+        Alike size (size w) (if b then At Value S w else r) (if b then At Value S w else r')
     names_if true S w e = stays size Value S w
     names_if false S w e = e
 

@@ -91,7 +91,7 @@ is_never_ty _ = false
 abbrev pub is_never : ItemTable → TyId → Bool
 is_never items id = option_map_or is_never_ty (type_at items id) false
 
-abbrev pub when : {A : Type 0} → Bool → (A → A) → A → A
+abbrev when : {A : Type 0} → Bool → (A → A) → A → A
 when true change a = change a
 when false change a = a
 
@@ -114,7 +114,7 @@ module _ {W : Type 0} (items : ItemTable) (p : Effects W) where
   in_own_scope true does S w = leave p (does (entered true S) w)
   in_own_scope false does S w = does S w
 
-  abbrev pub becomes_entry : Entry → Scope → Scope
+  abbrev becomes_entry : Entry → Scope → Scope
   becomes_entry e s = with_entry items e (without_pending e s)
 
   -- an operand is made, and becomes an entry of the innermost scope
@@ -169,7 +169,7 @@ module _ {W : Type 0} (items : ItemTable) (p : Effects W) where
   abbrev pub stored : Site → ℕ → Scopes → W → Run W
   stored site key S w = in_scopes (innermost (without_operands (key ∷ [])) S) (p.act (Put site (moved key)) w)
 
-  abbrev pub panicking : Run W → Run W
+  abbrev panicking : Run W → Run W
   panicking run = on_value run (At Panics)
 
   abbrev pub replacing : Site → ℕ → Scopes → Out W → Run W
@@ -269,7 +269,7 @@ module _ {W : Type 0} (items : ItemTable) (p : Effects W) where
       (λ w. on_value (leave p (At Value S w)) otherwise))
 
   -- no arm is left
-  abbrev pub no_arm : Does W
+  abbrev no_arm : Does W
   no_arm S w = At Panics S (p.panic Why.Match w)
 
   abbrev pub arms_in_order : List (Meaning W) → Around W → Destination → Does W
