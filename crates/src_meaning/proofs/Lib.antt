@@ -1,1 +1,5 @@
+pub mod Alike
 mod Examples
+pub mod FormsAlike
+pub mod ProgramsAlike
+pub mod RunLaws

@@ -13,7 +13,7 @@ use Rattle.src_meaning.specs.Forms as forms
 use Rattle.src_meaning.specs.Forms.{Destination, Into, coerced, Around, in_loop, loop_destination, Does, Meaning, moved, all_moved, is_never}
 
 -- fields in the order of their numbers, which is that of the parts
-abbrev insert_field : {A : Type 0} → ℕ → A → List (ℕ × A) → List (ℕ × A)
+abbrev pub insert_field : {A : Type 0} → ℕ → A → List (ℕ × A) → List (ℕ × A)
 insert_field n a [] = (n, a) ∷ []
 insert_field n a (f ∷ fields) = if nat_lt n f.0 then (n, a) ∷ f ∷ fields else f ∷ insert_field n a fields
 
@@ -21,7 +21,7 @@ abbrev pub in_number_order : {A : Type 0} → List (ℕ × A) → List (ℕ × A
 in_number_order [] = []
 in_number_order (f ∷ fields) = insert_field f.0 f.1 (in_number_order fields)
 
-abbrev values_of : {W : Type 0} → List (ℕ × Meaning W) → List (Meaning W)
+abbrev pub values_of : {W : Type 0} → List (ℕ × Meaning W) → List (Meaning W)
 values_of fields = map (λ f. f.1) fields
 
 module _ {W : Type 0} (items : ItemTable) (p : Effects W) (most_turns : ℕ) where
@@ -29,44 +29,44 @@ module _ {W : Type 0} (items : ItemTable) (p : Effects W) (most_turns : ℕ) whe
   Evaluates = Around W → Bool → Destination → Does W
 
   -- what is made by a node of type `!` is made nowhere
-  abbrev to_own_key : Bool → ℕ → Destination → Destination
+  abbrev pub to_own_key : Bool → ℕ → Destination → Destination
   to_own_key true id to = Into id
   to_own_key false id to = to
 
-  abbrev made_in : Head → Evaluates → Evaluates
+  abbrev pub made_in : Head → Evaluates → Evaluates
   made_in h evaluate around own to = evaluate around own (to_own_key (is_never items h.ty) h.id to)
 
-  abbrev a_value : Head → Shape → Evaluates → Meaning W
+  abbrev pub a_value : Head → Shape → Evaluates → Meaning W
   a_value h s evaluate = record { head = h; shape = s; evaluate = made_in h evaluate; reach = forms.temporary items p h s (made_in h evaluate) }
 
-  abbrev a_place : Head → Shape → (Around W → Does W) → Meaning W
+  abbrev pub a_place : Head → Shape → (Around W → Does W) → Meaning W
   a_place h s reach = record { head = h; shape = s; evaluate = made_in h (forms.use_of_place items p h s reach); reach = reach }
 
   -- one effect, whose answer goes to the destination; one effect after the operands are made
   abbrev effect : Head → Shape → (Site → Action) → Meaning W
   effect h s action = a_value h s (λ around own to. forms.in_own_scope items p own (forms.deliver items p h action to))
 
-  abbrev on_operands : Head → Shape → List (Meaning W) → (Site → Action) → Meaning W
+  abbrev pub on_operands : Head → Shape → List (Meaning W) → (Site → Action) → Meaning W
   on_operands h s ms action = a_value h s (λ around own to. forms.acting items p around own ms (forms.deliver items p h action to))
 
   -- an action without an answer gives `()`
-  abbrev unit_after : Head → Action → Destination → Does W
+  abbrev pub unit_after : Head → Action → Destination → Does W
   unit_after h action to S w = on_value (in_scopes S (p.act action w)) (forms.put_unit items p h to)
 
-  abbrev gives_unit : Head → Shape → Meaning W → Action → Meaning W
+  abbrev pub gives_unit : Head → Shape → Meaning W → Action → Meaning W
   gives_unit h s m action = a_value h s (λ around own to. forms.acting items p around own (m ∷ []) (unit_after h action to))
 
   abbrev a_statement : Head → Shape → (Around W → Does W) → Meaning W
   a_statement h s does = a_value h s (λ around own to. does around)
 
   -- a pattern is not evaluated: its shape has its tests and its names
-  abbrev a_pattern : Head → Shape → Meaning W
+  abbrev pub a_pattern : Head → Shape → Meaning W
   a_pattern h s = a_value h s (λ around own to. At Value)
 
-  abbrev in_scope_of_its_own : (Around W → Destination → Does W) → Evaluates
+  abbrev pub in_scope_of_its_own : (Around W → Destination → Does W) → Evaluates
   in_scope_of_its_own does around own to = forms.in_own_scope items p own (does around to)
 
-  abbrev shortcut : Head → Bool → Destination → Does W
+  abbrev pub shortcut : Head → Bool → Destination → Does W
   shortcut h truth to = forms.deliver items p h (λ site. effects.Put site (effects.Truth truth)) to
 
   -- `left && right` is `if left { right } else { false }`, `left || right` is `if left { true } else { right }`
@@ -84,7 +84,7 @@ module _ {W : Type 0} (items : ItemTable) (p : Effects W) (most_turns : ℕ) whe
   if_let h pattern scrutinee consequent otherwise around to =
       forms.if_taken items p around pattern scrutinee (consequent.evaluate around true to) (forms.branch items p around to otherwise (forms.put_unit items p h to))
 
-  abbrev body_in : Meaning W → Around W → Does W
+  abbrev pub body_in : Meaning W → Around W → Does W
   body_in body around = body.evaluate around true (Into body.head.id)
 
   abbrev endless : Head → Meaning W → Around W → Destination → Does W
@@ -100,7 +100,7 @@ module _ {W : Type 0} (items : ItemTable) (p : Effects W) (most_turns : ℕ) whe
       forms.turns items p most_turns h.id
       (forms.if_taken items p (in_loop h.id to around) pattern scrutinee (body_in body (in_loop h.id to around)) (forms.ends_loop items p h to))
 
-  abbrev coerce : Head → ℕ → Meaning W → Evaluates
+  abbrev pub coerce : Head → ℕ → Meaning W → Evaluates
   coerce h trait_no m around own to = m.evaluate around own (coerced m.head.id trait_no to)
 
   abbrev mutual

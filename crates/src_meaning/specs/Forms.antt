@@ -47,7 +47,7 @@ place_of_operand (Number value kind) = whole_local 0
 place_of_operand (Truth value) = whole_local 0
 place_of_operand UnitValue = whole_local 0
 
-abbrev aliases_with : List Bound → Aliases → Aliases
+abbrev pub aliases_with : List Bound → Aliases → Aliases
 aliases_with [] aliases = aliases
 aliases_with (b ∷ bounds) aliases = (b.key, place_of_operand b.from) ∷ aliases_with bounds aliases
 
@@ -148,7 +148,7 @@ module _ {W : Type 0} (items : ItemTable) (p : Effects W) where
   use_of_place h shape reach around own to S w =
       in_own_scope own (λ S w. on_value (reach around S w) (deliver h (λ site. Put site (operand_at h (shape.place around.aliases))) to)) S w
 
-  abbrev array_around : Place → Place
+  abbrev pub array_around : Place → Place
   array_around place = record place { steps = before_element place.steps }
 
   -- the base, then the index, then the whole array is borrowed and the bounds are checked
@@ -166,18 +166,18 @@ module _ {W : Type 0} (items : ItemTable) (p : Effects W) where
   -- Assignment: the new value, then the place, then what the place still holds is dropped, then the value is stored,
   -- also where that drop panics.
 
-  abbrev stored : Site → ℕ → Scopes → W → Run W
+  abbrev pub stored : Site → ℕ → Scopes → W → Run W
   stored site key S w = in_scopes (innermost (without_operands (key ∷ [])) S) (p.act (Put site (moved key)) w)
 
   abbrev panicking : Run W → Run W
   panicking run = on_value run (At Panics)
 
-  abbrev replacing : Site → ℕ → Scopes → Out W → Run W
+  abbrev pub replacing : Site → ℕ → Scopes → Out W → Run W
   replacing site key S (Go w) = stored site key S w
   replacing site key S (Unwind w) = panicking (stored site key S w)
   replacing site key S (Halts halt w) = Over halt w
 
-  abbrev dropped_first : Bool → Site → W → Out W
+  abbrev pub dropped_first : Bool → Site → W → Out W
   dropped_first true site w = p.drop Calm site w
   dropped_first false site w = Go w
 
@@ -204,26 +204,26 @@ module _ {W : Type 0} (items : ItemTable) (p : Effects W) where
   put_unit h to = deliver h (λ site. Put site UnitValue) to
 
   -- no value is put where no run comes
-  abbrev put_unit_if : Bool → Head → Destination → Does W
+  abbrev pub put_unit_if : Bool → Head → Destination → Does W
   put_unit_if true h to S w = At Value S w
   put_unit_if false h to S w = put_unit h to S w
 
   -- Patterns.
 
-  abbrev tested : Out W → Operand → Choice W
+  abbrev pub tested : Out W → Operand → Choice W
   tested (Go w) operand = p.choose (IsTrue operand) w
   tested (Unwind w) operand = Neither NoStep w
   tested (Halts halt w) operand = Neither halt w
 
-  abbrev equals : Site → Operand → W → Choice W
+  abbrev pub equals : Site → Operand → W → Choice W
   equals site value w = tested (p.act (Compare (site_of_key site.node) Cmp.Eq (Copied site) value) w) (moved site.node)
 
-  abbrev tests_after : Choice W → (W → Choice W) → Choice W
+  abbrev pub tests_after : Choice W → (W → Choice W) → Choice W
   tests_after (Yes w) rest = rest w
   tests_after (No w) rest = No w
   tests_after (Neither halt w) rest = Neither halt w
 
-  abbrev alternatives_after : Choice W → (W → Choice W) → Choice W
+  abbrev pub alternatives_after : Choice W → (W → Choice W) → Choice W
   alternatives_after (Yes w) rest = Yes w
   alternatives_after (No w) rest = rest w
   alternatives_after (Neither halt w) rest = Neither halt w
@@ -251,7 +251,7 @@ module _ {W : Type 0} (items : ItemTable) (p : Effects W) where
       on_value (in_scopes S (p.act (Put (site_of_key b.key) b.from) w))
       (λ S w. bind in_scope bounds (in_scope (with_entry items (record { key = b.key; ty = b.ty })) S) w)
 
-  abbrev touched : Bool → Site → Does W
+  abbrev pub touched : Bool → Site → Does W
   touched true site S w = in_scopes S (p.act (Touch site) w)
   touched false site S w = At Value S w
 
@@ -282,10 +282,10 @@ module _ {W : Type 0} (items : ItemTable) (p : Effects W) where
       (arms_in_order arms (record around { matched = scrutinee.shape.place around.aliases }) to)) S w
 
   -- an arm that is taken: its names are entries of the arm, and its body is a scope for temporaries
-  abbrev taken_arm : Around W → List Bound → Meaning W → Destination → Does W
+  abbrev pub taken_arm : Around W → List Bound → Meaning W → Destination → Does W
   taken_arm around bounds body to S w = leave p (on_value (bind innermost bounds (entered false S) w) (body.evaluate around true to))
 
-  abbrev guarded : Around W → List Bound → Option (Meaning W) → Does W → Does W
+  abbrev pub guarded : Around W → List Bound → Option (Meaning W) → Does W → Does W
   guarded around bounds None taken S w = taken S w
   guarded around bounds (Some guard) taken S w = condition (in_guard bounds around) guard taken around.otherwise S w
 
@@ -302,7 +302,7 @@ module _ {W : Type 0} (items : ItemTable) (p : Effects W) where
   statements around [] S w = At Value S w
   statements around (m ∷ ms) S w = on_value (m.evaluate around false (Into m.head.id) S w) (statements around ms)
 
-  abbrev tail_of : Head → Option (Meaning W) → Around W → Destination → Does W
+  abbrev pub tail_of : Head → Option (Meaning W) → Around W → Destination → Does W
   tail_of h None around to S w = put_unit_if (is_never items h.ty) h to S w
   tail_of h (Some m) around to S w = m.evaluate around true to S w
 
@@ -317,20 +317,20 @@ module _ {W : Type 0} (items : ItemTable) (p : Effects W) where
       (λ S w. At Value (innermost (becomes_entry (entry_of m.head)) S) w))
 
   -- `let` of one name: the value is pending in the statement's scope, and then the youngest entry of the block
-  abbrev let_name : Head → Meaning W → Around W → Does W
+  abbrev pub let_name : Head → Meaning W → Around W → Does W
   let_name x m around S w =
       leave p (on_value (m.evaluate around false (Into x.id) (innermost (with_pending items (entry_of x)) (entered true S)) w)
       (λ S w. At Value (around_innermost (with_entry items (entry_of x)) (innermost (without_pending (entry_of x)) S)) w))
 
   -- `let` of another pattern: from a place, or from a temporary of the statement, which is pending until it is complete
-  abbrev let_parts : Meaning W → Meaning W → Around W → Does W
+  abbrev pub let_parts : Meaning W → Meaning W → Around W → Does W
   let_parts pattern m around S w =
       leave p (on_value (m.reach around (when (not (m.shape.is_place || m.shape.in_destination)) (innermost (with_pending items (entry_of m.head))) (entered true S)) w)
       (bind around_innermost (pattern.shape.bindings (m.shape.place around.aliases))))
 
   -- `let` without a value: its names are entries that are gone. One whose type needs dropping is gone already, since it
   -- is new or was dropped with its scope; another may hold the value of the turn of a loop before
-  abbrev declared : List Bound → Does W
+  abbrev pub declared : List Bound → Does W
   declared [] S w = At Value S w
   declared (b ∷ bounds) S w =
       on_value (if needs_drop items b.ty then At Value S w else in_scopes S (p.drop Calm (site_of_key b.key) w))
@@ -342,13 +342,13 @@ module _ {W : Type 0} (items : ItemTable) (p : Effects W) where
 
   -- Loops and jumps.
 
-  abbrev ticked : Out W → (W → Run W) → Run W
+  abbrev pub ticked : Out W → (W → Run W) → Run W
   ticked (Go w) next = next w
   ticked (Unwind w) next = Over NoStep w
   ticked (Halts halt w) next = Over halt w
 
   -- what follows a turn of a loop: the next turn, or the end of the loop
-  abbrev turned : ℕ → Scopes → Run W → Does W → Run W
+  abbrev pub turned : ℕ → Scopes → Run W → Does W → Run W
   turned id S0 (At Value S w) next = next S w
   turned id S0 (At (Breaks loop) S w) next = if id == loop then At Value S0 w else At (Breaks loop) S w
   turned id S0 (At (Continues loop) S w) next = (if id == loop then next S0 else At (Continues loop) S) w

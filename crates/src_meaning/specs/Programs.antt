@@ -30,22 +30,22 @@ answer_key body = number_of body.block
 
 module _ {W : Type 0} (items : ItemTable) (p : Effects W) (most_turns : ℕ) where
   -- each parameter is an entry of the entire function, followed by the names of its pattern; one that is a name is that name
-  abbrev param_names : Node → Does W
+  abbrev pub param_names : Node → Does W
   param_names pattern S w =
       if (shape items pattern).is_binding then At Value S w else bind items p innermost ((shape items pattern).bindings (whole_local (number_of pattern))) S w
 
-  abbrev params_entered : List ParamTree → Does W
+  abbrev pub params_entered : List ParamTree → Does W
   params_entered [] S w = At Value S w
   params_entered (param ∷ params) S w =
       on_value (param_names param.pattern (innermost (with_entry items (record { key = number_of param.pattern; ty = param.ty })) S) w)
       (params_entered params)
 
   -- what is left when a panic has left all scopes is dropped as it unwinds further
-  abbrev unwinds : List Entry → W → Out W
+  abbrev pub unwinds : List Entry → W → Out W
   unwinds [] w = Unwind w
   unwinds (e ∷ es) w = aborting (p.drop Unwinding (entry_site e) w) (unwinds es)
 
-  abbrev body_end : ℕ → Run W → Out W
+  abbrev pub body_end : ℕ → Run W → Out W
   body_end answer (At Value S w) = p.give (site_of_key answer) w
   body_end answer (At (Breaks loop) S w) = Halts NoStep w
   body_end answer (At (Continues loop) S w) = Halts NoStep w
@@ -53,7 +53,7 @@ module _ {W : Type 0} (items : ItemTable) (p : Effects W) (most_turns : ℕ) whe
   body_end answer (At Panics S w) = unwinds (all_entries S) w
   body_end answer (Over halt w) = Halts halt w
 
-  abbrev around_body : BodyTree → Around W
+  abbrev pub around_body : BodyTree → Around W
   around_body body = record {
     answer = Into (answer_key body);
     loops = [];

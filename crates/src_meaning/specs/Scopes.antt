@@ -106,7 +106,7 @@ abbrev pub entry_site : Entry → Site
 entry_site e = record { node = e.key; place = whole_local e.key }
 
 module _ {W : Type 0} (p : Effects W) where
-  abbrev dropped_unwinding : Out W → (W → Run W) → Run W
+  abbrev pub dropped_unwinding : Out W → (W → Run W) → Run W
   dropped_unwinding (Go w) next = next w
   dropped_unwinding (Unwind w) next = Over Aborted w
   dropped_unwinding (Halts halt w) next = Over halt w
@@ -116,7 +116,7 @@ module _ {W : Type 0} (p : Effects W) where
   drop_unwinding [] S w = At Panics S w
   drop_unwinding (e ∷ es) S w = dropped_unwinding (p.drop Unwinding (entry_site e) w) (drop_unwinding es S)
 
-  abbrev dropped_calmly : Out W → (W → Run W) → (W → Run W) → Run W
+  abbrev pub dropped_calmly : Out W → (W → Run W) → (W → Run W) → Run W
   dropped_calmly (Go w) next panicked = next w
   dropped_calmly (Unwind w) next panicked = panicked w
   dropped_calmly (Halts halt w) next panicked = Over halt w
