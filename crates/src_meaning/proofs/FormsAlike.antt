@@ -9,7 +9,7 @@ use Rattle.store_model.specs.NamedPlace.{Place, whole_local}
 use Rattle.src_meaning.proofs.Alike.{AlikeOut, goes_on, unwinds, halts, AlikeChoice, takes, refuses, neither, AlikeTick, spends, unwinds_at_tick, halts_at_tick, Alike, is_at, is_over, AlikeOuts, AlikeDoes, AlikeEffects, weaker, weaker_choice, stays, goes, after_value, scoped, after_go, after_choice, leave_alike, value_or_leave}
 use Rattle.src_meaning.specs.Forms.{Destination, Into, Coerced, Around, in_loop, aliases_with, Does, Meaning, site_of_key, moved, keys_of, all_moved, is_never, deliver, in_own_scope, operand, operands, acting, dropping, temporary, use_of_place, array_around, reach_element, borrowing, stored, replacing, dropped_first, assigning, condition, branch, put_unit, put_unit_if, tested, equals, tests_after, alternatives_after, holds, all_hold, any_holds, bind, touched, scrutinised, if_taken, arms_in_order, matching, taken_arm, guarded, arm, statements, tail_of, block, evaluating, let_name, let_parts, declared, letting, ticked, turned, turns, ends_loop, jumping}
 use Rattle.src_meaning.specs.Scopes.{Scope, Scopes, entered, innermost, around_innermost, without_operands, Exit, Value, Breaks, Continues, Returns, Panics, Run, At, in_scopes}
-use Rattle.src_meaning.specs.Shape.{Head, Shape, Aliases, PatternTest, IsVariant, IsNumber, IsTruth, AnyOf, PatternTests, no_test, a_test, Alternatives, no_alternative, an_alternative, Bound, site_at, operand_at}
+use Rattle.src_meaning.specs.Shape.{operand_of_bound, Head, Shape, Aliases, PatternTest, IsVariant, IsNumber, IsTruth, AnyOf, PatternTests, no_test, a_test, Alternatives, no_alternative, an_alternative, Bound, site_at, operand_at}
 
 -- the same but for what happens where an arm is not taken, which is alike
 pub data AlikeAround {W : Type 0} (size : W → ℕ) (k : ℕ) : Around W → Around W → Type 0 where
@@ -203,7 +203,7 @@ module _ {W : Type 0} (size : W → ℕ) (k : ℕ) where
     pub bind_alike : (in_scope : (Scope → Scope) → Scopes → Scopes) (bounds : List Bound) → AlikeDoes size k (bind items p in_scope bounds) (bind items q in_scope bounds)
     bind_alike in_scope [] S w l = stays size Value S w
     bind_alike in_scope (b ∷ bounds) S w l =
-        after_value size k (size w) l (scoped size S (size w) (alike.acting (Put (site_of_key b.key) b.from) w l)) (λ S w l. bind_alike in_scope bounds _ w l)
+        after_value size k (size w) l (scoped size S (size w) (alike.acting (Put (site_of_key b.key) (operand_of_bound b)) w l)) (λ S w l. bind_alike in_scope bounds _ w l)
 
     touched_alike : (b : Bool) (site : Site) → AlikeDoes size k (touched items p b site) (touched items q b site)
     touched_alike true site S w l = scoped size S (size w) (alike.acting (Touch site) w l)

@@ -12,7 +12,7 @@ use Rattle.mir_ty.specs.ItemTable.{ItemTable, type_at}
 use Rattle.store_model.specs.Effects.{Site, Operand, Moved, Copied, Number, Truth, UnitValue, Action, Put, Compare, Touch, Bounds, Borrow, Unsize, IsTrue, HasVariant, Calm, NoStep, OutOfTicks, Out, Go, Unwind, Halts, Choice, Yes, No, Neither, Effects, on_go}
 use Rattle.store_model.specs.NamedPlace.{Place, whole_local, before_element}
 use Rattle.src_meaning.specs.Scopes.{Entry, Scope, Scopes, entered, innermost, around_innermost, nearest_temporary, with_entry, with_pending, without_pending, without_operands, Exit, Value, Breaks, Continues, Returns, Panics, Run, At, Over, on_value, in_scopes, leave, then_or_leave}
-use Rattle.src_meaning.specs.Shape.{Head, Shape, Aliases, PatternTest, IsVariant, IsNumber, IsTruth, AnyOf, PatternTests, no_test, a_test, Alternatives, no_alternative, an_alternative, Bound, site_at, operand_at}
+use Rattle.src_meaning.specs.Shape.{Head, Shape, Aliases, PatternTest, IsVariant, IsNumber, IsTruth, AnyOf, PatternTests, no_test, a_test, Alternatives, no_alternative, an_alternative, Bound, site_at, operand_of_bound, operand_at}
 
 -- where a value is made: in the entry with a key; or in one of its own, from which a box is coerced to a trait object
 pub data Destination : Type 0 where
@@ -40,16 +40,9 @@ loop_destination id [] = Into id
 loop_destination id (l ∷ loops) = if id == l.0 then l.1 else loop_destination id loops
 
 -- in a guard the names of its arm's bindings stand for the matched parts
-abbrev pub place_of_operand : Operand → Place
-place_of_operand (Copied site) = site.place
-place_of_operand (Moved site) = site.place
-place_of_operand (Number value kind) = whole_local 0
-place_of_operand (Truth value) = whole_local 0
-place_of_operand UnitValue = whole_local 0
-
 abbrev pub aliases_with : List Bound → Aliases → Aliases
 aliases_with [] aliases = aliases
-aliases_with (b ∷ bounds) aliases = (b.key, place_of_operand b.from) ∷ aliases_with bounds aliases
+aliases_with (b ∷ bounds) aliases = (b.key, b.site.place) ∷ aliases_with bounds aliases
 
 abbrev pub in_guard : {W : Type 0} → List Bound → Around W → Around W
 in_guard bounds around = record around { aliases = aliases_with bounds around.aliases }
@@ -248,7 +241,7 @@ module _ {W : Type 0} (items : ItemTable) (p : Effects W) where
   abbrev pub bind : ((Scope → Scope) → Scopes → Scopes) → List Bound → Does W
   bind in_scope [] S w = At Value S w
   bind in_scope (b ∷ bounds) S w =
-      on_value (in_scopes S (p.act (Put (site_of_key b.key) b.from) w))
+      on_value (in_scopes S (p.act (Put (site_of_key b.key) (operand_of_bound b)) w))
       (λ S w. bind in_scope bounds (in_scope (with_entry items (record { key = b.key; ty = b.ty })) S) w)
 
   abbrev pub touched : Bool → Site → Does W

@@ -1,4 +1,5 @@
--- The laws of runs of a source. The bounds by which a run is defined are never met.
+-- The laws of runs of a source. The bounds by which a run is defined are never met, so its meaning is that of the rules
+-- alone (The Rust Reference, "Loop expressions", "Call expressions").
 use Rattle.std.specs.Prelude.{◌≡◌, ℕ, ◌<◌, ◌≤◌, List, length, Option}
 use Rattle.mir_base.specs.declared.trace.Event.{Event}
 use Rattle.mir_ty.specs.declared.ty.TyId.{TyId}

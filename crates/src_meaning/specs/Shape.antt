@@ -49,11 +49,12 @@ abbrev pub followed_by : PatternTests → PatternTests → PatternTests
 followed_by no_test more = more
 followed_by (a_test test rest) more = a_test test (followed_by rest more)
 
--- a name of a pattern: the entry that it makes, and what it copies or moves into it
+-- a name of a pattern: the entry that it makes, and the part that it moves or copies into it
 pub record Bound : Type 0 where
   pub key : ℕ
   pub ty : TyId
-  pub from : Operand
+  pub takes : Bool
+  pub site : Site
 
 pub record Shape : Type 0 where
   pub is_place : Bool
@@ -75,6 +76,10 @@ moves by = false
 abbrev copied_or_moved : Bool → Site → Operand
 copied_or_moved true site = Moved site
 copied_or_moved false site = Copied site
+
+-- what a name of a pattern takes
+abbrev pub operand_of_bound : Bound → Operand
+operand_of_bound b = copied_or_moved b.takes b.site
 
 -- a place whose value is used is copied or moved
 abbrev pub operand_at : Head → Place → Operand
@@ -104,7 +109,7 @@ abbrev a_test_alone : Head → (Site → PatternTest) → Shape
 a_test_alone h test = record (a_value h) { is_literal = true; tests = λ place. a_test (test (site_at h place)) no_test }
 
 abbrev a_binding : Head → Shape
-a_binding h = record (a_value h) { is_binding = true; bindings = λ place. (record { key = h.id; ty = h.ty; from = operand_at h place }) ∷ [] }
+a_binding h = record (a_value h) { is_binding = true; bindings = λ place. (record { key = h.id; ty = h.ty; takes = moves h.by; site = site_at h place }) ∷ [] }
 
 -- patterns of parts, one after the other, each at its part
 pub record Parts : Type 0 where

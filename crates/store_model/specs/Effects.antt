@@ -1,6 +1,6 @@
--- What one statement, operand or terminator does to what a run holds. The evaluation rules of the source and the steps
--- of a graph are stated over these effects, so that one proof joins them, whatever the effects are: those on values
--- (`Acting`), or those on what is present and gone (`Free`).
+-- What one statement, operand or terminator does to what a run holds (the rustc development guide, "The MIR"). The
+-- evaluation rules of the source and the steps of a graph are stated over these effects, so that one proof joins them,
+-- whatever the effects are: those on values (`Acting`), or those on what is present and gone (`Free`).
 use Rattle.std.specs.Prelude.{ℕ, ℤ, Bool, List}
 use Rattle.mir_base.specs.declared.int_kind.IntKind.{IntKind}
 use Rattle.mir_base.specs.declared.operator.Cmp.{Cmp}

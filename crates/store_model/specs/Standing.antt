@@ -1,5 +1,6 @@
--- Where a place of a running body is, what stands there, and as what type it is found. A reference may have lost its
--- place; then nothing stands there.
+-- Where a place of a running body is, what stands there, and as what type it is found (The Rust Reference, "Place
+-- Expressions and Value Expressions", "Pointer types", "Trait objects"). A reference may have lost its place; then
+-- nothing stands there.
 use Rattle.std.specs.Prelude.{ℕ, ◌==◌, pos, Bool, true, false, ◌||◌, List, [], ◌∷◌, ◌++◌, Option, Some, None, length, slice_get, option_and_then}
 use Rattle.std.specs.Option.{option_map_or}
 use Rattle.mir_ty.specs.declared.ty.Ty.{Ty}

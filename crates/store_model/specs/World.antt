@@ -1,5 +1,6 @@
 -- What a run has at hand: the numbers that are still to be asked, the ticks that are left, the next serial number, the
--- bodies that run with what their locals hold, and the events so far.
+-- bodies that run with what their locals hold, and the events so far (The Rust Reference, "Variables", for the locals of
+-- a body; asked numbers, ticks and serial numbers are this project's own).
 use Rattle.std.specs.Prelude.{ℕ, zero, suc, ◌==◌, ℤ, List, [], ◌∷◌, ◌++◌, Option, Some, None, length, if◌then◌else◌}
 use Rattle.mir_base.specs.declared.trace.Event.{Event}
 use Rattle.mir_base.specs.Trace.{Trace}
