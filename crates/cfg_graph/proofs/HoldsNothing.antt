@@ -15,7 +15,7 @@ use Rattle.cfg_graph.specs.declared.graph.Graph.{Graph}
 use Rattle.cfg_graph.specs.Faults.{at_line, nowhere, of_each, of_items, adts_faults, traits_faults, impls_faults, closures_faults, item_faults, faults_of_body, end_faults, IsWellFormed, ArePartsFirst, WellFormedHoldsNothing}
 use Rattle.cfg_graph.specs.ItemFaults.{adt_tests, adt_faults, adt_has_types, closure_tests, closure_faults, closure_has_types}
 use Rattle.cfg_graph.specs.TypeFaults.{hold, adt_holds_itself, closure_holds_itself}
-use Rattle.cfg_graph.specs.TypeForms.{is_adt, is_closure}
+use Rattle.store_model.specs.TypeForms.{is_adt, is_closure}
 use Rattle.cfg_graph.proofs.Holding.{adt_holding-tested, closure_holding-tested}
 use Rattle.cfg_graph.proofs.NoFaults.{first_empty, second_empty, map_empty, of_each-empty, broken-holds}
 

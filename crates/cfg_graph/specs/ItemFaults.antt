@@ -13,7 +13,7 @@ use Rattle.mir_ty.specs.declared.def.ClosureDef.{ClosureDef}
 use Rattle.mir_ty.specs.ItemTable.{ItemTable, type_at}
 use Rattle.cfg_graph.specs.Broken.{broken}
 use Rattle.cfg_graph.specs.NameFaults.{is_name, is_adt_name, is_repeated, is_repeated_impl}
-use Rattle.cfg_graph.specs.TypeForms.{same_id, same_ids, is_unit, is_adt, is_closure}
+use Rattle.store_model.specs.TypeForms.{same_id, same_ids, is_unit, is_adt, is_closure}
 use Rattle.cfg_graph.specs.TypeFaults.{is_drop_body, ty_exists, misplaces_dyn, adt_holds_itself, closure_holds_itself}
 
 -- the types that the line of a struct or enum has, and that of a trait

@@ -12,6 +12,5 @@ pub mod Paths
 pub mod Places
 pub mod Present
 pub mod TypeFaults
-pub mod TypeForms
 pub mod Typing
 pub mod Uses

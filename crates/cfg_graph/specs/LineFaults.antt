@@ -17,7 +17,7 @@ use Rattle.cfg_graph.specs.Edges.{targets}
 use Rattle.cfg_graph.specs.NameFaults.{is_name, is_repeated}
 use Rattle.cfg_graph.specs.Places.{index_locals, ty_of_operand}
 use Rattle.cfg_graph.specs.TypeFaults.{ty_exists, misplaces_dyn}
-use Rattle.cfg_graph.specs.TypeForms.{same_ids, adt_of, box_content}
+use Rattle.store_model.specs.TypeForms.{same_ids, adt_of, box_content}
 use Rattle.cfg_graph.specs.Typing.{stmt_is_typed, term_is_typed, method_at}
 use Rattle.cfg_graph.specs.Uses.{places_of_stmt, places_of_term}
 

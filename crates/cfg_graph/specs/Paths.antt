@@ -10,7 +10,7 @@ use Rattle.cfg_graph.specs.declared.place.Place.{Place}
 use Rattle.cfg_graph.specs.declared.terminator.Term.{Term}
 use Rattle.cfg_graph.specs.declared.graph.Body.{Body}
 use Rattle.cfg_graph.specs.Edges.{Exit, ToBlock, LeavesBody, ways_out, is_turn}
-use Rattle.cfg_graph.specs.TypeForms.{is_never}
+use Rattle.store_model.specs.TypeForms.{is_never}
 use Rattle.cfg_graph.specs.Places.{place_id, ty_of_place}
 
 -- a way out of a block on a path: the items that it gives, and where it leads

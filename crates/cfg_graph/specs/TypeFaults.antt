@@ -10,7 +10,7 @@ use Rattle.mir_ty.specs.AreItems.{types_in}
 use Rattle.mir_ty.specs.Facts.{Rule, by_rule}
 use Rattle.mir_ty.specs.ItemTable.{ItemTable, type_at}
 use Rattle.mir_ty.specs.Parts.{held_by, Holds}
-use Rattle.cfg_graph.specs.TypeForms.{is_dyn, is_adt, is_closure}
+use Rattle.store_model.specs.TypeForms.{is_dyn, is_adt, is_closure}
 
 abbrev is_drop_body_of : ℕ → Adt → Bool
 is_drop_body_of body adt = option_map_or (nat_eq body) adt.drop_body false

@@ -18,7 +18,7 @@ use Rattle.cfg_graph.specs.declared.statement.Stmt.{Stmt}
 use Rattle.cfg_graph.specs.declared.terminator.Term.{Term}
 use Rattle.cfg_graph.specs.Places.{index_locals, place_id, ty_of_place, ty_of_operand}
 use Rattle.cfg_graph.specs.TypeFaults.{is_drop_body}
-use Rattle.cfg_graph.specs.TypeForms.{same_id, is_int, is_bool, is_unit, is_dyn, is_dyn_of, is_adt, is_closure, same_int, are_compared, is_signed, adt_of, tuple_parts, box_content, referent}
+use Rattle.store_model.specs.TypeForms.{same_id, is_int, is_bool, is_unit, is_dyn, is_dyn_of, is_adt, is_closure, same_int, are_compared, is_signed, adt_of, tuple_parts, box_content, referent}
 use Rattle.cfg_graph.specs.Uses.{places_of_stmt, places_of_term, operands_of_stmt, operands_of_term, stored_by_stmt, stored_by_term}
 
 -- the numbers that a constant may be

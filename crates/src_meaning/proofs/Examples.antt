@@ -2,11 +2,11 @@
 mod Assignments
 mod Boxes
 mod Closures
-mod Conditions
+pub mod Conditions
 mod First
 mod FreeRuns
 mod JobQueue
-mod Locals
+pub mod Locals
 mod Loops
 mod Operands
 mod Operators

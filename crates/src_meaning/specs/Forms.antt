@@ -2,15 +2,14 @@
 -- "Expressions", "Statements", "Destructors"). All of it is over any effects: those on values give what a program
 -- does, those on what is present and gone give its free runs.
 use Rattle.std.specs.Prelude.{ℕ, zero, suc, ◌==◌, Bool, true, false, not, ◌||◌, List, [], ◌∷◌, map, Option, Some, None, if◌then◌else◌}
-use Rattle.std.specs.Option.{option_map_or}
 use Rattle.mir_base.specs.declared.operator.Cmp.{Cmp}
 use Rattle.mir_base.specs.declared.trace.Why.{Why}
-use Rattle.mir_ty.specs.declared.ty.Ty.{Ty}
 use Rattle.mir_ty.specs.declared.ty.TyId.{TyId}
 use Rattle.mir_ty.specs.Facts.{needs_drop}
 use Rattle.mir_ty.specs.ItemTable.{ItemTable, type_at}
 use Rattle.store_model.specs.Effects.{Site, Operand, Moved, Copied, Number, Truth, UnitValue, Action, Put, Compare, Touch, Bounds, Borrow, Unsize, IsTrue, HasVariant, Calm, NoStep, OutOfTicks, Out, Go, Unwind, Halts, Choice, Yes, No, Neither, Effects, on_go}
 use Rattle.store_model.specs.NamedPlace.{Place, whole_local, before_element}
+use Rattle.store_model.specs.TypeForms.{is_never as is_never_ty}
 use Rattle.src_meaning.specs.Scopes.{Entry, Scope, Scopes, entered, innermost, around_innermost, nearest_temporary, with_entry, with_pending, without_pending, without_operands, Exit, Value, Breaks, Continues, Returns, Panics, Run, At, Over, on_value, in_scopes, leave, then_or_leave}
 use Rattle.src_meaning.specs.Shape.{Head, Shape, Aliases, PatternTest, IsVariant, IsNumber, IsTruth, AnyOf, PatternTests, no_test, a_test, Alternatives, no_alternative, an_alternative, Bound, site_at, operand_of_bound, operand_at}
 
@@ -77,12 +76,8 @@ all_moved ms = map (λ m. moved m.head.id) ms
 abbrev pub site_of : {W : Type 0} → Meaning W → Around W → Site
 site_of m around = site_at m.head (m.shape.place around.aliases)
 
-abbrev is_never_ty : Ty → Bool
-is_never_ty Ty.Never = true
-is_never_ty _ = false
-
 abbrev pub is_never : ItemTable → TyId → Bool
-is_never items id = option_map_or is_never_ty (type_at items id) false
+is_never items id = is_never_ty (type_at items id)
 
 abbrev when : {A : Type 0} → Bool → (A → A) → A → A
 when true change a = change a

@@ -4,7 +4,6 @@ use Rattle.std.specs.Prelude.{◌≡◌, ℕ, ◌==◌, ℤ, Bool, true, false, 
 use Rattle.std.specs.Option.{option_map_or}
 use Rattle.mir_base.specs.declared.trace.End.{End}
 use Rattle.mir_base.specs.Trace.{Trace}
-use Rattle.mir_ty.specs.declared.ty.Ty.{Ty}
 use Rattle.mir_ty.specs.declared.ty.TyId.{TyId}
 use Rattle.mir_ty.specs.ItemTable.{ItemTable}
 use Rattle.store_model.specs.Data.{Datum}
@@ -13,6 +12,7 @@ use Rattle.store_model.specs.Entering.{Code, main_of, run_of}
 use Rattle.store_model.specs.Free.{Free, at_start, on_presence}
 use Rattle.store_model.specs.NamedPlace.{whole_local}
 use Rattle.store_model.specs.Standing.{Setting}
+use Rattle.store_model.specs.TypeForms.{is_bool}
 use Rattle.store_model.specs.World.{Cells}
 use Rattle.typed_tree.specs.Nodes.{number_of, body_nodes}
 use Rattle.typed_tree.specs.Tree.{Node, node, ParamTree, BodyTree, ProgramTree}
@@ -74,12 +74,8 @@ module _ {W : Type 0} (items : ItemTable) (p : Effects W) (most_turns : ℕ) whe
 
 -- The types under the keys of a body.
 
-abbrev is_bool : Ty → Bool
-is_bool Ty.Bool = true
-is_bool _ = false
-
 abbrev bool_ty : ItemTable → Option TyId
-bool_ty items = option_map_or (λ n. Some (record { 0 = n })) (position is_bool items.types) None
+bool_ty items = option_map_or (λ n. Some (record { 0 = n })) (position (λ ty. is_bool (Some ty)) items.types) None
 
 abbrev ty_of_node : Node → TyId
 ty_of_node (node id at ty by form) = ty

@@ -1,12 +1,12 @@
 -- What a node is by its form alone: a place, a value, or a pattern with its tests and its bindings (The Rust
 -- Reference, "Expressions", "Place Expressions and Value Expressions", and "Patterns").
-use Rattle.std.specs.Prelude.{ℕ, suc, ◌==◌, ℤ, Bool, true, false, List, [], ◌∷◌, ◌++◌, Option, Some, if◌then◌else◌}
+use Rattle.std.specs.Prelude.{unwrap_or, ℕ, suc, ◌==◌, ℤ, Bool, true, false, List, [], ◌∷◌, ◌++◌, Option, Some, if◌then◌else◌}
 use Rattle.mir_base.specs.declared.int_kind.IntKind.{IntKind}
-use Rattle.mir_ty.specs.declared.ty.Ty.{Ty}
 use Rattle.mir_ty.specs.declared.ty.TyId.{TyId}
 use Rattle.mir_ty.specs.ItemTable.{ItemTable, type_at}
 use Rattle.store_model.specs.Effects.{Site, Operand, Copied, Moved}
 use Rattle.store_model.specs.NamedPlace.{Step, ToPart, ToField, ToContent, ToElement, Place, whole_local}
+use Rattle.store_model.specs.TypeForms.{int_kind}
 use Rattle.typed_tree.specs.declared.node.Use.{Use}
 use Rattle.typed_tree.specs.Nodes.{number_of}
 use Rattle.typed_tree.specs.Tree as tree
@@ -85,13 +85,9 @@ operand_of_bound b = copied_or_moved b.takes b.site
 abbrev pub operand_at : Head → Place → Operand
 operand_at h place = copied_or_moved (moves h.by) (site_at h place)
 
-abbrev kind_of_ty : Option Ty → IntKind
-kind_of_ty (Some (Ty.Int kind)) = kind
-kind_of_ty _ = IntKind.I32
-
--- the integer type of a literal
+-- the integer type of a literal, which has one in a typed program
 abbrev pub kind_of : ItemTable → TyId → IntKind
-kind_of items id = kind_of_ty (type_at items id)
+kind_of items id = unwrap_or (int_kind (type_at items id)) IntKind.I32
 
 abbrev a_value : Head → Shape
 a_value h = record { is_place = false; in_destination = false; is_binding = false; is_literal = false; place = λ aliases. whole_local h.id; tests = λ place. no_test; bindings = λ place. [] }

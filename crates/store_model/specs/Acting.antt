@@ -10,7 +10,6 @@ use Rattle.mir_base.specs.declared.trace.Event.{Event}
 use Rattle.mir_base.specs.declared.trace.Why.{Why}
 use Rattle.mir_base.specs.IntKind.{least_of, greatest_of}
 use Rattle.mir_ty.specs.declared.ty.Ty.{Ty}
-use Rattle.mir_ty.specs.declared.ty.TyId.{TyId}
 use Rattle.mir_ty.specs.ItemTable.{ItemTable, type_at}
 use Rattle.store_model.specs.declared.address.At.TheVariants.{Part, Inside}
 use Rattle.store_model.specs.Data.{Datum, Data, Gone, Number, Truth, UnitValue, Aggregate, Box, Address, no_part, a_part, data_from}
@@ -19,6 +18,7 @@ use Rattle.store_model.specs.Effects as effects
 use Rattle.store_model.specs.Effects.{Site, Operand, Kind, OfTuple, OfArray, OfVariant, OfClosure, Action, Test, Mode, Halt, NoStep, Out, Go, Unwind, Halts, Choice, Yes, No, Neither, Effects}
 use Rattle.store_model.specs.NamedPlace.{place_ty}
 use Rattle.store_model.specs.Standing.{Setting, Found, As, AsObject, concrete_ty, found_part, Standing, standing_at_address, reach, on_reached, stored_at}
+use Rattle.store_model.specs.TypeForms.{adt_of, box_content, int_kind, is_dyn_of}
 use Rattle.store_model.specs.World.{World, telling, numbered_next, tick, Answer, Returns, Unwinds, HaltsIn, Bodies}
 use Rattle.store_model.specs.Wholeness.{is_whole, serials}
 
@@ -111,25 +111,9 @@ abbrev if_so : {A : Type 0} → Bool → A → Option A
 if_so true a = Some a
 if_so false a = None
 
-abbrev kind_of_ty : Option Ty → Option IntKind
-kind_of_ty (Some (Ty.Int kind)) = Some kind
-kind_of_ty _ = None
-
-abbrev adt_of_ty : Option Ty → Option ℕ
-adt_of_ty (Some (Ty.Adt n)) = Some n
-adt_of_ty _ = None
-
-abbrev boxed_ty : Option Ty → Option TyId
-boxed_ty (Some (Ty.Boxed inside)) = Some inside
-boxed_ty _ = None
-
 -- the impl of a trait for a struct or an enum
 abbrev pub impl_of : ItemTable → ℕ → ℕ → Option ℕ
 impl_of items trait_no adt = position (λ impl. (impl.trait_no == trait_no) && (impl.adt == adt)) items.impls
-
-abbrev is_dyn : Option Ty → ℕ → Bool
-is_dyn (Some (Ty.Dyn n)) trait_no = n == trait_no
-is_dyn _ trait_no = false
 
 abbrev with_impl : ℕ → Datum → Option Datum
 with_impl impl_no (Box serial other inside) = Some (Box serial (Some impl_no) inside)
@@ -217,7 +201,7 @@ module _ (setting : Setting) where
 
   abbrev impl_boxed : ℕ → World → Operand → Option ℕ
   impl_boxed trait_no w operand =
-      option_and_then (impl_of setting.items trait_no) (adt_of_ty (option_and_then (type_at setting.items) (boxed_ty (ty_of_operand w operand))))
+      option_and_then (impl_of setting.items trait_no) (adt_of (option_and_then (type_at setting.items) (box_content (ty_of_operand w operand))))
 
   abbrev pub printed : Datum → World → Out World
   printed (Number number) w = Go (telling (Event.Printed number) w)
@@ -271,7 +255,7 @@ module _ (setting : Setting) where
   abbrev object_body : ℕ → ℕ → Found → Option ℕ
   object_body trait_no method (As id) = None
   object_body trait_no method (AsObject id impl_no) =
-      option_and_then (λ body. if_so (is_dyn (type_at setting.items id) trait_no) body) (row_body setting.items method impl_no)
+      option_and_then (λ body. if_so (is_dyn_of trait_no (type_at setting.items id)) body) (row_body setting.items method impl_no)
 
   -- the body of a trait's method, by the impl of the trait object that the first argument names
   abbrev pub virtual_body : ℕ → ℕ → World → List Datum → Option ℕ
@@ -322,8 +306,8 @@ module _ (setting : Setting) where
     act (effects.Forget operand) w =
         taking operand w (λ v w'. Go (told_all (option_map_or (forgotten setting.items v) (operand_found w operand) []) w'))
     act (effects.Free box) w = on_reached (reach setting w box.place) (λ s. freed s s.value w) (Halts NoStep w) (Halts NoStep w)
-    act (effects.Compute to operator left right) w = taking_two left right w (compute to operator (kind_of_ty (ty_of_operand w left)))
-    act (effects.Negate to operand) w = taking operand w (negate to (kind_of_ty (ty_of_operand w operand)))
+    act (effects.Compute to operator left right) w = taking_two left right w (compute to operator (int_kind (ty_of_operand w left)))
+    act (effects.Negate to operand) w = taking operand w (negate to (int_kind (ty_of_operand w operand)))
     act (effects.Bounds index length) w = taking index w (bounded length)
     act (effects.Call to body args) w = taking_all args w (called to (Some body))
     act (effects.CallVirtual to trait_no method args) w =

@@ -1,9 +1,8 @@
 -- The effects of a free run: what is present and gone, without values. A condition may go either way, and what can
 -- panic may panic: a list of items answers, 1 for true and for a panic. Called bodies are not entered. A run ends at
 -- the first use of a place that is refused (The Rust Reference, "Moved and copied types"; rustc's error E0382).
-use Rattle.std.specs.Prelude.{ℕ, ◌==◌, Bool, true, false, List, [], ◌∷◌, Option, Some, option_and_then, if◌then◌else◌}
+use Rattle.std.specs.Prelude.{ℕ, ◌==◌, Bool, true, false, List, [], ◌∷◌, Option, option_and_then, if◌then◌else◌}
 use Rattle.std.specs.Option.{option_map_or}
-use Rattle.mir_ty.specs.declared.ty.Ty.{Ty}
 use Rattle.mir_ty.specs.declared.ty.TyId.{TyId}
 use Rattle.mir_ty.specs.Facts.{needs_drop}
 use Rattle.mir_ty.specs.ItemTable.{ItemTable, type_at}
@@ -11,6 +10,7 @@ use Rattle.store_model.specs.Effects as effects
 use Rattle.store_model.specs.Effects.{Site, Operand, Action, Test, Mode, Calm, Unwinding, Halt, Aborted, BadUse, BadStore, NoItem, NoRun, PastTheEnd, Out, Go, Unwind, Halts, Choice, Yes, No, Neither, Effects}
 use Rattle.store_model.specs.NamedPlace.{place_ty, Watched, Whole, ThroughReference, ByElement, watched}
 use Rattle.store_model.specs.Presence.{Presence, is_present, is_gone, after_action, containers_present, is_whole_at, is_there_at}
+use Rattle.store_model.specs.TypeForms.{is_never}
 
 -- what is known of the locals of a body, each gone where nothing is named; and the items that are left
 pub record Free : Type 0 where
@@ -63,10 +63,6 @@ choice_after (Halts halt w) = Neither halt w
 abbrev pub when : Bool → Halt → (Free → Out Free) → Free → Out Free
 when true halt next w = next w
 when false halt next w = Halts halt w
-
-abbrev is_never : Option Ty → Bool
-is_never (Some Ty.Never) = true
-is_never _ = false
 
 abbrev pub panics_by_item : Free → (Free → Out Free) → Out Free
 panics_by_item w next = item w.items w next Unwind

@@ -11,5 +11,6 @@ pub mod NamedPlace
 pub mod Places
 pub mod Presence
 pub mod Standing
+pub mod TypeForms
 pub mod Wholeness
 pub mod World

@@ -13,6 +13,7 @@ use Rattle.store_model.specs.declared.address.At.TheVariants.{Part, Inside}
 use Rattle.store_model.specs.Data.{Datum, Gone, Number, Aggregate, Box, Address}
 use Rattle.store_model.specs.Places.{part, replaced}
 use Rattle.store_model.specs.NamedPlace.{Step, ToPart, ToField, ToContent, ToElement, Place}
+use Rattle.store_model.specs.TypeForms.{is_adt}
 use Rattle.store_model.specs.World.{World, Activation, Cells, cell, at_depth, with_cell_at}
 
 -- the items of a program, the types of the locals of its bodies, and whether a value must be whole to be dropped
@@ -38,14 +39,10 @@ abbrev pub concrete_ty : ItemTable → Found → Option Ty
 concrete_ty items (As id) = type_at items id
 concrete_ty items (AsObject id impl_no) = adt_ty (adt_of_impl items impl_no)
 
-abbrev is_adt : Option Ty → Option ℕ → Bool
-is_adt (Some (Ty.Adt n)) (Some m) = n == m
-is_adt _ _ = false
-
 -- whether a value is found as the type that a reference names
 abbrev pub is_found_as : ItemTable → TyId → Found → Bool
 is_found_as items id (As found) = id.0 == found.0
-is_found_as items id (AsObject found impl_no) = id.0 == found.0 || is_adt (type_at items id) (adt_of_impl items impl_no)
+is_found_as items id (AsObject found impl_no) = id.0 == found.0 || option_map_or (λ n. is_adt n (type_at items id)) (adt_of_impl items impl_no) false
 
 abbrev found_content : TyId → Option ℕ → Found
 found_content id None = As id

@@ -10,8 +10,8 @@ use Rattle.mir_ty.specs.ItemTable.{ItemTable}
 use Rattle.typed_tree.specs.declared.node.Use.{Use}
 use Rattle.typed_tree.specs.Tree.{no_node, absent, present, Number, Variable, Index, Assign, Call, Array, Block, Binding, BodyTree, ProgramTree}
 use Rattle.src_meaning.specs.Programs.{source}
-use Rattle.src_meaning.proofs.Examples.Words.{n, used, nodes, let_, stmt, body, ty_no, head}
-use Rattle.src_meaning.proofs.Examples.WithD.{unit, d_ty, d, drop_d, take, with_d}
+use Rattle.src_meaning.proofs.Examples.Words.{unit, n, used, nodes, let_, stmt, body, ty_no, head}
+use Rattle.src_meaning.proofs.Examples.WithD.{d_ty, d, drop_d, take, with_d}
 
 abbrev array_d_2_ty : TyId
 array_d_2_ty = ty_no 7

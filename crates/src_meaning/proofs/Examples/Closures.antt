@@ -9,8 +9,8 @@ use Rattle.mir_ty.specs.ItemTable.{ItemTable}
 use Rattle.typed_tree.specs.declared.node.Use.{Use}
 use Rattle.typed_tree.specs.Tree.{absent, Number, Variable, Captured, Call, ClosureCall, Closure, Print, Block, Binding, BodyTree, ProgramTree}
 use Rattle.src_meaning.specs.Programs.{source}
-use Rattle.src_meaning.proofs.Examples.Words.{n, used, nodes, let_, stmt, body, param, ty_no, head}
-use Rattle.src_meaning.proofs.Examples.WithD.{i32, unit, d_ty, d, drop_d, take, with_d}
+use Rattle.src_meaning.proofs.Examples.Words.{i32, unit, n, used, nodes, let_, stmt, body, param, ty_no, head}
+use Rattle.src_meaning.proofs.Examples.WithD.{d_ty, d, drop_d, take, with_d}
 
 abbrev closure_ty : TyId
 closure_ty = ty_no 7

@@ -1,14 +1,15 @@
 -- Which lists of items reach a refused use: 1 is true, or a panic.
 use Rattle.std.proofs.Common.{◌≡◌, refl, [], ◌∷◌, pos}
 use Rattle.std.specs.Prelude.{ℕ, List, Option, Some, None, Bool, true, false, codes}
-use Rattle.mir_base.specs.declared.operator.Cmp.{Cmp}
 use Rattle.mir_ty.specs.declared.ty.Ty.{Ty}
 use Rattle.mir_ty.specs.declared.ty.TyId.{TyId}
 use Rattle.mir_ty.specs.ItemTable.{ItemTable}
 use Rattle.typed_tree.specs.declared.node.Use.{Use}
-use Rattle.typed_tree.specs.Tree.{no_node, absent, present, Number, Variable, Field, Comparison, Assign, Call, Tuple, Ask, Block, If, Match, Arm, Loop, Wildcard, Binding, TuplePattern, BodyTree, ProgramTree}
-use Rattle.src_meaning.proofs.Examples.Words.{n, used, nodes, let_, stmt, body, ty_no, head}
-use Rattle.src_meaning.proofs.Examples.WithD.{i32, unit, bool, never, d_ty, d, drop_d, take, with_d}
+use Rattle.typed_tree.specs.Tree.{no_node, absent, present, Variable, Field, Assign, Call, Tuple, Block, Match, Arm, Loop, Wildcard, Binding, TuplePattern, BodyTree, ProgramTree}
+use Rattle.src_meaning.proofs.Examples.Words.{unit, never, n, used, nodes, let_, stmt, body, ty_no, head}
+use Rattle.src_meaning.proofs.Examples.Conditions.{main_if}
+use Rattle.src_meaning.proofs.Examples.Locals.{main_again}
+use Rattle.src_meaning.proofs.Examples.WithD.{d_ty, d, drop_d, take, with_d}
 use Rattle.std.specs.Prelude.{zero, suc, ◌&&◌, is_none, slice_get}
 use Rattle.std.proofs.Common.{subst}
 use Rattle.store_model.specs.Effects.{Site}
@@ -59,21 +60,6 @@ the_second_turn_moves_again = refl
 
 no_shorter_list : reaches_none_within main_loop 2 ≡ true
 no_shorter_list = refl
-
--- fn main() { let x = D(1); if ask() == 0 { take(x); } }
-abbrev main_if : BodyTree
-main_if = body 2 [] unit
-    (n 0 unit (Block (nodes ((let_ 1 (used 2 d_ty Use.Move Binding) (d 3 (pos 1))) ∷ [])) (present (n 5 unit (If (n 6 bool (Comparison Cmp.Eq (n 7 i32 Ask) (n 8 i32 (Number (pos 0))))) (n 9 unit (Block (nodes ((stmt 10 (n 11 unit (Call 1 (nodes ((used 12 d_ty Use.Move (Variable 2)) ∷ []))))) ∷ [])) absent)) absent)))))
-
--- fn main() { let mut x = D(1); take(x); x = D(2); take(x); }
-abbrev main_again : BodyTree
-main_again = body 2 [] unit
-    (n 0 unit (Block (nodes (
-    (let_ 1 (used 2 d_ty Use.Move Binding) (d 3 (pos 1)))
-    ∷ (stmt 5 (n 6 unit (Call 1 (nodes ((used 7 d_ty Use.Move (Variable 2)) ∷ [])))))
-    ∷ (stmt 8 (n 9 unit (Assign (used 10 d_ty Use.Store (Variable 2)) (d 11 (pos 2)))))
-    ∷ (stmt 13 (n 14 unit (Call 1 (nodes ((used 15 d_ty Use.Move (Variable 2)) ∷ [])))))
-    ∷ [])) absent))
 
 -- fn main() { let t = (D(1), D(2)); let s = t; t.0 = D(3); }
 abbrev main_part : BodyTree

@@ -1,7 +1,6 @@
 -- A longer program: a queue of jobs, which are trait objects, moved out of an enum and back at each turn.
 use Rattle.std.proofs.Common.{◌≡◌, refl, [], ◌∷◌, pos}
-use Rattle.std.specs.Prelude.{Some, None, true, false, codes}
-use Rattle.mir_base.specs.declared.int_kind.IntKind.{IntKind}
+use Rattle.std.specs.Prelude.{◌++◌, Some, None, true, false, codes}
 use Rattle.mir_base.specs.declared.operator.Cmp.{Cmp}
 use Rattle.mir_base.specs.declared.operator.Math.{Math}
 use Rattle.mir_base.specs.declared.trace.End.{End}
@@ -13,19 +12,7 @@ use Rattle.mir_ty.specs.ItemTable.{ItemTable}
 use Rattle.typed_tree.specs.declared.node.Use.{Use}
 use Rattle.typed_tree.specs.Tree.{no_node, no_field, absent, present, Number, Truth, Variable, Field, Deref, Not, Arithmetic, Comparison, And, Assign, Call, VirtualCall, Make, NewBox, Print, Ask, Panic, Borrow, Unsize, Block, If, Match, Arm, While, Return, Wildcard, Binding, VariantPattern, BodyTree, ProgramTree}
 use Rattle.src_meaning.specs.Programs.{source}
-use Rattle.src_meaning.proofs.Examples.Words.{n, used, nodes, fields, let_, stmt, body, param, ty_no, variant, struct, enum, head}
-
-abbrev i32 : TyId
-i32 = ty_no 0
-
-abbrev unit : TyId
-unit = ty_no 1
-
-abbrev bool : TyId
-bool = ty_no 2
-
-abbrev never : TyId
-never = ty_no 3
+use Rattle.src_meaning.proofs.Examples.Words.{i32, unit, bool, never, scalars, n, used, nodes, fields, let_, stmt, body, param, ty_no, variant, struct, enum, head}
 
 abbrev buf_ty : TyId
 buf_ty = ty_no 4
@@ -80,7 +67,7 @@ queue_ty = ty_no 20
 
 abbrev items : ItemTable
 items = record {
-  types = Ty.Int IntKind.I32 ∷ Ty.Unit ∷ Ty.Bool ∷ Ty.Never ∷ Ty.Adt 0 ∷ Ty.Unique buf_ty ∷ Ty.Adt 1 ∷ Ty.Shared send_ty ∷ Ty.Unique send_ty ∷ Ty.Adt 2 ∷ Ty.Shared fail_ty ∷ Ty.Unique fail_ty ∷ Ty.Dyn 0 ∷ Ty.Shared dyn_job_ty ∷ Ty.Unique dyn_job_ty ∷ Ty.Boxed dyn_job_ty ∷ Ty.Boxed send_ty ∷ Ty.Boxed fail_ty ∷ Ty.Adt 3 ∷ Ty.Shared slot_ty ∷ Ty.Adt 4 ∷ [];
+  types = scalars ++ Ty.Adt 0 ∷ Ty.Unique buf_ty ∷ Ty.Adt 1 ∷ Ty.Shared send_ty ∷ Ty.Unique send_ty ∷ Ty.Adt 2 ∷ Ty.Shared fail_ty ∷ Ty.Unique fail_ty ∷ Ty.Dyn 0 ∷ Ty.Shared dyn_job_ty ∷ Ty.Unique dyn_job_ty ∷ Ty.Boxed dyn_job_ty ∷ Ty.Boxed send_ty ∷ Ty.Boxed fail_ty ∷ Ty.Adt 3 ∷ Ty.Shared slot_ty ∷ Ty.Adt 4 ∷ [];
   adts = struct (codes "Buf") (i32 ∷ []) (Some 0) ∷ struct (codes "Send") (buf_ty ∷ buf_ty ∷ i32 ∷ []) None ∷ struct (codes "Fail") (buf_ty ∷ []) None ∷ enum (codes "Slot") (variant (codes "Free") [] ∷ variant (codes "Ready") (boxed_dyn_job_ty ∷ []) ∷ variant (codes "Done") (i32 ∷ []) ∷ []) ∷ struct (codes "Queue") (slot_ty ∷ slot_ty ∷ []) None ∷ [];
   traits = (record { name = codes "Job"; methods = head (codes "cost") (shared_dyn_job_ty ∷ []) i32 ∷ head (codes "run") (unique_dyn_job_ty ∷ i32 ∷ []) bool ∷ [] }) ∷ [];
   impls = (record { trait_no = 0; adt = 1; bodies = 2 ∷ 3 ∷ [] }) ∷ (record { trait_no = 0; adt = 2; bodies = 4 ∷ 5 ∷ [] }) ∷ [];

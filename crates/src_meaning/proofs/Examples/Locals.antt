@@ -7,8 +7,8 @@ use Rattle.mir_ty.specs.ItemTable.{ItemTable}
 use Rattle.typed_tree.specs.declared.node.Use.{Use}
 use Rattle.typed_tree.specs.Tree.{absent, Variable, Assign, Call, Block, Binding, BodyTree, ProgramTree}
 use Rattle.src_meaning.specs.Programs.{source}
-use Rattle.src_meaning.proofs.Examples.Words.{n, used, nodes, let_, stmt, body, head}
-use Rattle.src_meaning.proofs.Examples.WithD.{unit, d_ty, d, drop_d, take, with_d}
+use Rattle.src_meaning.proofs.Examples.Words.{unit, n, used, nodes, let_, stmt, body, head}
+use Rattle.src_meaning.proofs.Examples.WithD.{d_ty, d, drop_d, take, with_d}
 
 abbrev items : ItemTable
 items = with_d (record {
@@ -48,7 +48,7 @@ out_of_ticks_at_once : source two [] 0
 out_of_ticks_at_once = refl
 
 -- fn main() { let mut x = D(1); take(x); x = D(2); take(x); }
-abbrev main_again : BodyTree
+abbrev pub main_again : BodyTree
 main_again = body 2 [] unit
     (n 0 unit (Block (nodes (
     (let_ 1 (used 2 d_ty Use.Move Binding) (d 3 (pos 1)))

@@ -10,8 +10,8 @@ use Rattle.mir_ty.specs.ItemTable.{ItemTable}
 use Rattle.typed_tree.specs.declared.node.Use.{Use}
 use Rattle.typed_tree.specs.Tree.{no_node, absent, present, Number, Call, Tuple, Panic, Borrow, Block, Loop, Break, Binding, BodyTree, ProgramTree}
 use Rattle.src_meaning.specs.Programs.{source}
-use Rattle.src_meaning.proofs.Examples.Words.{n, used, nodes, stmt, body, param, ty_no, head}
-use Rattle.src_meaning.proofs.Examples.WithD.{i32, unit, never, d_ty, shared_d_ty, d, drop_d, take, with_d}
+use Rattle.src_meaning.proofs.Examples.Words.{i32, unit, never, n, used, nodes, stmt, body, param, ty_no, head}
+use Rattle.src_meaning.proofs.Examples.WithD.{d_ty, shared_d_ty, d, drop_d, take, with_d}
 
 abbrev tuple_d_d_ty : TyId
 tuple_d_d_ty = ty_no 7

@@ -10,8 +10,8 @@ use Rattle.mir_ty.specs.ItemTable.{ItemTable}
 use Rattle.typed_tree.specs.declared.node.Use.{Use}
 use Rattle.typed_tree.specs.Tree.{no_node, absent, present, Variable, Assign, Call, Make, Block, Binding, BodyTree, ProgramTree}
 use Rattle.src_meaning.specs.Programs.{source}
-use Rattle.src_meaning.proofs.Examples.Words.{n, used, nodes, fields, let_, stmt, body, param, ty_no, struct, head}
-use Rattle.src_meaning.proofs.Examples.WithN.{unit, n_ty, nn, drop_n, with_n}
+use Rattle.src_meaning.proofs.Examples.Words.{unit, n, used, nodes, fields, let_, stmt, body, param, ty_no, struct, head}
+use Rattle.src_meaning.proofs.Examples.WithN.{n_ty, nn, drop_n, with_n}
 
 abbrev s_ty : TyId
 s_ty = ty_no 6

@@ -10,8 +10,8 @@ use Rattle.mir_ty.specs.ItemTable.{ItemTable}
 use Rattle.typed_tree.specs.declared.node.Use.{Use}
 use Rattle.typed_tree.specs.Tree.{no_node, no_field, absent, present, Number, Comparison, Call, Make, Print, Borrow, Block, If, IfLet, Match, Arm, Wildcard, Binding, NumberPattern, VariantPattern, BodyTree, ProgramTree}
 use Rattle.src_meaning.specs.Programs.{source}
-use Rattle.src_meaning.proofs.Examples.Words.{n, used, nodes, fields, let_, stmt, body, param, ty_no, variant, enum, head}
-use Rattle.src_meaning.proofs.Examples.WithD.{i32, unit, bool, d_ty, shared_d_ty, d, drop_d, take, with_d}
+use Rattle.src_meaning.proofs.Examples.Words.{i32, unit, bool, n, used, nodes, fields, let_, stmt, body, param, ty_no, variant, enum, head}
+use Rattle.src_meaning.proofs.Examples.WithD.{d_ty, shared_d_ty, d, drop_d, take, with_d}
 
 abbrev j_ty : TyId
 j_ty = ty_no 7

@@ -11,8 +11,8 @@ use Rattle.mir_ty.specs.ItemTable.{ItemTable}
 use Rattle.typed_tree.specs.declared.node.Use.{Use}
 use Rattle.typed_tree.specs.Tree.{no_node, absent, present, Number, Variable, Field, Deref, Comparison, Call, VirtualCall, Make, NewBox, Print, Ask, Panic, Borrow, Unsize, Block, If, Binding, BodyTree, ProgramTree}
 use Rattle.src_meaning.specs.Programs.{source}
-use Rattle.src_meaning.proofs.Examples.Words.{n, used, nodes, fields, stmt, body, param, ty_no, struct, head}
-use Rattle.src_meaning.proofs.Examples.WithD.{i32, unit, bool, never, d_ty, shared_d_ty, d, drop_d, take, with_d}
+use Rattle.src_meaning.proofs.Examples.Words.{i32, unit, bool, never, n, used, nodes, fields, stmt, body, param, ty_no, struct, head}
+use Rattle.src_meaning.proofs.Examples.WithD.{d_ty, shared_d_ty, d, drop_d, take, with_d}
 
 abbrev e_ty : TyId
 e_ty = ty_no 7

@@ -10,8 +10,8 @@ use Rattle.mir_ty.specs.ItemTable.{ItemTable}
 use Rattle.typed_tree.specs.declared.node.Use.{Use}
 use Rattle.typed_tree.specs.Tree.{absent, present, Tuple, NewBox, Block, Wildcard, Binding, TuplePattern, BodyTree, ProgramTree}
 use Rattle.src_meaning.specs.Programs.{source}
-use Rattle.src_meaning.proofs.Examples.Words.{n, used, nodes, let_, body, ty_no, struct, head}
-use Rattle.src_meaning.proofs.Examples.WithN.{unit, n_ty, nn, drop_n, with_n}
+use Rattle.src_meaning.proofs.Examples.Words.{unit, n, used, nodes, let_, body, ty_no, struct, head}
+use Rattle.src_meaning.proofs.Examples.WithN.{n_ty, nn, drop_n, with_n}
 
 abbrev s_ty : TyId
 s_ty = ty_no 6

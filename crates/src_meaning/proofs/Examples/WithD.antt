@@ -2,26 +2,13 @@
 --     struct D(i32);
 --     impl Drop for D { fn drop(&mut self) {} }
 --     fn take(x: D) {}
-use Rattle.std.specs.Prelude.{ℕ, ◌+◌, ℤ, [], ◌∷◌, Some, codes}
-use Rattle.mir_base.specs.declared.int_kind.IntKind.{IntKind}
+use Rattle.std.specs.Prelude.{◌++◌, ℕ, ◌+◌, ℤ, [], ◌∷◌, Some, codes}
 use Rattle.mir_ty.specs.declared.ty.Ty.{Ty}
 use Rattle.mir_ty.specs.declared.ty.TyId.{TyId}
 use Rattle.mir_ty.specs.ItemTable.{ItemTable}
 use Rattle.typed_tree.specs.declared.node.Use.{Use}
 use Rattle.typed_tree.specs.Tree.{Node, Number, Make, Block, Binding, no_node, absent, BodyTree}
-use Rattle.src_meaning.proofs.Examples.Words.{n, used, fields, body, param, ty_no, struct, head}
-
-abbrev pub i32 : TyId
-i32 = ty_no 0
-
-abbrev pub unit : TyId
-unit = ty_no 1
-
-abbrev pub bool : TyId
-bool = ty_no 2
-
-abbrev pub never : TyId
-never = ty_no 3
+use Rattle.src_meaning.proofs.Examples.Words.{i32, unit, scalars, n, used, fields, body, param, ty_no, struct, head}
 
 abbrev pub d_ty : TyId
 d_ty = ty_no 4
@@ -35,7 +22,7 @@ shared_d_ty = ty_no 6
 -- these items and then others: their types are numbered from 7, their structs and enums from 1, their bodies from 2
 abbrev pub with_d : ItemTable → ItemTable
 with_d others = record others {
-  types = Ty.Int IntKind.I32 ∷ Ty.Unit ∷ Ty.Bool ∷ Ty.Never ∷ Ty.Adt 0 ∷ Ty.Unique d_ty ∷ Ty.Shared d_ty ∷ others.types;
+  types = scalars ++ Ty.Adt 0 ∷ Ty.Unique d_ty ∷ Ty.Shared d_ty ∷ others.types;
   adts = struct (codes "D") (i32 ∷ []) (Some 0) ∷ others.adts;
   bodies = head (codes "D::drop") (unique_d_ty ∷ []) unit ∷ head (codes "take") (d_ty ∷ []) unit ∷ others.bodies;
 }

@@ -1,27 +1,14 @@
 -- What the examples of panics begin with: a struct whose `Drop` body panics at a negative number.
 --     struct N(i32);
 --     impl Drop for N { fn drop(&mut self) { if self.0 < 0 { panic!() } } }
-use Rattle.std.specs.Prelude.{ℕ, ◌+◌, ℤ, pos, [], ◌∷◌, Some, codes}
-use Rattle.mir_base.specs.declared.int_kind.IntKind.{IntKind}
+use Rattle.std.specs.Prelude.{◌++◌, ℕ, ◌+◌, ℤ, pos, [], ◌∷◌, Some, codes}
 use Rattle.mir_base.specs.declared.operator.Cmp.{Cmp}
 use Rattle.mir_ty.specs.declared.ty.Ty.{Ty}
 use Rattle.mir_ty.specs.declared.ty.TyId.{TyId}
 use Rattle.mir_ty.specs.ItemTable.{ItemTable}
 use Rattle.typed_tree.specs.declared.node.Use.{Use}
 use Rattle.typed_tree.specs.Tree.{Node, Number, Variable, Field, Deref, Comparison, Make, Panic, Block, If, Binding, no_node, absent, present, BodyTree}
-use Rattle.src_meaning.proofs.Examples.Words.{n, used, fields, body, param, ty_no, struct, head}
-
-abbrev pub i32 : TyId
-i32 = ty_no 0
-
-abbrev pub unit : TyId
-unit = ty_no 1
-
-abbrev pub bool : TyId
-bool = ty_no 2
-
-abbrev pub never : TyId
-never = ty_no 3
+use Rattle.src_meaning.proofs.Examples.Words.{i32, unit, bool, never, scalars, n, used, fields, body, param, ty_no, struct, head}
 
 abbrev pub n_ty : TyId
 n_ty = ty_no 4
@@ -32,7 +19,7 @@ unique_n_ty = ty_no 5
 -- these items and then others: their types are numbered from 6, their structs and enums from 1, their bodies from 1
 abbrev pub with_n : ItemTable → ItemTable
 with_n others = record others {
-  types = Ty.Int IntKind.I32 ∷ Ty.Unit ∷ Ty.Bool ∷ Ty.Never ∷ Ty.Adt 0 ∷ Ty.Unique n_ty ∷ others.types;
+  types = scalars ++ Ty.Adt 0 ∷ Ty.Unique n_ty ∷ others.types;
   adts = struct (codes "N") (i32 ∷ []) (Some 0) ∷ others.adts;
   bodies = head (codes "N::drop") (unique_n_ty ∷ []) unit ∷ others.bodies;
 }

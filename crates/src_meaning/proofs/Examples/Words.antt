@@ -4,6 +4,8 @@ use Rattle.mir_base.specs.declared.place_in_text.Pos.{Pos}
 use Rattle.mir_ty.specs.declared.adt.Adt.{Adt}
 use Rattle.mir_ty.specs.declared.adt.Variant.{Variant}
 use Rattle.mir_ty.specs.declared.def.Sig.{Sig}
+use Rattle.mir_base.specs.declared.int_kind.IntKind.{IntKind}
+use Rattle.mir_ty.specs.declared.ty.Ty.{Ty}
 use Rattle.mir_ty.specs.declared.ty.TyId.{TyId}
 use Rattle.typed_tree.specs.declared.node.Use.{Use}
 use Rattle.typed_tree.specs.Tree.{Node, node, Form, Nodes, no_node, a_node, Fields, no_field, a_field, present, Let, Evaluate, ParamTree, BodyTree}
@@ -23,6 +25,22 @@ param pattern ty = record { pattern = pattern; ty = ty }
 
 abbrev pub ty_no : ℕ → TyId
 ty_no k = record { 0 = k }
+
+-- the types with which the items of each example begin
+abbrev pub i32 : TyId
+i32 = ty_no 0
+
+abbrev pub unit : TyId
+unit = ty_no 1
+
+abbrev pub bool : TyId
+bool = ty_no 2
+
+abbrev pub never : TyId
+never = ty_no 3
+
+abbrev pub scalars : List Ty
+scalars = Ty.Int IntKind.I32 ∷ Ty.Unit ∷ Ty.Bool ∷ Ty.Never ∷ []
 
 abbrev field_names : {A : Type 0} → List A → List (List ℕ)
 field_names [] = []
@@ -49,15 +67,11 @@ abbrev pub fields : List (ℕ × Node) → Fields
 fields [] = no_field
 fields (first ∷ rest) = a_field first.0 first.1 (fields rest)
 
--- the type `()`, which is the second of all items here
-abbrev unit_ty : TyId
-unit_ty = record { 0 = 1 }
-
 abbrev pub let_ : ℕ → Node → Node → Node
-let_ id pattern value = n id unit_ty (Let pattern (present value))
+let_ id pattern value = n id unit (Let pattern (present value))
 
 abbrev pub stmt : ℕ → Node → Node
-stmt id expression = n id unit_ty (Evaluate expression)
+stmt id expression = n id unit (Evaluate expression)
 
 abbrev pub body : ℕ → List ParamTree → TyId → Node → BodyTree
 body number params answer block = record { number = number; params = params; answer = answer; block = block }

@@ -75,6 +75,11 @@ abbrev pub adt_of : Option Ty → Option ℕ
 adt_of (Some (Ty.Adt n)) = Some n
 adt_of _ = None
 
+-- the integer type that a type is
+abbrev pub int_kind : Option Ty → Option IntKind
+int_kind (Some (Ty.Int kind)) = Some kind
+int_kind _ = None
+
 abbrev pub tuple_parts : Option Ty → Option (List TyId)
 tuple_parts (Some (Ty.Tuple parts)) = Some parts
 tuple_parts _ = None
