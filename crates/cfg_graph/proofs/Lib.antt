@@ -1,7 +1,7 @@
 pub mod AllPresent
 mod Examples
-pub mod Holding
-pub mod HoldsNothing
+pub mod FiniteSize
+pub mod InfiniteSize
 pub mod NoFaults
 pub mod Present
 pub mod Ranked

@@ -15,6 +15,3 @@ pub use mir_base::{Cmp, Math};
 pub use place::{Operand, Place, Step, Steps};
 pub use statement::Stmt;
 pub use terminator::{Term, Unwind};
-
-#[cfg(test)]
-mod tests;

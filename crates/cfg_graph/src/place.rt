@@ -1,9 +1,5 @@
-ghost use Rattle.std.specs.Prelude.{◌≡◌, [], ◌∷◌, ◌++◌, IfOk, OnOk, OnErr};
-
-use mir_base::{IntKind, NoMemory};
-use smallvec::SmallVec;
-use std::alloc::Global;
-use std::marker::Model;
+use mir_base::IntKind;
+use store_model::Path;
 
 /// One step from a place inwards; rustc's development guide calls it a projection.
 ///
@@ -21,63 +17,8 @@ pub enum Step {
     Index(u32),
 }
 
-/// The steps of a place, outermost first. Up to four of them take no memory. Contracts see them as a list.
-#[derive(Debug, Drop)]
-pub struct Steps {
-    steps: SmallVec<Step, 4, Global>,
-}
-
-impl Model for Steps {
-    ghost use Rattle.std.specs.Prelude.{List};
-    ghost use Rattle.cfg_graph.specs.declared.place.Step.{Step};
-
-    ghost Value = { List Step };
-
-    ghost view = { λ steps. steps.steps.items };
-}
-
-impl Steps {
-    /// No steps, which takes no memory.
-    pub fn new(alloc: Global) -> Steps
-        ensures { result ≡ [] }
-    {
-        Steps {
-            steps: SmallVec::new(alloc),
-        }
-    }
-
-    /// These steps, outermost first. It takes memory for more than four.
-    pub fn from_slice(alloc: Global, steps: &[Step]) -> Result<Steps, NoMemory>
-        ensures { IfOk result (λ made. made ≡ steps.now) }
-    {
-        Ok(Steps {
-            steps: SmallVec::from_slice(alloc, steps)?,
-        })
-    }
-
-    /// The steps, outermost first.
-    pub fn as_slice(&self) -> &[Step]
-        ensures { result.now ≡ self.now }
-    {
-        self.steps.as_slice()
-    }
-
-    /// Makes a step the last one. Where memory is wanted and cannot be had, the steps are as they were.
-    pub fn push(&mut self, step: Step) -> Result<(), NoMemory>
-        ensures pushed { OnOk result (self.new ≡ self.old ++ step ∷ []) }
-        ensures refused { OnErr result (self.new ≡ self.old) }
-    {
-        self.steps.push(step)?;
-        Ok(())
-    }
-
-    /// Second steps, equal to these.
-    pub fn copy(&self, alloc: Global) -> Result<Steps, NoMemory>
-        ensures { IfOk result (λ copy. copy ≡ self.now) }
-    {
-        Steps::from_slice(alloc, self.as_slice())
-    }
-}
+/// The steps of a place.
+pub type Steps = Path<Step>;
 
 /// A place: a local of the body, and steps from its value inwards.
 #[derive(Debug, Drop)]

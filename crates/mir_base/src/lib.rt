@@ -21,6 +21,3 @@ pub use operator::{Cmp, Math};
 pub use place_in_text::{Key, NodeId, Pos};
 pub use rule::{Rule, RuleError};
 pub use trace::{End, Event, Why};
-
-#[cfg(test)]
-mod tests;

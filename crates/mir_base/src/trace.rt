@@ -1,3 +1,6 @@
+ghost use Rattle.std.specs.Prelude.{◌≡◌};
+ghost use Rattle.mir_base.specs.Lines.{why_word};
+
 /// Why a panic starts.
 #[derive(Clone, Copy, Debug, PartialEq, Eq, Hash)]
 pub enum Why {
@@ -13,6 +16,22 @@ pub enum Why {
     Ask,
     /// A match that no arm takes.
     Match,
+}
+
+impl Why {
+    /// The word of this cause in the line of a panic.
+    pub fn word(self) -> &'static str
+        ensures { result.now ≡ why_word self }
+    {
+        match self {
+            Why::Explicit => "explicit",
+            Why::Overflow => "overflow",
+            Why::Divide => "divide",
+            Why::Index => "index",
+            Why::Ask => "ask",
+            Why::Match => "match",
+        }
+    }
 }
 
 /// How a run ends.

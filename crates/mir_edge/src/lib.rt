@@ -10,9 +10,6 @@ mod mem_source;
 mod sink;
 mod source;
 mod std_edge;
-#[cfg(test)]
-mod tests;
-
 pub use fault::Fault;
 pub use mem_sink::MemSink;
 pub use mem_source::MemSource;

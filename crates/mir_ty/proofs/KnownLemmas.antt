@@ -11,7 +11,7 @@ use Rattle.mir_ty.specs.Facts.{Rule, by_rule}
 use Rattle.mir_ty.specs.AreItems.{types_in, AreDistinct}
 use Rattle.mir_ty.specs.Known.{known_by, IsShown, IsSettledAt, IsBehindAt, IsAllShown}
 use Rattle.mir_ty.proofs.ListLemmas.{slice_get-append_left, slice_get-last, slice_get-push_cases, All-slice_get, Contains-slice_get}
-use Rattle.mir_ty.proofs.Rounds.{IsWithin, IsGrowing, ShowsNoLess, in_rounds-least, by_rule-settled, by_rule-wider}
+use Rattle.mir_ty.proofs.FixedPoint.{IsWithin, IsGrowing, ShowsNoLess, in_rounds-least, by_rule-settled, by_rule-wider}
 use Rattle.mir_ty.proofs.Rules.{AgreeBelow, AreBelow, AsksBelow}
 
 bool_same : (a b : Bool) → (a ≡ true → b ≡ true) → (b ≡ true → a ≡ true) → a ≡ b

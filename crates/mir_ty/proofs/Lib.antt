@@ -1,10 +1,10 @@
-pub mod Callers
+pub mod FixedPoint
+pub mod ItemFacts
 pub mod ItemLemmas
 pub mod KnownLemmas
+pub mod LeastRelations
 pub mod ListLemmas
-pub mod Rounds
 pub mod Rules
-pub mod Shows
 pub mod TableLemmas
 pub mod TyEq
 pub mod TypeLists

@@ -15,7 +15,7 @@ use Rattle.mir_ty.specs.declared.facts.Fact.{Fact}
 use Rattle.mir_ty.specs.AreItems.{types_in}
 use Rattle.mir_ty.specs.Known.{rule_of}
 use Rattle.mir_ty.proofs.ListLemmas.{slice_get-append_left, slice_get-below, list_any-same, list_all-same, All-slice_get}
-use Rattle.mir_ty.proofs.Rounds.{IsWithin, IsGrowing, ShowsNoLess}
+use Rattle.mir_ty.proofs.FixedPoint.{IsWithin, IsGrowing, ShowsNoLess}
 
 or_grows : (a b c d : Bool) → (a ≡ true → c ≡ true) → (b ≡ true → d ≡ true) → (a || b) ≡ true → (c || d) ≡ true
 or_grows true b c d ac bd h = ap (λ x. x || d) (ac refl)

@@ -18,6 +18,3 @@ pub use def::{ClosureDef, ImplDef, Sig, TraitDef};
 pub use items::Items;
 pub use line::event_line;
 pub use ty::{Ty, TyId};
-
-#[cfg(test)]
-mod tests;

@@ -1,10 +1,9 @@
 ghost use Rattle.std.specs.Prelude.{◌≡◌, ◌<◌, IfOk, length};
 ghost use Rattle.std.specs.String.{string_bytes};
-ghost use Rattle.mir_base.specs.Lines.{why_word};
 ghost use Rattle.mir_ty.specs.Named.{line_of, IsEventOf, body_name, adt_name};
 
 use crate::Items;
-use mir_base::{Event, List, NoMemory, Why};
+use mir_base::{Event, List, NoMemory};
 use std::alloc::Global;
 
 /// The line of an event in the text of a trace, with its line feed. Bodies, structs and enums go by their names
@@ -39,7 +38,7 @@ fn event_text(alloc: Global, event: &Event, items: &Items) -> Result<String, NoM
         Event::ForgotBox(serial) => Ok(format!(in alloc; "forget #{serial}\n")?),
         Event::Printed(number) => Ok(format!(in alloc; "print {number}\n")?),
         Event::Asked(number) => Ok(format!(in alloc; "ask {number}\n")?),
-        Event::Panicked(why) => Ok(format!(in alloc; "panic {}\n", word_of_why(*why))?),
+        Event::Panicked(why) => Ok(format!(in alloc; "panic {}\n", why.word())?),
     }
 }
 
@@ -55,17 +54,4 @@ fn name_of_adt(items: &Items, n: u32) -> &str
     ensures { result.now ≡ adt_name items.now n }
 {
     items.adt(n).unwrap().name.as_str()
-}
-
-fn word_of_why(why: Why) -> &'static str
-    ensures { result.now ≡ why_word why }
-{
-    match why {
-        Why::Explicit => "explicit",
-        Why::Overflow => "overflow",
-        Why::Divide => "divide",
-        Why::Index => "index",
-        Why::Ask => "ask",
-        Why::Match => "match",
-    }
 }

@@ -105,6 +105,3 @@ pub fn mirdrop<S: Source, K: Sink>(
 pub fn law_one_program_a_text()
     ensures { OneProgramAText }
 {}
-
-#[cfg(test)]
-mod tests;

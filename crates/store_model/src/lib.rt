@@ -7,6 +7,7 @@ mod address;
 mod copies;
 mod laws;
 mod parts;
+mod path;
 mod places;
 mod value;
 
@@ -15,8 +16,6 @@ pub use laws::{
     law_of_changes, law_of_paths, law_of_serials, law_of_what_stands, law_of_wholeness,
 };
 pub use parts::parts_in_order;
+pub use path::Path;
 pub use places::{put, read, take};
 pub use value::Value;
-
-#[cfg(test)]
-mod tests;

@@ -1,10 +1,10 @@
 ghost use Rattle.std.specs.Prelude.{◌≡◌, ◌++◌, [], OnOk, IfOk, codes, slice_get, map, string_bytes};
-ghost use Rattle.mir_base.specs.Lines.{event_line, event_lines, end_line, text_of, why_word};
+ghost use Rattle.mir_base.specs.Lines.{event_line, event_lines, end_line, text_of};
 ghost use Rattle.src_meaning.specs.First.Meaning.{at_item, item_name, body_name};
 ghost use Rattle.src_meaning.specs.First.Tree.{the_item};
 ghost use Rattle.mirdrop_program.specs.First.Naming.{body_names, adt_names};
 
-use mir_base::{End, Event, NoMemory, Why};
+use mir_base::{End, Event, NoMemory};
 use src_meaning::FirstItem;
 use std::alloc::Global;
 
@@ -48,19 +48,6 @@ fn write_body_name(out: &mut String, items: &[FirstItem], body: u32) -> Result<(
     Ok(())
 }
 
-fn word_of(why: Why) -> &'static str
-    ensures { result.now ≡ why_word why }
-{
-    match why {
-        Why::Explicit => "explicit",
-        Why::Overflow => "overflow",
-        Why::Divide => "divide",
-        Why::Index => "index",
-        Why::Ask => "ask",
-        Why::Match => "match",
-    }
-}
-
 /// A line on a body: a word and the body's name.
 fn write_body_line(
     out: &mut String,
@@ -95,7 +82,7 @@ fn write_event(out: &mut String, items: &[FirstItem], event: &Event) -> Result<(
         Event::ForgotBox(serial) => write!(out, "forget #{serial}\n")?,
         Event::Printed(number) => write!(out, "print {number}\n")?,
         Event::Asked(number) => write!(out, "ask {number}\n")?,
-        Event::Panicked(why) => write!(out, "panic {}\n", word_of(*why))?,
+        Event::Panicked(why) => write!(out, "panic {}\n", why.word())?,
     }
     Ok(())
 }

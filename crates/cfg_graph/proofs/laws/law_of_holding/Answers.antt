@@ -1,4 +1,4 @@
-use Rattle.cfg_graph.proofs.Holding.{adt_holding-tested, closure_holding-tested}
+use Rattle.cfg_graph.proofs.InfiniteSize.{adt_holding-tested, closure_holding-tested}
 use Rattle.cfg_graph.proofs.laws.law_of_holding.Goals as goal
 
 pub returns : goal.returns

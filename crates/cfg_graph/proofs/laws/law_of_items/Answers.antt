@@ -1,4 +1,4 @@
-use Rattle.cfg_graph.proofs.HoldsNothing.{well_formed-holds_nothing}
+use Rattle.cfg_graph.proofs.FiniteSize.{well_formed-holds_nothing}
 use Rattle.cfg_graph.proofs.laws.law_of_items.Goals as goal
 
 pub returns : goal.returns

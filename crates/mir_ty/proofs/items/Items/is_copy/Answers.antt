@@ -1,6 +1,6 @@
 use Rattle.std.proofs.Common.{◌≡◌, rules}
 use Rattle.mir_ty.specs.Facts.{is_copy}
-use Rattle.mir_ty.proofs.Shows.{is_copy-rules}
+use Rattle.mir_ty.proofs.LeastRelations.{is_copy-rules}
 use Rattle.mir_ty.proofs.items.Items.is_copy.Goals as goal
 
 pub returns-clause-rules : goal.returns-clause-rules

@@ -1,6 +1,6 @@
 use Rattle.std.proofs.Common.{◌≡◌, rules}
 use Rattle.mir_ty.specs.Facts.{needs_drop}
-use Rattle.mir_ty.proofs.Shows.{needs_drop-rules}
+use Rattle.mir_ty.proofs.LeastRelations.{needs_drop-rules}
 use Rattle.mir_ty.proofs.items.Items.needs_drop.Goals as goal
 
 pub returns-clause-rules : goal.returns-clause-rules
