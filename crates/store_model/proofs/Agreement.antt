@@ -104,7 +104,7 @@ module _ {W : Type 0} (size : W → ℕ) (k : ℕ) where
 
     pub bounds_agree : (n n' : ℕ) → k < n → k < n' → Bounds (agreement size k) p q n n'
     bounds_agree n n' h h' =
-        great_bounds n n' (λ m. m) (λ m w c r. let b : m ≤ k = r.2 in omega arith) (λ m w c r. let b : m ≤ k = r.2 in omega arith) ticks_agree
+        great_bounds n n' (λ m. m) (λ m w c r. let b : m ≤ k = r.2 in omega arith) (λ m w c r. let b : m ≤ k = r.2 in omega arith) ticks_agree (λ s halt w later o. o)
 
 -- any effects do as themselves
 pub tied_itself : {W : Type 0} (size : W → ℕ) (k : ℕ) (p : Effects W) → Tied p p size k

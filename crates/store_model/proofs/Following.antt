@@ -148,12 +148,13 @@ FollowsTicks {W} {V} rel left f f' =
     (n : rel.Stage) (w : W) (c : rel.Known) → rel.related n w c → FollowsTick rel left n (f w) (λ t. f' (rel.feed t c))
 
 -- the bounds are one; or the second is no less, and the first lapses where it is met; or both are greater than what is
--- left, and each turn leaves less
+-- left, each turn leaves less, and there are no shadows
 pub data Bounds {W V : Type 0} (rel : Relation W V) (p : Effects W) (q : Effects V) : ℕ → ℕ → Type 0 where
   one_bound : (n : ℕ) → Bounds rel p q n n
   more_turns : (n n' : ℕ) → n ≤ n' → ((s : rel.Stage) (w : W) (c : rel.Known) → rel.related s w c → rel.lapses s OutOfTicks w) → Bounds rel p q n n'
   great_bounds : (n n' : ℕ) (left : rel.Stage → ℕ) → ((s : rel.Stage) (w : W) (c : rel.Known) → rel.related s w c → left s < n) →
-      ((s : rel.Stage) (w : W) (c : rel.Known) → rel.related s w c → left s < n') → FollowsTicks rel left p.tick q.tick → Bounds rel p q n n'
+      ((s : rel.Stage) (w : W) (c : rel.Known) → rel.related s w c → left s < n') → FollowsTicks rel left p.tick q.tick →
+      ((s : rel.Stage) (halt : Halt) (w : W) (later : rel.Stage) → rel.outlives s halt w later → ⊥) → Bounds rel p q n n'
 
 pub within_out : {W V : Type 0} (rel : Relation W V) {later n : rel.Stage} {o : Out W} {g : rel.Items → Out V} → Within rel later n →
     FollowsOut rel later o g → FollowsOut rel n o g
