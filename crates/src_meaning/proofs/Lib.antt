@@ -1,5 +1,5 @@
-pub mod Alike
 mod Examples
-pub mod FormsAlike
-pub mod ProgramsAlike
+pub mod FormsFollow
+pub mod ProgramsFollow
 pub mod RunLaws
+pub mod RunsFollow

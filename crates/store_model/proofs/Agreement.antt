@@ -102,7 +102,7 @@ module _ {W : Type 0} (size : W → ℕ) (k : ℕ) where
         (subst (λ o. FollowsTick (agreement size k) (λ m. m) m (p.tick w) (λ t. o)) (tied.ticking w (omega arith))
         (tick_itself m w (p.tick w) r.1 r.2 (laws.ticking w)))
 
-    pub bounds_agree : (n n' : ℕ) → k < n → k < n' → Bounds (agreement size k) p q n n'
+    pub bounds_agree : (n n' : ℕ) → k < n → k < n' → Bounds (agreement size k) p.tick q.tick n n'
     bounds_agree n n' h h' =
         great_bounds n n' (λ m. m) (λ m w c r. let b : m ≤ k = r.2 in omega arith) (λ m w c r. let b : m ≤ k = r.2 in omega arith) ticks_agree (λ s halt w later o. o)
 

@@ -149,12 +149,12 @@ FollowsTicks {W} {V} rel left f f' =
 
 -- the bounds are one; or the second is no less, and the first lapses where it is met; or both are greater than what is
 -- left, each turn leaves less, and there are no shadows
-pub data Bounds {W V : Type 0} (rel : Relation W V) (p : Effects W) (q : Effects V) : ℕ → ℕ → Type 0 where
-  one_bound : (n : ℕ) → Bounds rel p q n n
-  more_turns : (n n' : ℕ) → n ≤ n' → ((s : rel.Stage) (w : W) (c : rel.Known) → rel.related s w c → rel.lapses s OutOfTicks w) → Bounds rel p q n n'
+pub data Bounds {W V : Type 0} (rel : Relation W V) (tick : W → Out W) (tick' : V → Out V) : ℕ → ℕ → Type 0 where
+  one_bound : (n : ℕ) → Bounds rel tick tick' n n
+  more_turns : (n n' : ℕ) → n ≤ n' → ((s : rel.Stage) (w : W) (c : rel.Known) → rel.related s w c → rel.lapses s OutOfTicks w) → Bounds rel tick tick' n n'
   great_bounds : (n n' : ℕ) (left : rel.Stage → ℕ) → ((s : rel.Stage) (w : W) (c : rel.Known) → rel.related s w c → left s < n) →
-      ((s : rel.Stage) (w : W) (c : rel.Known) → rel.related s w c → left s < n') → FollowsTicks rel left p.tick q.tick →
-      ((s : rel.Stage) (halt : Halt) (w : W) (later : rel.Stage) → rel.outlives s halt w later → ⊥) → Bounds rel p q n n'
+      ((s : rel.Stage) (w : W) (c : rel.Known) → rel.related s w c → left s < n') → FollowsTicks rel left tick tick' →
+      ((s : rel.Stage) (halt : Halt) (w : W) (later : rel.Stage) → rel.outlives s halt w later → ⊥) → Bounds rel tick tick' n n'
 
 pub within_out : {W V : Type 0} (rel : Relation W V) {later n : rel.Stage} {o : Out W} {g : rel.Items → Out V} → Within rel later n →
     FollowsOut rel later o g → FollowsOut rel n o g

@@ -19,7 +19,7 @@ abbrev mutual
   nodes_in (Truth value) = []
   nodes_in UnitValue = []
   nodes_in (Variable key) = []
-  nodes_in (Captured closure part) = []
+  nodes_in (Captured closure part name) = []
   nodes_in (Field base part) = nodes_of base
   nodes_in (Index base index length) = nodes_of base ++ nodes_of index
   nodes_in (Deref base) = nodes_of base
@@ -60,7 +60,7 @@ abbrev mutual
   nodes_in (Continue from) = []
   nodes_in (Return value) = nodes_if_any value
   nodes_in Wildcard = []
-  nodes_in Binding = []
+  nodes_in (Binding name) = []
   nodes_in (NumberPattern value) = []
   nodes_in (TruthPattern value) = []
   nodes_in (StructPattern fields) = nodes_of_fields fields

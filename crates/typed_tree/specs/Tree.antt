@@ -1,6 +1,7 @@
 -- A typed program as plain data, without the places in memory where its nodes lie: what its meaning and its lowering
 -- go by. The forms are those of The Rust Reference, "Expressions", "Statements" and "Patterns". Nothing in a node is
 -- to be looked up by name: it has the numbers of the entry, part, variant, body, trait, method or loop that it means.
+-- A binding and a captured variable have their names as well, which are printed where a use is refused.
 use Rattle.std.specs.Prelude.{ℕ, ℤ, Bool, List, Option}
 use Rattle.mir_base.specs.declared.operator.Cmp.{Cmp}
 use Rattle.mir_base.specs.declared.operator.Math.{Math}
@@ -21,7 +22,7 @@ mutual
     UnitValue : Form
     -- places: each reference and box on the way to a field or a method is gone through by a node of its own
     Variable : (key : ℕ) → Form
-    Captured : (closure part : ℕ) → Form
+    Captured : (closure part : ℕ) (name : List ℕ) → Form
     Field : (base : Node) (part : ℕ) → Form
     Index : (base index : Node) (length : ℕ) → Form
     Deref : (base : Node) → Form
@@ -70,7 +71,7 @@ mutual
     Return : (value : MaybeNode) → Form
     -- patterns: a binding makes an entry under its own number; a variant of an enum with one variant is no test
     Wildcard : Form
-    Binding : Form
+    Binding : (name : List ℕ) → Form
     NumberPattern : (value : ℤ) → Form
     TruthPattern : (value : Bool) → Form
     StructPattern : (fields : Fields) → Form
