@@ -3,3 +3,4 @@ pub mod FormsFollow
 pub mod ProgramsFollow
 pub mod RunLaws
 pub mod RunsFollow
+pub mod TestLaws

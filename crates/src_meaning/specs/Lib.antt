@@ -7,3 +7,4 @@ pub mod Locals
 pub mod Programs
 pub mod Scopes
 pub mod Shape
+pub mod Takes

@@ -2,10 +2,11 @@
 -- go by. The forms are those of The Rust Reference, "Expressions", "Statements" and "Patterns". Nothing in a node is
 -- to be looked up by name: it has the numbers of the entry, part, variant, body, trait, method or loop that it means.
 -- A binding and a captured variable have their names as well, which are printed where a use is refused.
-use Rattle.std.specs.Prelude.{ℕ, ℤ, Bool, List, Option}
+use Rattle.std.specs.Prelude.{ℕ, ℤ, Bool, List, Option, Contains}
 use Rattle.mir_base.specs.declared.operator.Cmp.{Cmp}
 use Rattle.mir_base.specs.declared.operator.Math.{Math}
 use Rattle.mir_base.specs.declared.place_in_text.Pos.{Pos}
+use Rattle.mir_ty.specs.declared.ty.Ty.{Ty}
 use Rattle.mir_ty.specs.declared.ty.TyId.{TyId}
 use Rattle.mir_ty.specs.ItemTable.{ItemTable}
 use Rattle.typed_tree.specs.declared.node.Use.{Use}
@@ -108,3 +109,9 @@ pub record BodyTree : Type 0 where
 pub record ProgramTree : Type 0 where
   pub items : ItemTable
   pub bodies : List BodyTree
+
+-- A program's table of items has `bool`, which comparisons, tests of literals and drop flags have as their type, and
+-- `()`, also where its text names neither.
+pub record IsProgram (program : ProgramTree) : Type 0 where
+  pub has_bool : Contains program.items.types Ty.Bool
+  pub has_unit : Contains program.items.types Ty.Unit

@@ -12,7 +12,7 @@ use Rattle.src_meaning.specs.Programs.{source}
 use Rattle.src_meaning.proofs.Examples.Words.{a_name, i32, unit, bool, n, used, nodes, let_, stmt, body, head}
 use Rattle.src_meaning.proofs.Examples.WithD.{d_ty, d, drop_d, take, with_d}
 
-abbrev items : ItemTable
+abbrev pub items : ItemTable
 items = with_d (record {
   types = [];
   adts = [];
