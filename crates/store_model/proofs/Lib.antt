@@ -4,6 +4,7 @@ mod PlacePieces
 pub mod DataLemmas
 pub mod EffectLaws
 pub mod FreeEffects
+pub mod NeverStores
 pub mod PartLaws
 pub mod PlaceLaws
 pub mod PlaceSteps
