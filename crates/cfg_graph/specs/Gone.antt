@@ -46,7 +46,7 @@ containers [] = []
 containers (step ∷ steps) = [] ∷ map (λ outer. step ∷ outer) (containers steps)
 
 -- the steps take an element by a local
-abbrev has_index : List Step → Bool
+abbrev pub has_index : List Step → Bool
 has_index [] = false
 has_index (ToPart n ∷ steps) = has_index steps
 has_index (ToField variant n ∷ steps) = has_index steps
