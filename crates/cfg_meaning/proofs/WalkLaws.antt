@@ -30,7 +30,7 @@ module _ {W : Type 0} (size : W → ℕ) where
 
   renamed_ticked : (name : Halt → Halt) (m : ℕ) (o : Out W) → Ticked size m o → Ticked size m (renamed name o)
   renamed_ticked name m (Go w) l = l
-  renamed_ticked name m (Unwinds w) l = tt
+  renamed_ticked name m (Unwinds w) l = l
   renamed_ticked name m (Halts halt w) l = tt
 
   pub naming_laws : (name : Halt → Halt) (p : Effects W) → Laws p size → Laws (naming name p) size
