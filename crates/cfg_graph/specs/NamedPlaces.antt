@@ -3,22 +3,22 @@
 use Rattle.std.specs.Prelude.{ℕ, zero, suc, ◌==◌, Bool, true, false, not, ◌&&◌, ◌||◌, List, [], ◌∷◌, ◌++◌, find, flat_map, length, take_while, Option, Some, None, if◌then◌else◌}
 use Rattle.std.specs.List.{list_any, list_all}
 use Rattle.std.specs.Option.{option_map_or}
-use Rattle.cfg_graph.specs.declared.graph.Block.{Block}
 use Rattle.cfg_graph.specs.declared.graph.Body.{Body}
 use Rattle.cfg_graph.specs.declared.statement.Stmt.{Stmt}
 use Rattle.cfg_graph.specs.Gone.{Action, leaves_gone, are_first}
 use Rattle.cfg_graph.specs.Places.{named}
-use Rattle.cfg_graph.specs.Uses.{Use, Stores, Frees}
+use Rattle.cfg_graph.specs.Uses.{Use, Stores}
 use Rattle.store_model.specs.NamedPlace.{Step, ToContent, Place, whole_local, before_element}
 
 abbrev pub same_place : Place → Place → Bool
 same_place a b = (a.local == b.local) && are_first a.steps b.steps && are_first b.steps a.steps
 
 -- two places of which one is at or in the other, where an index stands for all elements
+abbrev one_goes_on : List Step → List Step → Bool
+one_goes_on steps others = are_first steps others || are_first others steps
+
 abbrev pub overlaps : Place → Place → Bool
-overlaps a b =
-    (a.local == b.local)
-    && (are_first (before_element a.steps) (before_element b.steps) || are_first (before_element b.steps) (before_element a.steps))
+overlaps a b = (a.local == b.local) && one_goes_on (before_element a.steps) (before_element b.steps)
 
 -- the reference that a statement makes in a whole local: the local, and the place that it names
 abbrev reference_made : Stmt → List (ℕ × Place)
@@ -39,24 +39,25 @@ further steps place = record place { steps = place.steps ++ steps }
 -- where the steps begin by going through a reference that is made here
 abbrev behind : List (ℕ × Place) → ℕ → List Step → Option Place
 behind made local [] = None
-behind made local (ToContent ∷ steps) = elim (named_by local made) [ None ↦ None | Some place ↦ Some (further steps place) ]
+behind made local (ToContent ∷ steps) = option_map_or (λ place. Some (further steps place)) (named_by local made) None
 behind made local (step ∷ steps) = None
 
 -- a place, and the places to which it is followed in turn, through no more references than there are
 abbrev follow : List (ℕ × Place) → ℕ → Place → List Place
 follow made zero place = place ∷ []
-follow made (suc most) place = place ∷ (elim (behind made place.local place.steps) [ None ↦ [] | Some next ↦ follow made most next ])
+follow made (suc most) place =
+    place ∷ option_map_or (follow made most) (behind made place.local place.steps) []
 
 module _ (body : Body) where
   abbrev pub followed : Place → List Place
   followed place = follow (references_made body) (length (references_made body)) place
 
   abbrev pub named_places : ℕ → List Place
-  named_places local = elim (named_by local (references_made body)) [ None ↦ [] | Some place ↦ followed place ]
+  named_places local = option_map_or followed (named_by local (references_made body)) []
 
   -- what is moved, dropped or freed
   abbrev takes : Action → Bool
-  takes action = elim (leaves_gone action.how) [ None ↦ false | Some gone ↦ gone ]
+  takes action = option_map_or (λ gone. gone) (leaves_gone action.how) false
 
   abbrev goes_through : ℕ → List Place → Bool
   goes_through local places = list_any (λ place. place.local == local) places
@@ -95,11 +96,14 @@ module _ (body : Body) where
   up_to_uses local between [] = []
   up_to_uses local between (action ∷ later) =
       if makes local action then []
-      else if_used (uses local action) (between ++ action ∷ of_line action later) ++ up_to_uses local (between ++ action ∷ []) later
+      else
+      if_used (uses local action) (between ++ action ∷ of_line action later)
+      ++ up_to_uses local (between ++ action ∷ []) later
 
   abbrev pub stretches : ℕ → List Action → List (List Action)
   stretches local [] = []
-  stretches local (action ∷ later) = (if makes local action then up_to_uses local [] later else []) ++ stretches local later
+  stretches local (action ∷ later) =
+      (if makes local action then up_to_uses local [] later else []) ++ stretches local later
 
   -- what the reference in a local names is not taken between its making and a use
   abbrev pub keeps_named : List Action → ℕ → Bool

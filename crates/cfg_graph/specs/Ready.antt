@@ -1,13 +1,12 @@
 -- When a graph is ready for drop elaboration: what a lowering gives, and that no path meets a bad use. (The rustc
 -- development guide, "Drop elaboration", which runs after the borrow checker has passed a body.)
-use Rattle.std.specs.Prelude.{◌≡◌, ℕ, zero, suc, ◌==◌, Bool, true, false, not, ◌&&◌, ◌||◌, List, [], ◌∷◌, ◌++◌, count_by, flat_map, if◌then◌else◌, length, Option, Some, None, is_some, slice_get, option_and_then, Contains, nat_eq}
+use Rattle.std.specs.Prelude.{◌≡◌, ℕ, ◌==◌, Bool, true, false, not, ◌&&◌, ◌||◌, List, [], ◌∷◌, ◌++◌, count_by, flat_map, if◌then◌else◌, length, Option, Some, is_some, slice_get, option_and_then, Contains, nat_eq}
 use Rattle.std.specs.List.{list_any, list_all, range_with_len}
 use Rattle.std.specs.Option.{option_map_or}
 use Rattle.mir_ty.specs.declared.ty.Ty.{Ty}
 use Rattle.mir_ty.specs.declared.ty.TyId.{TyId}
 use Rattle.mir_ty.specs.AreItems.{types_in}
 use Rattle.mir_ty.specs.ItemTable.{ItemTable, type_at}
-use Rattle.cfg_graph.specs.declared.graph.Block.{Block}
 use Rattle.cfg_graph.specs.declared.graph.Body.{Body}
 use Rattle.cfg_graph.specs.declared.graph.Graph.{Graph}
 use Rattle.cfg_graph.specs.declared.place.Operand.{Operand}
@@ -61,8 +60,8 @@ module _ (items : ItemTable) (body : Body) where
   abbrev containers_of : Place → List (Option Ty)
   containers_of place = container_tys items (slice_get body.locals place.local) (named place).steps
 
-  -- a place may be left gone: it is not behind a reference, has no index, and does not lie within a value of a type with
-  -- a `Drop` impl
+  -- a place may be left gone: it is not behind a reference, has no index, and does not lie within a value of a type
+  -- with a `Drop` impl
   abbrev pub may_be_left_gone : Place → Bool
   may_be_left_gone place =
       not (has_index (named place).steps)
@@ -107,8 +106,8 @@ module _ (items : ItemTable) (body : Body) where
   abbrev times_made : ℕ → ℕ
   times_made local = count_by (λ made. made.0 == local) (references_made body)
 
-  -- a local of a reference type is a parameter, which is not stored into, or one whose reference is made by one statement
-  -- and by nothing else
+  -- a local of a reference type is a parameter, which is not stored into, or one whose reference is made by one
+  -- statement and by nothing else
   abbrev holds_reference_well : ℕ → Bool
   holds_reference_well local =
       if is_param items body local then times_stored local == 0
@@ -145,8 +144,8 @@ pub record IsPreparedBody (items : ItemTable) (body : Body) : Type 0 where
   pub named_stays : (path : List ℕ) (given : List Bool) (local : ℕ) →
       IsPath items body path given → keeps_named body (actions_on body path) local ≡ true
 
--- what a lowering gives: a well formed graph with all that elaboration wants, but that no path meets a bad use. Drop flags
--- are of the type `bool`.
+-- What a lowering gives: a well formed graph with all that elaboration wants, but that no path meets a bad use. Drop
+-- flags are of the type `bool`.
 pub record IsPrepared (graph : Graph) : Type 0 where
   pub well_formed : IsWellFormed graph
   pub has_bool : Contains graph.items.types Ty.Bool

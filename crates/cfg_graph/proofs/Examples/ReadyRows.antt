@@ -3,7 +3,6 @@ use Rattle.std.proofs.Common.{◌≡◌, refl, [], ◌∷◌}
 use Rattle.std.specs.Prelude.{ℕ, Bool, List, true, false}
 use Rattle.mir_ty.specs.declared.ty.Ty.{Ty}
 use Rattle.mir_ty.specs.declared.ty.TyId.{TyId}
-use Rattle.mir_ty.specs.ItemTable.{ItemTable}
 use Rattle.cfg_graph.specs.declared.place.Step.{Step}
 use Rattle.cfg_graph.specs.declared.place.Place.{Place}
 use Rattle.cfg_graph.specs.declared.place.Operand.{Operand}
@@ -15,7 +14,7 @@ use Rattle.cfg_graph.specs.declared.graph.Body.{Body}
 use Rattle.cfg_graph.specs.Actions.{actions_on}
 use Rattle.cfg_graph.specs.NamedPlaces.{keeps_named}
 use Rattle.cfg_graph.specs.Ready.{frees_nothing, begins_once, moves_well, refills_dropped, references_in_locals, references_stand_alone}
-use Rattle.cfg_graph.proofs.Examples.Graphs.{items, id, var, along, give_unit, plain, block, last, body, make_d}
+use Rattle.cfg_graph.proofs.Examples.Graphs.{items, id, var, along, give_unit, plain, last, body, make_d}
 
 -- a parameter &mut D, and the locals D, (D, D), [D; 2], usize, Box<D>, &mut D and &mut D
 abbrev locals : List TyId
