@@ -6,6 +6,7 @@ pub mod Agreement
 pub mod EffectLaws
 pub mod Following
 pub mod FreeEffects
+pub mod NeverStores
 pub mod PartLaws
 pub mod PlaceLaws
 pub mod PlaceSteps

@@ -7,7 +7,7 @@ use Rattle.mir_ty.specs.declared.ty.TyId.{TyId}
 use Rattle.mir_ty.specs.Facts.{needs_drop}
 use Rattle.mir_ty.specs.ItemTable.{ItemTable, type_at}
 use Rattle.store_model.specs.Effects as effects
-use Rattle.store_model.specs.Effects.{Site, Operand, Action, Test, Mode, Calm, Unwinding, Halt, Aborted, BadUse, BadStore, NoItem, NoRun, PastTheEnd, Out, Go, Unwind, Halts, Choice, Yes, No, Neither, Effects}
+use Rattle.store_model.specs.Effects.{Site, Operand, Action, Test, Mode, Calm, Unwinding, Halt, Aborted, BadUse, BadStore, NoItem, NoRun, PastTheEnd, Out, Go, Unwind, Halts, Choice, Yes, No, Neither, Effects, halting_if}
 use Rattle.store_model.specs.NamedPlace.{place_ty, Watched, Whole, ThroughReference, ByElement, watched}
 use Rattle.store_model.specs.Presence.{Presence, is_present, is_gone, after_action, containers_present, is_whole_at, is_there_at}
 use Rattle.store_model.specs.TypeForms.{is_never}
@@ -112,24 +112,28 @@ module _ (table : ItemTable) (local_ty : ℕ → Option TyId) where
   abbrev pub computed_by_item : Site → Free → Out Free
   computed_by_item to w = panics_by_item w (store to)
 
+  abbrev pub acted_on : Action → Free → Out Free
+  acted_on (effects.Put to from) w = operands_used (from ∷ []) (store to) w
+  acted_on (effects.Compare to operator left right) w = operands_used (left ∷ right ∷ []) (store to) w
+  acted_on (effects.Not to operand) w = operands_used (operand ∷ []) (store to) w
+  acted_on (effects.Build to kind parts) w = operands_used parts (store to) w
+  acted_on (effects.NewBox to content) w = operands_used (content ∷ []) (store to) w
+  acted_on (effects.Unsize to trait_no operand) w = operands_used (operand ∷ []) (store to) w
+  acted_on (effects.Borrow to unique base) w = using base (store to) w
+  acted_on (effects.Touch base) w = using base Go w
+  acted_on (effects.Print operand) w = operands_used (operand ∷ []) Go w
+  acted_on (effects.Forget operand) w = operands_used (operand ∷ []) Go w
+  acted_on (effects.Free box) w = Go (after true box w)
+  acted_on (effects.Compute to operator left right) w = operands_used (left ∷ right ∷ []) (computed_by_item to) w
+  acted_on (effects.Negate to operand) w = operands_used (operand ∷ []) (computed_by_item to) w
+  acted_on (effects.Bounds index length) w = operands_used (index ∷ []) (λ w. panics_by_item w Go) w
+  acted_on (effects.Call to body args) w = operands_used args (returns_by_item to) w
+  acted_on (effects.CallVirtual to trait_no method args) w = operands_used args (returns_by_item to) w
+  acted_on (effects.Ask to) w = computed_by_item to w
+
+  -- nor is there one past a store of it
   abbrev pub act : Action → Free → Out Free
-  act (effects.Put to from) w = operands_used (from ∷ []) (store to) w
-  act (effects.Compare to operator left right) w = operands_used (left ∷ right ∷ []) (store to) w
-  act (effects.Not to operand) w = operands_used (operand ∷ []) (store to) w
-  act (effects.Build to kind parts) w = operands_used parts (store to) w
-  act (effects.NewBox to content) w = operands_used (content ∷ []) (store to) w
-  act (effects.Unsize to trait_no operand) w = operands_used (operand ∷ []) (store to) w
-  act (effects.Borrow to unique base) w = using base (store to) w
-  act (effects.Touch base) w = using base Go w
-  act (effects.Print operand) w = operands_used (operand ∷ []) Go w
-  act (effects.Forget operand) w = operands_used (operand ∷ []) Go w
-  act (effects.Free box) w = Go (after true box w)
-  act (effects.Compute to operator left right) w = operands_used (left ∷ right ∷ []) (computed_by_item to) w
-  act (effects.Negate to operand) w = operands_used (operand ∷ []) (computed_by_item to) w
-  act (effects.Bounds index length) w = operands_used (index ∷ []) (λ w. panics_by_item w Go) w
-  act (effects.Call to body args) w = operands_used args (returns_by_item to) w
-  act (effects.CallVirtual to trait_no method args) w = operands_used args (returns_by_item to) w
-  act (effects.Ask to) w = computed_by_item to w
+  act action w = halting_if (effects.stores_where never_at action) PastTheEnd (acted_on action w)
 
   abbrev pub choose : Test → Free → Choice Free
   choose (effects.IsTrue operand) w = choice_after (operand_used operand w)

@@ -1,13 +1,20 @@
--- The laws of places, of whole values and of serial numbers, which later proofs stand on.
-use Rattle.std.specs.Prelude.{◌≡◌, ◌↔◌, ◌⊎◌, ℕ, List, [], ◌∷◌, ◌++◌, Some, None, IsSome, IsTrue, Contains}
+-- The laws of places, of whole values, of serial numbers and of effects, which later proofs stand on.
+use Rattle.std.specs.Prelude.{◌≡◌, ◌↔◌, ◌⊎◌, ℕ, List, [], ◌∷◌, ◌++◌, Option, Some, None, IsSome, IsTrue, Contains}
 use Rattle.std.specs.Option.{option_and_then, option_map_or}
 use Rattle.std.specs.List.{flat_map}
 use Rattle.std.specs.List.Sorted.{IsPermutation}
 use Rattle.store_model.specs.declared.address.At.{At}
+use Rattle.mir_ty.specs.declared.ty.TyId.{TyId}
+use Rattle.mir_ty.specs.ItemTable.{ItemTable}
+use Rattle.store_model.specs.Acting as values
 use Rattle.store_model.specs.Data.{Datum, Gone}
 use Rattle.store_model.specs.Dropping.{steps_to_parts}
+use Rattle.store_model.specs.Effects.{StoresNoNever}
+use Rattle.store_model.specs.Free as free
 use Rattle.store_model.specs.Places.{part, standing_at, replaced, IsCutOff, AreApart}
+use Rattle.store_model.specs.Standing.{Setting}
 use Rattle.store_model.specs.Wholeness.{IsWhole, is_whole, IsNumbered, serials, serial_before_parts, serial_after_parts}
+use Rattle.store_model.specs.World.{Bodies}
 
 -- a path may be walked in two pieces
 abbrev pub StandsAlong : Type 0
@@ -121,3 +128,12 @@ SerialsAlongSteps = (root : Datum) →
 -- the steps in dropping order are those that lead to a part
 abbrev pub StepsLead : Type 0
 StepsLead = (root : Datum) (step : At) → Contains (steps_to_parts root) step ↔ IsSome (part step root)
+
+-- no run goes on past a store into a place of the type `!`, nor does a free run
+abbrev pub RunsStoreNoNever : Type 0
+RunsStoreNoNever = (setting : Setting) (run : Bodies) (bound : ℕ) →
+    StoresNoNever (values.never_at setting) (values.on_values setting run bound)
+
+abbrev pub FreeRunsStoreNoNever : Type 0
+FreeRunsStoreNoNever = (table : ItemTable) (local_ty : ℕ → Option TyId) →
+    StoresNoNever (λ w. free.never_at table local_ty) (free.on_presence table local_ty)

@@ -1,6 +1,6 @@
 use crate::{
-    Addr, At, AtPath, Value, law_of_changes, law_of_paths, law_of_serials, law_of_what_stands,
-    law_of_wholeness, parts_in_order, put, read, take,
+    Addr, At, AtPath, Value, law_of_changes, law_of_never_stores, law_of_paths, law_of_serials,
+    law_of_what_stands, law_of_wholeness, parts_in_order, put, read, take,
 };
 use mir_base::{Key, List, NoMemory};
 use std::alloc::Global;
@@ -257,4 +257,5 @@ fn laws_are_stated() {
     law_of_changes();
     law_of_wholeness();
     law_of_serials();
+    law_of_never_stores();
 }
