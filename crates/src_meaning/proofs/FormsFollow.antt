@@ -55,7 +55,7 @@ module _ {W V : Type 0} (rel : Relation W V) where
     acts_follow action = doing_follow rel (p.act action) (q.act action) (follow.acting action)
 
     pub panics_follow : (why : Why) → FollowsDoes rel (panics items p why) (panics items q why)
-    panics_follow why = record { run = (doing_follow rel (λ w. Unwind (p.panic why w)) (λ v. Unwind (q.panic why v)) (follow.panicking why)).run }
+    panics_follow why = doing_follow rel (λ w. Unwind (p.panic why w)) (λ v. Unwind (q.panic why v)) (follow.panicking why)
 
     pub deliver_follow : (h : Head) (action : Site → Action) (to : Destination) → FollowsDoes rel (deliver items p h action to) (deliver items q h action to)
     deliver_follow h action (Into key) = acts_follow (action (site_in h.id key))

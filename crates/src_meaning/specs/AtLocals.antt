@@ -1,5 +1,5 @@
--- The effects on the keys of a body as the effects on its locals: the source and a graph name cells alike, so nothing is
--- renamed between them.
+-- The effects on the keys of a body as the effects on its locals: the source and a graph name cells alike, and nothing
+-- is renamed between them.
 use Rattle.std.specs.Prelude.{ℕ, map}
 use Rattle.store_model.specs.Effects.{Site, Operand, Copied, Moved, Action, Put, Compare, Not, Build, NewBox, Unsize, Borrow, Touch, Print, Forget, Free, Compute, Negate, Bounds, Call, CallVirtual, Ask, Test, IsTrue, HasVariant, Effects}
 use Rattle.store_model.specs.NamedPlace.{Step, ToElement, Place}

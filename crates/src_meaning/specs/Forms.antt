@@ -98,7 +98,7 @@ module _ {W : Type 0} (items : ItemTable) (p : Effects W) where
   acts action = doing (p.act action)
 
   abbrev pub panics : Why → Does W
-  panics why S w = At Panics S (p.panic why w)
+  panics why = doing (λ w. Unwind (p.panic why w))
 
   abbrev pub deliver : Head → (Site → Action) → Destination → Does W
   deliver h action (Into key) = acts (action (site_in h.id key))

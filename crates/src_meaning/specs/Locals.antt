@@ -7,7 +7,7 @@ use Rattle.mir_ty.specs.declared.ty.TyId.{TyId}
 use Rattle.mir_ty.specs.ItemTable.{ItemTable}
 use Rattle.store_model.specs.TypeForms.{is_bool}
 use Rattle.typed_tree.specs.Nodes.{number_of}
-use Rattle.typed_tree.specs.Tree.{Node, node, Form, Nodes, no_node, a_node, Fields, no_field, a_field, MaybeNode, absent, present, Variable, Captured, Field, Index, Deref, Not, Negate, Arithmetic, Comparison, And, Or, Assign, Call, MethodCall, VirtualCall, ClosureCall, Make, Tuple, Array, Closure, NewBox, Print, DropValue, Forget, Borrow, Unsize, Block, Let, Evaluate, If, IfLet, Match, Arm, Loop, While, WhileLet, Break, Return, Wildcard, Binding, NumberPattern, TruthPattern, StructPattern, VariantPattern, TuplePattern, ArrayPattern, OrPattern, ParamTree, BodyTree}
+use Rattle.typed_tree.specs.Tree.{Node, node, Form, Nodes, no_node, a_node, Fields, no_field, a_field, MaybeNode, absent, present, Number, Truth, UnitValue, Variable, Captured, Field, Index, Deref, Not, Negate, Arithmetic, Comparison, And, Or, Assign, Call, MethodCall, VirtualCall, ClosureCall, Make, Tuple, Array, Closure, NewBox, Print, Ask, DropValue, Forget, Panic, Borrow, Unsize, Block, Let, Evaluate, If, IfLet, Match, Arm, Loop, While, WhileLet, Break, Continue, Return, Wildcard, Binding, NumberPattern, TruthPattern, StructPattern, VariantPattern, TuplePattern, ArrayPattern, OrPattern, ParamTree, BodyTree}
 use Rattle.src_meaning.specs.Forms.{is_never}
 use Rattle.src_meaning.specs.Scopes.{Entry}
 
@@ -84,14 +84,21 @@ module _ (items : ItemTable) where
 
   abbrev mutual
     pub cells : (own : Bool) → Node → List Entry
-    cells own (node id at ty by form) = if_made (is_made own (is_never items ty) form) (cell_of id ty form) ++ cells_in form
+    cells own (node id at ty by form) =
+        if_made (is_made own (is_never items ty) form) (cell_of id ty form) ++ cells_in form
 
     -- a place is reached, and makes nothing itself; a value that is reached is a temporary
     pub reached_cells : Node → List Entry
     reached_cells (node id at ty by form) =
-        if_made (not (is_place_form form) && is_made true (is_never items ty) form) (cell_of id ty form) ++ cells_in form
+        if_made (not (is_place_form form) && is_made true (is_never items ty) form) (cell_of id ty form)
+        ++ cells_in form
 
     pub cells_in : Form → List Entry
+    cells_in (Number value) = []
+    cells_in (Truth value) = []
+    cells_in UnitValue = []
+    cells_in (Variable key) = []
+    cells_in (Captured closure part name) = []
     cells_in (Field base part) = reached_cells base
     cells_in (Index base index length) = reached_cells base ++ cells true index
     cells_in (Deref base) = reached_cells base
@@ -112,8 +119,10 @@ module _ (items : ItemTable) where
     cells_in (Closure closure captures) = all_cells captures
     cells_in (NewBox content) = cells true content
     cells_in (Print operand) = cells true operand
+    cells_in Ask = []
     cells_in (DropValue operand) = cells true operand
     cells_in (Forget operand) = cells true operand
+    cells_in Panic = []
     cells_in (Borrow unique base) = reached_cells base
     cells_in (Unsize trait_no operand) = cells true operand
     cells_in (Block statements tail) = all_cells statements ++ cells_if_any false tail
@@ -128,13 +137,17 @@ module _ (items : ItemTable) where
     cells_in (While c body) = cells true c ++ cells true body
     cells_in (WhileLet pattern scrutinee body) = cells true pattern ++ reached_cells scrutinee ++ cells true body
     cells_in (Break loop value) = cells_if_any false value
+    cells_in (Continue loop) = []
     cells_in (Return value) = cells_if_any false value
+    cells_in Wildcard = []
+    cells_in (Binding name) = []
+    cells_in (NumberPattern value) = []
+    cells_in (TruthPattern value) = []
     cells_in (StructPattern fields) = cells_of_fields fields
     cells_in (VariantPattern variant is_test fields) = cells_of_fields fields
     cells_in (TuplePattern parts) = all_cells parts
     cells_in (ArrayPattern elements) = all_cells elements
     cells_in (OrPattern alternatives) = all_cells alternatives
-    cells_in form = []
 
     pub all_cells : Nodes → List Entry
     all_cells no_node = []

@@ -106,7 +106,8 @@ source program asked ticks = run_of (setting_of program) (code_of program) (main
 
 abbrev pub free_run : ItemTable → BodyTree → List Bool → Out Free
 free_run items body list =
-    activation items (at_locals (local_of items body) (on_presence items (local_ty items body))) (suc (length list)) body
+    activation items (at_locals (local_of items body) (on_presence items (local_ty items body)))
+    (suc (length list)) body
     (at_start (range_with_len 1 (length body.params)) list)
 
 -- the refused use at which a run has halted, if all items are taken

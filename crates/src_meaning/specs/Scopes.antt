@@ -26,7 +26,8 @@ abbrev pub Scopes : Type 0
 Scopes = List Scope
 
 abbrev pub entered : ℕ → Bool → Scopes → Scopes
-entered node for_temporaries S = (record { node = node; for_temporaries = for_temporaries; entries = []; pending = [] }) ∷ S
+entered node for_temporaries S =
+    (record { node = node; for_temporaries = for_temporaries; entries = []; pending = [] }) ∷ S
 
 abbrev pub without_key : ℕ → List Entry → List Entry
 without_key key [] = []
@@ -156,7 +157,8 @@ module _ {W : Type 0} (items : ItemTable) (p : Effects W) where
   -- entries are dropped; after a panic the rest is dropped while it unwinds, and the exit is the panic
   abbrev pub drop_calm : Exit → List Entry → Does W
   drop_calm exit [] S w = At exit S w
-  drop_calm exit (e ∷ es) S w = dropped_calmly (p.drop Calm (entry_site e) w) (drop_calm exit es S) (drop_unwinding es S)
+  drop_calm exit (e ∷ es) S w =
+      dropped_calmly (p.drop Calm (entry_site e) w) (drop_calm exit es S) (drop_unwinding es S)
 
   -- the innermost scope is left: its entries are dropped, the youngest first; a panic drops what is pending before them
   abbrev pub leave_scope : Exit → Scope → Does W

@@ -158,18 +158,51 @@ module _ (items : ItemTable) where
     shape (node id at ty by form) = shape_of form (head id ty by)
 
     pub shape_of : Form → Head → Shape
+    shape_of (tree.Number value) h = a_value h
+    shape_of (tree.Truth value) h = a_value h
+    shape_of tree.UnitValue h = a_value h
     shape_of (tree.Variable key) h = a_place h (place_of_key key)
     shape_of (tree.Captured closure part name) h = a_part h (place_of_key closure) (ToPart part)
     shape_of (tree.Field base part) h = a_part h (shape base).place (ToPart part)
     shape_of (tree.Index base index length) h = a_part h (shape base).place (ToElement (number_of index))
     shape_of (tree.Deref base) h = a_part h (shape base).place ToContent
+    shape_of (tree.Not operand) h = a_value h
+    shape_of (tree.Negate operand) h = a_value h
+    shape_of (tree.Arithmetic operator left right) h = a_value h
+    shape_of (tree.Comparison operator left right) h = a_value h
+    shape_of (tree.And left right) h = a_value h
+    shape_of (tree.Or left right) h = a_value h
+    shape_of (tree.Assign place value) h = a_value h
+    shape_of (tree.Call body args) h = a_value h
+    shape_of (tree.MethodCall body receiver args) h = a_value h
+    shape_of (tree.VirtualCall trait_no method receiver args) h = a_value h
+    shape_of (tree.ClosureCall body callee args) h = a_value h
+    shape_of (tree.Make adt variant fields) h = a_value h
+    shape_of (tree.Tuple parts) h = a_value h
+    shape_of (tree.Array elements) h = a_value h
+    shape_of (tree.Closure closure captures) h = a_value h
+    shape_of (tree.NewBox content) h = a_value h
+    shape_of (tree.Print operand) h = a_value h
+    shape_of tree.Ask h = a_value h
+    shape_of (tree.DropValue operand) h = a_value h
+    shape_of (tree.Forget operand) h = a_value h
+    shape_of tree.Panic h = a_value h
+    shape_of (tree.Borrow unique base) h = a_value h
+    shape_of (tree.Unsize trait_no operand) h = a_value h
     shape_of (tree.Block statements tail) h = a_value_in_destination h
+    shape_of (tree.Let pattern initialiser) h = a_value h
+    shape_of (tree.Evaluate expression) h = a_value h
     shape_of (tree.If condition consequent otherwise) h = a_value_in_destination h
     shape_of (tree.IfLet pattern scrutinee consequent otherwise) h = a_value_in_destination h
     shape_of (tree.Match scrutinee arms) h = a_value_in_destination h
+    shape_of (tree.Arm pattern guard body) h = a_value h
     shape_of (tree.Loop body) h = a_value_in_destination h
     shape_of (tree.While condition body) h = a_value_in_destination h
     shape_of (tree.WhileLet pattern scrutinee body) h = a_value_in_destination h
+    shape_of (tree.Break loop value) h = a_value h
+    shape_of (tree.Continue loop) h = a_value h
+    shape_of (tree.Return value) h = a_value h
+    shape_of tree.Wildcard h = a_value h
     shape_of (tree.Binding name) h = a_binding h
     shape_of (tree.NumberPattern value) h = a_test_alone h (λ site. IsNumber site value (kind_of items h.ty))
     shape_of (tree.TruthPattern value) h = a_test_alone h (λ site. IsTruth site value)
@@ -179,7 +212,6 @@ module _ (items : ItemTable) where
     shape_of (tree.TuplePattern parts) h = of_parts h (in_parts parts 0)
     shape_of (tree.ArrayPattern elements) h = of_parts h (in_parts elements 0)
     shape_of (tree.OrPattern alternatives) h = of_alternatives h (alternatives_at alternatives)
-    shape_of form h = a_value h
 
     -- the fields of a pattern, each at the step to it
     pub in_fields : Fields → (ℕ → Step) → Parts

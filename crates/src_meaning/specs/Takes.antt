@@ -86,7 +86,8 @@ module _ (items : ItemTable) (p : Effects World) (view : View) (good : World →
     -- the effects answer each single test of some tests by what stands there
     pub Truthful : PatternTest → Type 0
     Truthful (IsVariant site variant) = AnswersTest (is_of_variant variant (view site.place)) (IsVariant site variant)
-    Truthful (IsNumber site value kind) = AnswersTest (is_equal (view site.place) (Number value)) (IsNumber site value kind)
+    Truthful (IsNumber site value kind) =
+        AnswersTest (is_equal (view site.place) (Number value)) (IsNumber site value kind)
     Truthful (IsTruth site value) = AnswersTest (is_equal (view site.place) (Truth value)) (IsTruth site value)
     Truthful (AnyOf alternatives) = AnyTruthful alternatives
 
@@ -101,6 +102,7 @@ module _ (items : ItemTable) (p : Effects World) (view : View) (good : World →
 -- Where each single test of a pattern at a place is answered by what stands there, all of them hold exactly where the
 -- pattern takes what stands at the place.
 abbrev pub TestsHoldWhereTaken : Type 0
-TestsHoldWhereTaken = (items : ItemTable) (p : Effects World) (view : View) (good : World → Bool) (pattern : Node) (place : Place)
+TestsHoldWhereTaken =
+    (items : ItemTable) (p : Effects World) (view : View) (good : World → Bool) (pattern : Node) (place : Place)
     (w : World) → HasParts view → AllTruthful items p view good ((shape items pattern).tests place) → IsTrue (good w) →
     Answers good (takes pattern (view place)) (all_hold items p ((shape items pattern).tests place) w)

@@ -84,16 +84,13 @@ if_found (Some found) forget = forget found
 
 abbrev mutual
   pub forgotten : ItemTable → Datum → Found → List Event
-  forgotten items Gone found = []
-  forgotten items (Number number) found = []
-  forgotten items (Truth truth) found = []
-  forgotten items UnitValue found = []
   forgotten items (Aggregate variant serial parts) found =
       made_forgotten serial (drop_impl items (concrete_ty items found))
       ++ forgotten_parts items parts (λ n. found_part items (Part n) (Aggregate variant serial no_part) found) 0
   forgotten items (Box serial impl_no inside) found =
-      if_found (found_part items Inside (Box serial impl_no Gone) found) (forgotten items inside) ++ Event.ForgotBox serial ∷ []
-  forgotten items (Address address) found = []
+      if_found (found_part items Inside (Box serial impl_no Gone) found) (forgotten items inside)
+      ++ Event.ForgotBox serial ∷ []
+  forgotten items value found = []
 
   pub forgotten_parts : ItemTable → Data → (ℕ → Option Found) → ℕ → List Event
   forgotten_parts items no_part found_at n = []
@@ -128,7 +125,9 @@ module _ (setting : Setting) where
   -- the type that a place has by the body that runs
   abbrev pub ty_of_place : World → effects.Site → Option Ty
   ty_of_place w site =
-      option_and_then (type_at setting.items) (place_ty setting.items (λ local. option_and_then (λ body. setting.local_ty body local) (body_of_youngest w)) site.place)
+      option_and_then (type_at setting.items)
+      (place_ty setting.items
+      (λ local. option_and_then (λ body. setting.local_ty body local) (body_of_youngest w)) site.place)
 
   abbrev pub never_at : World → effects.Site → Bool
   never_at w site = is_never (ty_of_place w site)
@@ -157,7 +156,8 @@ module _ (setting : Setting) where
   abbrev pub all_taken : List Operand → World → Option (List Datum × World)
   all_taken [] w = Some ([], w)
   all_taken (operand ∷ operands) w =
-      option_and_then (λ one. option_map_or (λ rest. Some (one.0 ∷ rest.0, rest.1)) (all_taken operands one.1) None) (taken operand w)
+      option_and_then (λ one. option_map_or (λ rest. Some (one.0 ∷ rest.0, rest.1)) (all_taken operands one.1) None)
+      (taken operand w)
 
   abbrev pub taking : Operand → World → (Datum → World → Out World) → Out World
   taking operand w next = or_no_step (taken operand w) (λ t. next t.0 t.1) w
@@ -198,14 +198,16 @@ module _ (setting : Setting) where
   built to OfArray parts w = put to (Aggregate 0 None (data_from parts)) w
   built to (OfClosure closure) parts w = put to (Aggregate 0 None (data_from parts)) w
   built to (OfVariant adt variant) parts w =
-      made_event adt to (made adt variant parts (Some w.serial) (drop_impl setting.items (Some (Ty.Adt adt)))) (drop_impl setting.items (Some (Ty.Adt adt))) w
+      made_event adt to (made adt variant parts (Some w.serial) (drop_impl setting.items (Some (Ty.Adt adt))))
+      (drop_impl setting.items (Some (Ty.Adt adt))) w
 
   abbrev pub boxed : Site → Datum → World → Out World
   boxed to content w = told (Event.Boxed w.serial) (put to (Box w.serial None content) (numbered_next w))
 
   abbrev impl_boxed : ℕ → World → Operand → Option ℕ
   impl_boxed trait_no w operand =
-      option_and_then (impl_of setting.items trait_no) (adt_of (option_and_then (type_at setting.items) (box_content (ty_of_operand w operand))))
+      option_and_then (impl_of setting.items trait_no)
+      (adt_of (option_and_then (type_at setting.items) (box_content (ty_of_operand w operand))))
 
   abbrev pub printed : Datum → World → Out World
   printed (Number number) w = Go (telling (Event.Printed number) w)
@@ -225,7 +227,8 @@ module _ (setting : Setting) where
 
   -- a box is freed alone, where no numbered value is left in it
   abbrev pub freed : Standing → Datum → World → Out World
-  freed s (Box serial impl_no inside) w = if_nothing_numbered (serials inside) (Go (telling (Event.Freed serial) (stored_at s.address Gone w))) w
+  freed s (Box serial impl_no inside) w =
+      if_nothing_numbered (serials inside) (Go (telling (Event.Freed serial) (stored_at s.address Gone w))) w
   freed s value w = Halts NoStep w
 
   abbrev pub put_computed : Site → Computed → World → Out World
@@ -259,7 +262,8 @@ module _ (setting : Setting) where
   abbrev object_body : ℕ → ℕ → Found → Option ℕ
   object_body trait_no method (As id) = None
   object_body trait_no method (AsObject id impl_no) =
-      option_and_then (λ body. if_so (is_dyn_of trait_no (type_at setting.items id)) body) (row_body setting.items method impl_no)
+      option_and_then (λ body. if_so (is_dyn_of trait_no (type_at setting.items id)) body)
+      (row_body setting.items method impl_no)
 
   -- the body of a trait's method, by the impl of the trait object that the first argument names
   abbrev pub virtual_body : ℕ → ℕ → World → List Datum → Option ℕ
@@ -287,7 +291,8 @@ module _ (setting : Setting) where
   abbrev pub choose : Test → World → Choice World
   choose (effects.IsTrue operand) w = chosen_truth (taken operand w) w
   choose (effects.HasVariant site variant) w =
-      on_reached (reach setting w site.place) (λ s. variant_tested variant s.value w) (Neither NoStep w) (Neither NoStep w)
+      on_reached (reach setting w site.place) (λ s. variant_tested variant s.value w) (Neither NoStep w)
+      (Neither NoStep w)
 
   abbrev impl_put : Site → Option ℕ → Datum → World → Out World
   impl_put to impl_no value w = put_if to (option_and_then (λ n. with_impl n value) impl_no) w
@@ -308,9 +313,12 @@ module _ (setting : Setting) where
     acted (effects.Touch base) w = or_no_step (used w base) (λ s. Go w) w
     acted (effects.Print operand) w = taking operand w printed
     acted (effects.Forget operand) w =
-        taking operand w (λ v w'. Go (told_all (option_map_or (forgotten setting.items v) (operand_found w operand) []) w'))
-    acted (effects.Free box) w = on_reached (reach setting w box.place) (λ s. freed s s.value w) (Halts NoStep w) (Halts NoStep w)
-    acted (effects.Compute to operator left right) w = taking_two left right w (compute to operator (int_kind (ty_of_operand w left)))
+        taking operand w
+        (λ v w'. Go (told_all (option_map_or (forgotten setting.items v) (operand_found w operand) []) w'))
+    acted (effects.Free box) w =
+        on_reached (reach setting w box.place) (λ s. freed s s.value w) (Halts NoStep w) (Halts NoStep w)
+    acted (effects.Compute to operator left right) w =
+        taking_two left right w (compute to operator (int_kind (ty_of_operand w left)))
     acted (effects.Negate to operand) w = taking operand w (negate to (int_kind (ty_of_operand w operand)))
     acted (effects.Bounds index length) w = taking index w (bounded length)
     acted (effects.Call to body args) w = taking_all args w (called to (Some body))
@@ -338,7 +346,8 @@ module _ (setting : Setting) where
     -- the bound is greater than the ticks that are left
     abbrev pub drop : ℕ → Mode → Site → World → Out World
     drop bound mode site w =
-        on_reached (reach setting w site.place) (λ s. dropped_if bound (not setting.strict || is_whole s.value) mode s w)
+        on_reached (reach setting w site.place)
+        (λ s. dropped_if bound (not setting.strict || is_whole s.value) mode s w)
         (nothing_if setting.strict w) (Halts NoStep w)
 
     abbrev pub on_values : ℕ → Effects World

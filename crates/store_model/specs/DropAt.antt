@@ -39,7 +39,8 @@ with_drop_body n None = None
 with_drop_body n (Some body) = Some (n, body)
 
 abbrev pub drop_impl : ItemTable → Option Ty → Option (ℕ × ℕ)
-drop_impl items (Some (Ty.Adt n)) = with_drop_body n (option_map_or (λ adt. adt.drop_body) (slice_get items.adts n) None)
+drop_impl items (Some (Ty.Adt n)) =
+    with_drop_body n (option_map_or (λ adt. adt.drop_body) (slice_get items.adts n) None)
 drop_impl items _ = None
 
 abbrev serial_or_none : Option ℕ → ℕ
@@ -124,7 +125,8 @@ module _ (setting : Setting) (run : Bodies) where
       pub drop_parts : Data → ℕ → Standing → Mode → World → Out World
       drop_parts no_part n s mode w = Go w
       drop_parts (a_part first rest) n s mode w =
-          in_mode mode (if_part (into setting.items (Part n) s) (drop_value first Begins) mode w) (drop_parts rest (suc n) s)
+          in_mode mode (if_part (into setting.items (Part n) s) (drop_value first Begins) mode w)
+          (drop_parts rest (suc n) s)
 
   abbrev pub dropped_there : (Stage → Standing → Mode → World → Out World) → Stage → Mode → Standing → World → Out World
   dropped_there again stage mode s w = drop_value again w.ticks s.value stage s mode w

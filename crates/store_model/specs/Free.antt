@@ -23,22 +23,35 @@ presence key (c ∷ cells) = if key == c.0 then c.1 else presence key cells
 
 abbrev pub with_presence : ℕ → (Presence → Presence) → List (ℕ × Presence) → List (ℕ × Presence)
 with_presence key change [] = (key, change is_gone) ∷ []
-with_presence key change (c ∷ cells) = if key == c.0 then (key, change c.1) ∷ cells else c ∷ with_presence key change cells
+with_presence key change (c ∷ cells) =
+    if key == c.0 then (key, change c.1) ∷ cells else c ∷ with_presence key change cells
 
 -- Whether a place may be used: what is behind a reference is not watched, and an element that a local names is
 -- watched as its whole array.
 
 -- copied, moved, borrowed or read as a whole: no place at or below it is gone, and no container of it
 abbrev pub may_use : Watched → Presence → Bool
-may_use w p = elim w.reach [ Whole ↦ is_whole_at w.steps p | ThroughReference ↦ is_there_at w.steps p | ByElement ↦ is_whole_at w.steps p ]
+may_use w p = elim w.reach [
+  Whole ↦ is_whole_at w.steps p
+  | ThroughReference ↦ is_there_at w.steps p
+  | ByElement ↦ is_whole_at w.steps p
+]
 
 -- tested: neither the place itself is gone nor a container of it
 abbrev pub may_test : Watched → Presence → Bool
-may_test w p = elim w.reach [ Whole ↦ is_there_at w.steps p | ThroughReference ↦ is_there_at w.steps p | ByElement ↦ is_whole_at w.steps p ]
+may_test w p = elim w.reach [
+  Whole ↦ is_there_at w.steps p
+  | ThroughReference ↦ is_there_at w.steps p
+  | ByElement ↦ is_whole_at w.steps p
+]
 
 -- stored into or dropped: no container of the place is gone
 abbrev pub may_store : Watched → Presence → Bool
-may_store w p = elim w.reach [ Whole ↦ containers_present w.steps p | ThroughReference ↦ is_there_at w.steps p | ByElement ↦ is_whole_at w.steps p ]
+may_store w p = elim w.reach [
+  Whole ↦ containers_present w.steps p
+  | ThroughReference ↦ is_there_at w.steps p
+  | ByElement ↦ is_whole_at w.steps p
+]
 
 -- what is done behind a reference, or at an element that a local names, counts for no place
 abbrev acted : Bool → Watched → Presence → Presence
@@ -94,9 +107,7 @@ module _ (table : ItemTable) (local_ty : ℕ → Option TyId) where
   abbrev pub operand_used : Operand → Free → Out Free
   operand_used (effects.Copied site) w = using site (unless_never (never_at site)) w
   operand_used (effects.Moved site) w = using site (λ w. Go (after true site w)) w
-  operand_used (effects.Number value kind) w = Go w
-  operand_used (effects.Truth value) w = Go w
-  operand_used effects.UnitValue w = Go w
+  operand_used value w = Go w
 
   abbrev pub operands_used : List Operand → (Free → Out Free) → Free → Out Free
   operands_used [] next w = next w
@@ -151,14 +162,16 @@ module _ (table : ItemTable) (local_ty : ℕ → Option TyId) where
 
   abbrev pub drop : Mode → Site → Free → Out Free
   drop mode site w =
-      when (may_store (watched_at site) (presence_of site w)) (BadStore site) (dropped (option_map_or (needs_drop table) (ty_at site) false) mode site) w
+      when (may_store (watched_at site) (presence_of site w)) (BadStore site)
+      (dropped (option_map_or (needs_drop table) (ty_at site) false) mode site) w
 
   -- a turn of a loop always takes the item 0
   abbrev pub tick : Free → Out Free
   tick w = item w.items w Go (Halts NoRun)
 
   abbrev pub on_presence : Effects Free
-  on_presence = record { act = act; choose = choose; drop = drop; panic = λ why w. w; tick = tick; give = λ site w. Go w }
+  on_presence =
+      record { act = act; choose = choose; drop = drop; panic = λ why w. w; tick = tick; give = λ site w. Go w }
 
 abbrev pub params_present : List ℕ → List (ℕ × Presence)
 params_present [] = []

@@ -50,7 +50,8 @@ abbrev mutual
   nodes_in (Let pattern initialiser) = nodes_of pattern ++ nodes_if_any initialiser
   nodes_in (Evaluate expression) = nodes_of expression
   nodes_in (If condition then otherwise) = nodes_of condition ++ nodes_of then ++ nodes_if_any otherwise
-  nodes_in (IfLet pattern scrutinee then otherwise) = nodes_of pattern ++ nodes_of scrutinee ++ nodes_of then ++ nodes_if_any otherwise
+  nodes_in (IfLet pattern scrutinee then otherwise) =
+      nodes_of pattern ++ nodes_of scrutinee ++ nodes_of then ++ nodes_if_any otherwise
   nodes_in (Match scrutinee arms) = nodes_of scrutinee ++ nodes_among arms
   nodes_in (Arm pattern guard body) = nodes_of pattern ++ nodes_if_any guard ++ nodes_of body
   nodes_in (Loop body) = nodes_of body
