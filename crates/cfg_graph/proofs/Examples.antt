@@ -2,6 +2,7 @@
 pub mod Graphs
 mod PathRows
 mod Ranks
+mod ReadyRows
 mod Short
 mod Statements
 mod Targets

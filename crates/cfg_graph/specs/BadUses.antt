@@ -20,16 +20,21 @@ module _ (items : ItemTable) (body : Body) where
   -- copied, moved, borrowed or touched: the place, a place below it or a container of it is gone
   abbrev pub may_not_read : List Action → Place → Bool
   may_not_read earlier place =
-      not (is_whole_after items body earlier place) || container_gone_after items body earlier place || array_broken_after items body earlier place
+      not (is_whole_after items body earlier place)
+      || container_gone_after items body earlier place
+      || array_broken_after items body earlier place
 
   -- tested: the place or a container of it is gone
   abbrev pub may_not_test : List Action → Place → Bool
   may_not_test earlier place =
-      is_gone_after items body earlier place || container_gone_after items body earlier place || array_broken_after items body earlier place
+      is_gone_after items body earlier place
+      || container_gone_after items body earlier place
+      || array_broken_after items body earlier place
 
   -- stored into or dropped: a container of the place is gone
   abbrev pub may_not_store : List Action → Place → Bool
-  may_not_store earlier place = container_gone_after items body earlier place || array_broken_after items body earlier place
+  may_not_store earlier place =
+      container_gone_after items body earlier place || array_broken_after items body earlier place
 
   abbrev if_bad : Bool → UseRule → Action → List BadUse
   if_bad bad rule action = if bad then record { rule = rule; action = action } ∷ [] else []

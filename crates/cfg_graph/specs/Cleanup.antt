@@ -10,12 +10,12 @@ use Rattle.cfg_graph.specs.Edges.{onward, unwind_targets, targets, is_cleanup, l
 
 -- each edge to a block that exists lowers the rank, unless a turn begins there
 abbrev pub edges_lower : Body → Block → Bool
-edges_lower body block = list_all (λ n. option_map_or (lowers block) (slice_get body.blocks n) true) (targets block.term)
+edges_lower body block =
+    list_all (λ n. option_map_or (lowers block) (slice_get body.blocks n) true) (targets block.term)
 
 abbrev is_abort : Unwind → Bool
-is_abort (Unwind.Block block) = false
-is_abort Unwind.Resume = false
 is_abort Unwind.Abort = true
+is_abort _ = false
 
 -- the terminators of cleanup blocks
 abbrev cleans_up : Term → Bool
@@ -38,27 +38,18 @@ abbrev are_cleanup : Body → List ℕ → Bool
 are_cleanup body blocks = list_all (λ n. option_map_or is_cleanup (slice_get body.blocks n) true) blocks
 
 abbrev are_no_cleanup : Body → List ℕ → Bool
-are_no_cleanup body blocks = list_all (λ n. option_map_or (λ block. not (is_cleanup block)) (slice_get body.blocks n) true) blocks
+are_no_cleanup body blocks =
+    list_all (λ n. option_map_or (λ block. not (is_cleanup block)) (slice_get body.blocks n) true) blocks
 
 abbrev is_resume : Term → Bool
-is_resume (Term.Goto block) = false
-is_resume (Term.If on if_true if_false) = false
-is_resume (Term.Case on variant if_true if_false) = false
-is_resume (Term.Math to op left right next unwind) = false
-is_resume (Term.Negate to of next unwind) = false
-is_resume (Term.Bounds index count next unwind) = false
-is_resume (Term.Call to body args next unwind) = false
-is_resume (Term.Virtual to trait_no method args next unwind) = false
-is_resume (Term.Ask to next unwind) = false
-is_resume (Term.DropAt place next unwind) = false
-is_resume (Term.Panic why unwind) = false
-is_resume Term.Return = false
 is_resume Term.Resume = true
+is_resume _ = false
 
 -- from a cleanup block all edges stay among cleanup blocks; from another block exactly unwinding leads to them
 abbrev keeps_cleanup : Bool → Body → Term → Bool
 keeps_cleanup true body term = cleans_up term && are_cleanup body (targets term)
-keeps_cleanup false body term = not (is_resume term) && are_no_cleanup body (onward term) && are_cleanup body (unwind_targets term)
+keeps_cleanup false body term =
+    not (is_resume term) && are_no_cleanup body (onward term) && are_cleanup body (unwind_targets term)
 
 abbrev pub keeps_to_cleanup : Body → Block → Bool
 keeps_to_cleanup body block = keeps_cleanup (is_cleanup block) body block.term

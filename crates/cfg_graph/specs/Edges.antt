@@ -67,14 +67,12 @@ abbrev pub targets : Term → List ℕ
 targets term = onward term ++ unwind_targets term
 
 abbrev pub is_turn_kind : Kind → Bool
-is_turn_kind Kind.Plain = false
 is_turn_kind Kind.Turn = true
-is_turn_kind Kind.Cleanup = false
+is_turn_kind _ = false
 
 abbrev pub is_cleanup_kind : Kind → Bool
-is_cleanup_kind Kind.Plain = false
-is_cleanup_kind Kind.Turn = false
 is_cleanup_kind Kind.Cleanup = true
+is_cleanup_kind _ = false
 
 abbrev pub is_turn : Block → Bool
 is_turn block = is_turn_kind block.kind
@@ -89,5 +87,6 @@ lowers from to = is_turn to || nat_lt to.rank from.rank
 -- each edge of a body that does not lead to a turn block lowers the rank
 abbrev pub IsRanked : Body → Type 0
 IsRanked body =
-    (n m : ℕ) (from to : Block) → slice_get body.blocks n ≡ Some from → Contains (targets from.term) m → slice_get body.blocks m ≡ Some to
-    → is_turn to ≡ false → to.rank < from.rank
+    (n m : ℕ) (from to : Block) →
+    slice_get body.blocks n ≡ Some from → Contains (targets from.term) m → slice_get body.blocks m ≡ Some to →
+    is_turn to ≡ false → to.rank < from.rank

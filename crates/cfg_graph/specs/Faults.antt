@@ -22,7 +22,8 @@ nowhere = 2 ^ 32 - 1
 
 -- the faults of one line
 abbrev pub at_line : (body block line : ℕ) → List ℕ → List GraphFault
-at_line body block line numbers = map (λ number. record { number = number; body = body; block = block; line = line }) numbers
+at_line body block line numbers =
+    map (λ number. record { number = number; body = body; block = block; line = line }) numbers
 
 -- the faults of things that are counted from a number on
 abbrev pub of_each : {X : Type 0} → (ℕ → X → List GraphFault) → ℕ → List X → List GraphFault
@@ -49,31 +50,38 @@ module _ (graph : Graph) where
   traits_faults = of_items (length graph.items.adts) (trait_faults graph.items bodies) graph.items.traits
 
   abbrev pub impls_faults : List GraphFault
-  impls_faults = of_items (length graph.items.adts + length graph.items.traits) (impl_faults graph.items bodies) graph.items.impls
+  impls_faults =
+      of_items (length graph.items.adts + length graph.items.traits) (impl_faults graph.items bodies) graph.items.impls
 
   abbrev pub closures_faults : List GraphFault
-  closures_faults = of_items (length graph.items.adts + length graph.items.traits + length graph.items.impls) (closure_faults graph.items bodies) graph.items.closures
+  closures_faults =
+      of_items (length graph.items.adts + length graph.items.traits + length graph.items.impls)
+      (closure_faults graph.items bodies) graph.items.closures
 
   abbrev pub item_faults : List GraphFault
   item_faults = adts_faults ++ (traits_faults ++ (impls_faults ++ closures_faults))
 
   -- of the statements of a block, and of the whole block
   abbrev pub stmts_faults : (number : ℕ) → Body → ℕ → Block → List GraphFault
-  stmts_faults number body n block = of_each (λ line stmt. at_line number n line (stmt_faults graph.items bodies body stmt)) 0 block.stmts
+  stmts_faults number body n block =
+      of_each (λ line stmt. at_line number n line (stmt_faults graph.items bodies body stmt)) 0 block.stmts
 
   abbrev pub block_faults : (number : ℕ) → Body → ℕ → Block → List GraphFault
   block_faults number body n block =
-      stmts_faults number body n block ++ at_line number n (length block.stmts) (term_faults graph.items bodies body block)
+      stmts_faults number body n block
+      ++ at_line number n (length block.stmts) (term_faults graph.items bodies body block)
 
   -- of the line of a body, of its locals, and of the whole body
   abbrev pub own_faults : (number : ℕ) → Body → List GraphFault
   own_faults number body = at_line number nowhere nowhere (body_faults graph.items bodies number body)
 
   abbrev pub locals_faults : (number : ℕ) → Body → List GraphFault
-  locals_faults number body = of_each (λ n id. at_line number nowhere n (local_faults graph.items bodies id)) 0 body.locals
+  locals_faults number body =
+      of_each (λ n id. at_line number nowhere n (local_faults graph.items bodies id)) 0 body.locals
 
   abbrev pub faults_of_body : ℕ → Body → List GraphFault
-  faults_of_body number body = own_faults number body ++ (locals_faults number body ++ of_each (block_faults number body) 0 body.blocks)
+  faults_of_body number body =
+      own_faults number body ++ (locals_faults number body ++ of_each (block_faults number body) 0 body.blocks)
 
   -- `main`, without parameters
   abbrev is_main : Sig × Body → Bool
@@ -100,7 +108,8 @@ module _ (graph : Graph) where
 
 -- what the law of ranks says: in a graph without a fault each body is ranked
 abbrev pub WellFormedIsRanked : Type 0
-WellFormedIsRanked = (graph : Graph) (n : ℕ) (body : Body) → IsWellFormed graph → slice_get graph.bodies n ≡ Some body → IsRanked body
+WellFormedIsRanked =
+    (graph : Graph) (n : ℕ) (body : Body) → IsWellFormed graph → slice_get graph.bodies n ≡ Some body → IsRanked body
 
 -- the types in a type have lower numbers: so it is where each type is interned after those in it
 abbrev pub ArePartsFirst : List Ty → Type 0
@@ -108,4 +117,5 @@ ArePartsFirst types = (n : ℕ) (ty : Ty) → slice_get types n ≡ Some ty → 
 
 -- what the law of items says: in a graph without a fault no type holds itself
 abbrev pub WellFormedHoldsNothing : Type 0
-WellFormedHoldsNothing = (graph : Graph) → IsWellFormed graph → ArePartsFirst graph.items.types → NoneHoldsItself graph.items
+WellFormedHoldsNothing =
+    (graph : Graph) → IsWellFormed graph → ArePartsFirst graph.items.types → NoneHoldsItself graph.items

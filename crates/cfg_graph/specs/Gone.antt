@@ -4,7 +4,7 @@ use Rattle.std.specs.Prelude.{ℕ, ◌≡◌, ◌↔◌, ◌==◌, Bool, true, f
 use Rattle.std.specs.List.{list_any, list_all}
 use Rattle.std.specs.Option.{option_or}
 use Rattle.mir_ty.specs.ItemTable.{ItemTable}
-use Rattle.store_model.specs.NamedPlace.{Step, same_step, ToPart, ToField, ToContent, ToElement, Place, Watched, Whole, ThroughReference, ByElement, watched, before_element}
+use Rattle.store_model.specs.NamedPlace.{Step, same_step, ToElement, Place, Watched, Whole, ThroughReference, ByElement, watched, before_element}
 use Rattle.cfg_graph.specs.declared.graph.Body.{Body}
 use Rattle.cfg_graph.specs.Uses.{Use, Copies, Moves, Borrows, Touches, Tests, Stores, Drops, Frees}
 
@@ -46,12 +46,10 @@ containers [] = []
 containers (step ∷ steps) = [] ∷ map (λ outer. step ∷ outer) (containers steps)
 
 -- the steps take an element by a local
-abbrev has_index : List Step → Bool
+abbrev pub has_index : List Step → Bool
 has_index [] = false
-has_index (ToPart n ∷ steps) = has_index steps
-has_index (ToField variant n ∷ steps) = has_index steps
-has_index (ToContent ∷ steps) = has_index steps
 has_index (ToElement local ∷ steps) = true
+has_index (step ∷ steps) = has_index steps
 
 -- a place is watched to its end
 abbrev reaches_whole : Watched → Bool
@@ -64,7 +62,8 @@ module _ (items : ItemTable) (body : Body) where
 
   -- what an action leaves of a place, if it was on the place or on a container of it
   abbrev pub left_by : Place → Action → Option Bool
-  left_by place action = if counts action.place && is_at_or_above action.place place then leaves_gone action.how else None
+  left_by place action =
+      if counts action.place && is_at_or_above action.place place then leaves_gone action.how else None
 
   -- what the last such action left
   abbrev pub last_left : Place → List Action → Option Bool
@@ -98,7 +97,8 @@ module _ (items : ItemTable) (body : Body) where
   -- the array of which a place takes an element by a local, the first of them, is not whole
   abbrev pub array_broken_after : List Action → Place → Bool
   array_broken_after actions place =
-      has_index place.steps && not (is_whole_after actions (record { local = place.local; steps = before_element place.steps }))
+      has_index place.steps
+      && not (is_whole_after actions (record { local = place.local; steps = before_element place.steps }))
 
 -- what the law of whole places says: the test tells exactly the places that are whole
 abbrev pub WholenessIsTested : Type 0

@@ -60,7 +60,9 @@ module _ (items : ItemTable) (bodies : ℕ) where
   -- the names of a struct or enum and of its variants stand in a listing, and no earlier one has its name
   abbrev pub adt_has_names : ℕ → Adt → Bool
   adt_has_names n adt =
-      is_adt_name adt.name && list_all (λ variant. is_name variant.name) adt.variants && not (is_repeated (map (λ other. other.name) items.adts) n adt.name)
+      is_adt_name adt.name
+      && list_all (λ variant. is_name variant.name) adt.variants
+      && not (is_repeated (map (λ other. other.name) items.adts) n adt.name)
 
   abbrev pub adt_tests : ℕ → Adt → List (ℕ × Bool)
   adt_tests n adt =
@@ -91,7 +93,8 @@ module _ (items : ItemTable) (bodies : ℕ) where
   are_selves n _ _ = false
 
   abbrev params_implement : ℕ → List TyId → List TyId → Bool
-  params_implement n (object ∷ params) (self_ty ∷ own) = are_selves n (type_at items object) (type_at items self_ty) && same_ids params own
+  params_implement n (object ∷ params) (self_ty ∷ own) =
+      are_selves n (type_at items object) (type_at items self_ty) && same_ids params own
   params_implement n [] own = false
   params_implement n (object ∷ params) [] = false
 
@@ -100,15 +103,19 @@ module _ (items : ItemTable) (bodies : ℕ) where
 
   -- a body has the types of the method for this struct or enum, and is the body of no `Drop` impl
   abbrev body_implements : ℕ → Sig → ℕ → Bool
-  body_implements n method body = option_map_or (sig_implements n method) (slice_get items.bodies body) false && not (is_drop_body items body)
+  body_implements n method body =
+      option_map_or (sig_implements n method) (slice_get items.bodies body) false && not (is_drop_body items body)
 
   abbrev methods_of : ℕ → List Sig
   methods_of trait_no = option_map_or (λ def. def.methods) (slice_get items.traits trait_no) []
 
   abbrev pub impl_faults : ℕ → ImplDef → List ℕ
   impl_faults n impl =
-      broken (
-      (1, nat_lt impl.trait_no (length items.traits) && nat_lt impl.adt (length items.adts) && list_all (λ body. nat_lt body bodies) impl.bodies)
+      broken ((
+        1,
+        nat_lt impl.trait_no (length items.traits) && nat_lt impl.adt (length items.adts)
+            && list_all (λ body. nat_lt body bodies) impl.bodies,
+      )
       ∷ (3, pointwise (body_implements impl.adt) (methods_of impl.trait_no) impl.bodies)
       ∷ (7, not (is_repeated_impl items.impls n impl))
       ∷ [])

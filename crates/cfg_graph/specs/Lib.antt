@@ -8,9 +8,11 @@ pub mod Gone
 pub mod ItemFaults
 pub mod LineFaults
 pub mod NameFaults
+pub mod NamedPlaces
 pub mod Paths
 pub mod Places
 pub mod Present
+pub mod Ready
 pub mod TypeFaults
 pub mod Typing
 pub mod Uses

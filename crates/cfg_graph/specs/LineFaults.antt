@@ -25,61 +25,31 @@ use Rattle.cfg_graph.specs.Uses.{places_of_stmt, places_of_term}
 module _ (items : ItemTable) (bodies : ℕ) where
   -- G1 of a statement: the struct, enum, closure or trait that it names exists
   abbrev stmt_numbers_exist : Stmt → Bool
-  stmt_numbers_exist (Stmt.Put to from) = true
-  stmt_numbers_exist (Stmt.Compare to op left right) = true
-  stmt_numbers_exist (Stmt.Not to operand) = true
-  stmt_numbers_exist (Stmt.Tuple to parts) = true
-  stmt_numbers_exist (Stmt.Array to parts) = true
   stmt_numbers_exist (Stmt.Make to adt variant parts) = nat_lt adt (length items.adts)
   stmt_numbers_exist (Stmt.Close to closure parts) = nat_lt closure (length items.closures)
-  stmt_numbers_exist (Stmt.NewBox to operand) = true
   stmt_numbers_exist (Stmt.Unsize to trait_no from) = nat_lt trait_no (length items.traits)
-  stmt_numbers_exist (Stmt.Borrow to unique of) = true
-  stmt_numbers_exist (Stmt.Touch place) = true
-  stmt_numbers_exist (Stmt.Print operand) = true
-  stmt_numbers_exist (Stmt.Forget operand) = true
-  stmt_numbers_exist (Stmt.Free place) = true
+  stmt_numbers_exist _ = true
 
   -- G1 of a terminator, beside its blocks: the body, or the trait and its method, that it calls exists
   abbrev term_numbers_exist : Term → Bool
-  term_numbers_exist (Term.Goto block) = true
-  term_numbers_exist (Term.If on if_true if_false) = true
-  term_numbers_exist (Term.Case on variant if_true if_false) = true
-  term_numbers_exist (Term.Math to op left right next unwind) = true
-  term_numbers_exist (Term.Negate to of next unwind) = true
-  term_numbers_exist (Term.Bounds index count next unwind) = true
   term_numbers_exist (Term.Call to body args next unwind) = nat_lt body bodies
   term_numbers_exist (Term.Virtual to trait_no method args next unwind) = is_some (method_at items trait_no method)
-  term_numbers_exist (Term.Ask to next unwind) = true
-  term_numbers_exist (Term.DropAt place next unwind) = true
-  term_numbers_exist (Term.Panic why unwind) = true
-  term_numbers_exist Term.Return = true
-  term_numbers_exist Term.Resume = true
+  term_numbers_exist _ = true
 
   -- G2 of a line: the locals of a place exist, those of its indices too
   abbrev locals_exist : Body → Place → Bool
-  locals_exist body place = list_all (λ local. nat_lt local (length body.locals)) (place.local ∷ index_locals place.steps)
+  locals_exist body place =
+      list_all (λ local. nat_lt local (length body.locals)) (place.local ∷ index_locals place.steps)
 
   -- G6: the type whose box becomes a box of `dyn` has an impl of the trait
   abbrev has_row : ℕ → Option TyId → Bool
   has_row trait_no None = true
-  has_row trait_no (Some content) = option_map_or (λ adt. is_some (impl_of items trait_no adt)) (adt_of (type_at items content)) false
+  has_row trait_no (Some content) =
+      option_map_or (λ adt. is_some (impl_of items trait_no adt)) (adt_of (type_at items content)) false
 
   abbrev stmt_has_row : List TyId → Stmt → Bool
   stmt_has_row locals (Stmt.Unsize to trait_no from) = has_row trait_no (box_content (ty_of_operand items locals from))
-  stmt_has_row locals (Stmt.Put to from) = true
-  stmt_has_row locals (Stmt.Compare to op left right) = true
-  stmt_has_row locals (Stmt.Not to operand) = true
-  stmt_has_row locals (Stmt.Tuple to parts) = true
-  stmt_has_row locals (Stmt.Array to parts) = true
-  stmt_has_row locals (Stmt.Make to adt variant parts) = true
-  stmt_has_row locals (Stmt.Close to closure parts) = true
-  stmt_has_row locals (Stmt.NewBox to operand) = true
-  stmt_has_row locals (Stmt.Borrow to unique of) = true
-  stmt_has_row locals (Stmt.Touch place) = true
-  stmt_has_row locals (Stmt.Print operand) = true
-  stmt_has_row locals (Stmt.Forget operand) = true
-  stmt_has_row locals (Stmt.Free place) = true
+  stmt_has_row locals _ = true
 
   -- of a statement
   abbrev pub stmt_faults : Body → Stmt → List ℕ
@@ -114,13 +84,17 @@ module _ (items : ItemTable) (bodies : ℕ) where
 
   -- a signature is that of the locals: the result first, and after it the parameters
   abbrev is_sig_of : Body → Sig → Bool
-  is_sig_of body sig = (length sig.params == body.params) && same_ids (take (suc body.params) body.locals) (sig.result ∷ sig.params)
+  is_sig_of body sig =
+      (length sig.params == body.params) && same_ids (take (suc body.params) body.locals) (sig.result ∷ sig.params)
 
   abbrev has_sig : Body → Option Sig → Bool
   has_sig body sig = option_map_or (is_sig_of body) sig false
 
   abbrev body_names : List (List ℕ)
   body_names = map (λ sig. sig.name) items.bodies
+
+  abbrev has_own_name : ℕ → Sig → Bool
+  has_own_name n sig = is_name sig.name && not (is_repeated body_names n sig.name)
 
   -- of the line of the body with this number
   abbrev pub body_faults : ℕ → Body → List ℕ
@@ -129,5 +103,5 @@ module _ (items : ItemTable) (bodies : ℕ) where
       (1, nat_lt 0 (length body.blocks))
       ∷ (2, nat_lt body.params (length body.locals))
       ∷ (3, has_sig body (slice_get items.bodies n))
-      ∷ (7, option_map_or (λ sig. is_name sig.name && not (is_repeated body_names n sig.name)) (slice_get items.bodies n) true)
+      ∷ (7, option_map_or (has_own_name n) (slice_get items.bodies n) true)
       ∷ [])

@@ -23,7 +23,9 @@ is_name name = nat_lt 0 (length name) && list_all stands_in_names name
 
 -- the words that begin another type
 abbrev type_words : List (List ℕ)
-type_words = codes "i32" ∷ codes "i64" ∷ codes "u32" ∷ codes "u64" ∷ codes "usize" ∷ codes "bool" ∷ codes "Box" ∷ codes "dyn" ∷ []
+type_words =
+    codes "i32" ∷ codes "i64" ∷ codes "u32" ∷ codes "u64" ∷ codes "usize" ∷ codes "bool" ∷ codes "Box" ∷ codes "dyn"
+    ∷ []
 
 -- the name of a struct or an enum is no such word and does not begin as the type of a closure
 abbrev pub is_adt_name : List ℕ → Bool

@@ -51,23 +51,15 @@ module _ (items : ItemTable) (body : Body) where
 
   -- the drop of what needs no dropping cannot panic
   abbrev ways_of_drop : Place → List Exit → List Way
-  ways_of_drop place exits = if needs_dropping items (place_id items body.locals place) then choices exits else first_alone exits
+  ways_of_drop place exits =
+      if needs_dropping items (place_id items body.locals place) then choices exits else first_alone exits
 
   -- which of the ways out of a terminator are on paths, with their items
   abbrev ways_among : Term → List Exit → List Way
-  ways_among (Term.Goto block) exits = choices exits
-  ways_among (Term.If on if_true if_false) exits = choices exits
-  ways_among (Term.Case on variant if_true if_false) exits = choices exits
-  ways_among (Term.Math to op left right next unwind) exits = choices exits
-  ways_among (Term.Negate to of next unwind) exits = choices exits
-  ways_among (Term.Bounds index count next unwind) exits = choices exits
   ways_among (Term.Call to callee args next unwind) exits = ways_of_call to exits
   ways_among (Term.Virtual to trait_no method args next unwind) exits = ways_of_call to exits
-  ways_among (Term.Ask to next unwind) exits = choices exits
   ways_among (Term.DropAt place next unwind) exits = ways_of_drop place exits
-  ways_among (Term.Panic why unwind) exits = choices exits
-  ways_among Term.Return exits = choices exits
-  ways_among Term.Resume exits = choices exits
+  ways_among _ exits = choices exits
 
   -- the ways out of a terminator that are on paths
   abbrev pub ways : Term → List Way
@@ -96,7 +88,8 @@ module _ (items : ItemTable) (body : Body) where
   abbrev items_along : (ℕ → List (List Bool)) → ℕ → List ℕ → List (List Bool)
   items_along at_last from [] = at_last from
   items_along at_last from (to ∷ path) =
-      flat_map (λ given. map (λ rest. given ++ entry_items to ++ rest) (items_along at_last to path)) (items_between from to)
+      flat_map (λ given. map (λ rest. given ++ entry_items to ++ rest) (items_along at_last to path))
+      (items_between from to)
 
   -- a path begins in block 0, with the items of the entry to it
   abbrev from_start : (ℕ → List (List Bool)) → List ℕ → List (List Bool)

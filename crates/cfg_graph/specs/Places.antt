@@ -21,18 +21,14 @@ named place = record { local = place.local; steps = map named_step place.steps }
 -- the locals that the steps of a place read
 abbrev pub index_locals : List Step → List ℕ
 index_locals [] = []
-index_locals (Step.Part n ∷ steps) = index_locals steps
-index_locals (Step.Field variant n ∷ steps) = index_locals steps
-index_locals (Step.Inside ∷ steps) = index_locals steps
 index_locals (Step.Index local ∷ steps) = local ∷ index_locals steps
+index_locals (step ∷ steps) = index_locals steps
 
 -- the place of an operand, where it has one
 abbrev pub place_of : Operand → List Place
 place_of (Operand.Copied place) = place ∷ []
 place_of (Operand.Moved place) = place ∷ []
-place_of (Operand.Number value kind) = []
-place_of (Operand.Truth value) = []
-place_of Operand.Unit = []
+place_of _ = []
 
 module _ (items : ItemTable) (locals : List TyId) where
   -- the number of the type of a place, and the type; none where the local or a step does not exist

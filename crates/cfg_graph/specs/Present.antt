@@ -16,7 +16,9 @@ module _ (items : ItemTable) (body : Body) where
   -- what an action does to what is present of a local
   abbrev pub present_by : ℕ → Action → Presence → Presence
   present_by local action p =
-      if counts items body action.place && (action.place.local == local) then changed_by (leaves_gone action.how) action.place.steps p else p
+      if counts items body action.place && (action.place.local == local)
+      then changed_by (leaves_gone action.how) action.place.steps p
+      else p
 
   abbrev pub present_from : ℕ → List Action → Presence → Presence
   present_from local [] p = p
@@ -33,10 +35,12 @@ module _ (items : ItemTable) (body : Body) where
 abbrev pub GoneIsNotPresent : Type 0
 GoneIsNotPresent =
     (items : ItemTable) (body : Body) (actions : List Action) (place : Place)
-    → itself_gone (presence_along place.steps (present_after items body actions place.local)) ≡ is_gone_after items body actions place
+    → itself_gone (presence_along place.steps (present_after items body actions place.local))
+    ≡ is_gone_after items body actions place
 
 -- and a place is whole exactly where all of it is present
 abbrev pub WholeIsAllPresent : Type 0
 WholeIsAllPresent =
     (items : ItemTable) (body : Body) (actions : List Action) (place : Place)
-    → all_present (presence_along place.steps (present_after items body actions place.local)) ≡ true ↔ IsWholeAfter items body actions place
+    → all_present (presence_along place.steps (present_after items body actions place.local)) ≡ true
+    ↔ IsWholeAfter items body actions place

@@ -74,4 +74,5 @@ abbrev pub AdtHoldingIsTested : Type 0
 AdtHoldingIsTested = (items : ItemTable) (n : ℕ) → adt_holds_itself items n ≡ true ↔ HoldsItself items (Ty.Adt n)
 
 abbrev pub ClosureHoldingIsTested : Type 0
-ClosureHoldingIsTested = (items : ItemTable) (n : ℕ) → closure_holds_itself items n ≡ true ↔ HoldsItself items (Ty.Closure n)
+ClosureHoldingIsTested =
+    (items : ItemTable) (n : ℕ) → closure_holds_itself items n ≡ true ↔ HoldsItself items (Ty.Closure n)

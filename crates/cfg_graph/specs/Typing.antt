@@ -24,10 +24,7 @@ use Rattle.cfg_graph.specs.Uses.{places_of_stmt, places_of_term, operands_of_stm
 -- the numbers that a constant may be
 abbrev constant_fits : Operand → Bool
 constant_fits (Operand.Number value kind) = fits kind value
-constant_fits (Operand.Copied place) = true
-constant_fits (Operand.Moved place) = true
-constant_fits (Operand.Truth value) = true
-constant_fits Operand.Unit = true
+constant_fits _ = true
 
 -- a panic that a graph may start by itself: `panic!`, and a match that no arm takes
 abbrev is_started : Why → Bool
@@ -37,7 +34,8 @@ is_started _ = false
 
 -- the method of a trait; none where the trait or the method does not exist
 abbrev pub method_at : ItemTable → ℕ → ℕ → Option Sig
-method_at items trait_no method = option_and_then (λ def. slice_get def.methods method) (slice_get items.traits trait_no)
+method_at items trait_no method =
+    option_and_then (λ def. slice_get def.methods method) (slice_get items.traits trait_no)
 
 -- the variant of a struct or an enum
 abbrev variant_at : ItemTable → ℕ → ℕ → Option Variant
@@ -61,7 +59,8 @@ module _ (items : ItemTable) (locals : List TyId) where
   abbrev is_typed_place : Place → Bool
   is_typed_place place =
       is_some (ty place)
-      && list_all (λ local. is_int IntKind.Usize (option_and_then (type_at items) (slice_get locals local))) (index_locals place.steps)
+      && list_all (λ local. is_int IntKind.Usize (option_and_then (type_at items) (slice_get locals local)))
+      (index_locals place.steps)
 
   -- a value of the type with this number
   abbrev operand_is : TyId → Operand → Bool
@@ -77,12 +76,14 @@ module _ (items : ItemTable) (locals : List TyId) where
 
   -- the elements are as many as the array's type says, and each is of its element's type
   abbrev are_elements : List Operand → Option Ty → Bool
-  are_elements operands (Some (Ty.Array element count)) = (length operands == count) && list_all (operand_is element) operands
+  are_elements operands (Some (Ty.Array element count)) =
+      (length operands == count) && list_all (operand_is element) operands
   are_elements operands _ = false
 
   -- the arguments and the result are those of a signature
   abbrev calls : Place → List Operand → Sig → Bool
-  calls to args sig = operands_are sig.params args && option_map_or (same_id sig.result) (place_id items locals to) false
+  calls to args sig =
+      operands_are sig.params args && option_map_or (same_id sig.result) (place_id items locals to) false
 
   -- what a statement stores is of the type of its place
   abbrev stmt_has_types : Stmt → Bool
@@ -93,10 +94,12 @@ module _ (items : ItemTable) (locals : List TyId) where
   stmt_has_types (Stmt.Array to parts) = are_elements parts (ty to)
   stmt_has_types (Stmt.Make to adt variant parts) =
       is_adt adt (ty to) && option_map_or (λ made. operands_are made.fields parts) (variant_at items adt variant) false
-  stmt_has_types (Stmt.Close to closure parts) = is_closure closure (ty to) && operands_are (captures_of (slice_get items.closures closure)) parts
+  stmt_has_types (Stmt.Close to closure parts) =
+      is_closure closure (ty to) && operands_are (captures_of (slice_get items.closures closure)) parts
   stmt_has_types (Stmt.NewBox to operand) = option_map_or (λ id. operand_is id operand) (box_content (ty to)) false
   stmt_has_types (Stmt.Unsize to trait_no from) =
-      is_dyn_of trait_no (option_and_then (type_at items) (box_content (ty to))) && is_some (box_content (operand_ty from))
+      is_dyn_of trait_no (option_and_then (type_at items) (box_content (ty to)))
+      && is_some (box_content (operand_ty from))
   stmt_has_types (Stmt.Borrow to unique of) =
       option_map_or (λ id. option_map_or (same_id id) (referent unique (ty to)) false) (place_id items locals of) false
   stmt_has_types (Stmt.Touch place) = true
@@ -108,12 +111,16 @@ module _ (items : ItemTable) (locals : List TyId) where
   abbrev term_has_types : Term → Bool
   term_has_types (Term.Goto block) = true
   term_has_types (Term.If on if_true if_false) = is_bool (operand_ty on)
-  term_has_types (Term.Case on variant if_true if_false) = option_map_or (λ adt. enum_variant items adt variant) (adt_of (ty on)) false
-  term_has_types (Term.Math to op left right next unwind) = same_int (operand_ty left) (operand_ty right) && same_int (operand_ty left) (ty to)
+  term_has_types (Term.Case on variant if_true if_false) =
+      option_map_or (λ adt. enum_variant items adt variant) (adt_of (ty on)) false
+  term_has_types (Term.Math to op left right next unwind) =
+      same_int (operand_ty left) (operand_ty right) && same_int (operand_ty left) (ty to)
   term_has_types (Term.Negate to of next unwind) = is_signed (operand_ty of) && same_int (operand_ty of) (ty to)
   term_has_types (Term.Bounds index count next unwind) = is_int IntKind.Usize (operand_ty index)
-  term_has_types (Term.Call to body args next unwind) = option_map_or (calls to args) (slice_get items.bodies body) false && not (is_drop_body items body)
-  term_has_types (Term.Virtual to trait_no method args next unwind) = option_map_or (calls to args) (method_at items trait_no method) false
+  term_has_types (Term.Call to body args next unwind) =
+      option_map_or (calls to args) (slice_get items.bodies body) false && not (is_drop_body items body)
+  term_has_types (Term.Virtual to trait_no method args next unwind) =
+      option_map_or (calls to args) (method_at items trait_no method) false
   term_has_types (Term.Ask to next unwind) = is_int IntKind.I32 (ty to)
   term_has_types (Term.DropAt place next unwind) = true
   term_has_types (Term.Panic why unwind) = is_started why
@@ -135,7 +142,9 @@ module _ (items : ItemTable) (locals : List TyId) where
 
   -- each place of a statement exists with its types, and the statement has its types
   abbrev pub stmt_is_typed : Stmt → Bool
-  stmt_is_typed stmt = places_have_types (stored_by_stmt stmt) (operands_of_stmt stmt) (places_of_stmt stmt) && stmt_has_types stmt
+  stmt_is_typed stmt =
+      places_have_types (stored_by_stmt stmt) (operands_of_stmt stmt) (places_of_stmt stmt) && stmt_has_types stmt
 
   abbrev pub term_is_typed : Term → Bool
-  term_is_typed term = places_have_types (stored_by_term term) (operands_of_term term) (places_of_term term) && term_has_types term
+  term_is_typed term =
+      places_have_types (stored_by_term term) (operands_of_term term) (places_of_term term) && term_has_types term

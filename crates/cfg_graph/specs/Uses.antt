@@ -20,9 +20,7 @@ pub data Use : Type 0 where
 abbrev operand_uses : Operand → List (Use × Place)
 operand_uses (Operand.Copied place) = (Copies, place) ∷ []
 operand_uses (Operand.Moved place) = (Moves, place) ∷ []
-operand_uses (Operand.Number value kind) = []
-operand_uses (Operand.Truth value) = []
-operand_uses Operand.Unit = []
+operand_uses _ = []
 
 abbrev pub operands_of_stmt : Stmt → List Operand
 operands_of_stmt (Stmt.Put to from) = from ∷ []
@@ -59,24 +57,15 @@ stored_by_stmt (Stmt.Free place) = []
 
 -- what is used otherwise than as an operand, before anything is stored
 abbrev other_uses : Stmt → List (Use × Place)
-other_uses (Stmt.Put to from) = []
-other_uses (Stmt.Compare to op left right) = []
-other_uses (Stmt.Not to operand) = []
-other_uses (Stmt.Tuple to parts) = []
-other_uses (Stmt.Array to parts) = []
-other_uses (Stmt.Make to adt variant parts) = []
-other_uses (Stmt.Close to closure parts) = []
-other_uses (Stmt.NewBox to operand) = []
-other_uses (Stmt.Unsize to trait_no from) = []
 other_uses (Stmt.Borrow to unique of) = (Borrows, of) ∷ []
 other_uses (Stmt.Touch place) = (Touches, place) ∷ []
-other_uses (Stmt.Print operand) = []
-other_uses (Stmt.Forget operand) = []
 other_uses (Stmt.Free place) = (Frees, place) ∷ []
+other_uses _ = []
 
 -- the operands from left to right, what is used otherwise, and last the store
 abbrev pub stmt_uses : Stmt → List (Use × Place)
-stmt_uses stmt = flat_map operand_uses (operands_of_stmt stmt) ++ other_uses stmt ++ map (λ place. (Stores, place)) (stored_by_stmt stmt)
+stmt_uses stmt =
+    flat_map operand_uses (operands_of_stmt stmt) ++ other_uses stmt ++ map (λ place. (Stores, place)) (stored_by_stmt stmt)
 
 abbrev pub operands_of_term : Term → List Operand
 operands_of_term (Term.Goto block) = []
@@ -110,19 +99,9 @@ stored_by_term Term.Return = []
 stored_by_term Term.Resume = []
 
 abbrev other_term_uses : Term → List (Use × Place)
-other_term_uses (Term.Goto block) = []
-other_term_uses (Term.If on if_true if_false) = []
 other_term_uses (Term.Case on variant if_true if_false) = (Tests, on) ∷ []
-other_term_uses (Term.Math to op left right next unwind) = []
-other_term_uses (Term.Negate to of next unwind) = []
-other_term_uses (Term.Bounds index count next unwind) = []
-other_term_uses (Term.Call to body args next unwind) = []
-other_term_uses (Term.Virtual to trait_no method args next unwind) = []
-other_term_uses (Term.Ask to next unwind) = []
 other_term_uses (Term.DropAt place next unwind) = (Drops, place) ∷ []
-other_term_uses (Term.Panic why unwind) = []
-other_term_uses Term.Return = []
-other_term_uses Term.Resume = []
+other_term_uses _ = []
 
 -- what a terminator does before it takes a way out
 abbrev pub term_uses : Term → List (Use × Place)

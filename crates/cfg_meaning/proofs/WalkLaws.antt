@@ -9,7 +9,7 @@ use Rattle.cfg_graph.specs.declared.terminator.Term.{Term}
 use Rattle.cfg_graph.specs.declared.terminator.Unwind.{Unwind}
 use Rattle.cfg_graph.specs.Edges.{IsRanked, targets, unwind_block, is_turn, is_turn_kind}
 use Rattle.cfg_meaning.specs.Actions.{site_of, operand_of, operands_of, action_of, mode_of}
-use Rattle.cfg_meaning.specs.Walk.{Next, stuck_in, on_go, fork, branch, renamed, renamed_choice, naming, unwinding, stmts_do, acts, term_does, block_does, ticked, rank_at, does_block, does_turn, by_kind, if_there, entered, blocks, from_rank, turns, walk}
+use Rattle.cfg_meaning.specs.Walk.{Next, stuck_in, ◌>>=◌, fork, branch, renamed, renamed_choice, naming, unwinding, stmts_do, acts, term_does, block_does, rank_at, does_block, does_turn, by_kind, if_there, entered, blocks, from_rank, turns, walk}
 use Rattle.mir_base.specs.declared.trace.Why.{Why}
 use Rattle.store_model.proofs.EffectLaws.{NoMore, NoMoreOf, Ticked, Laws, weaker, weaker_of, Same, Keeps}
 use Rattle.store_model.specs.Effects as effects
@@ -30,7 +30,7 @@ module _ {W : Type 0} (size : W → ℕ) where
 
   renamed_ticked : (name : Halt → Halt) (m : ℕ) (o : Out W) → Ticked size m o → Ticked size m (renamed name o)
   renamed_ticked name m (Go w) l = l
-  renamed_ticked name m (Unwinds w) l = tt
+  renamed_ticked name m (Unwinds w) l = l
   renamed_ticked name m (Halts halt w) l = tt
 
   pub naming_laws : (name : Halt → Halt) (p : Effects W) → Laws p size → Laws (naming name p) size
@@ -44,7 +44,7 @@ module _ {W : Type 0} (size : W → ℕ) where
   }
 
   module _ (m : ℕ) where
-    pub go_same : (o : Out W) → NoMore size m o → (f f' : W → Out W) → Same size m f f' → on_go o f ≡ on_go o f'
+    pub go_same : (o : Out W) → NoMore size m o → (f f' : W → Out W) → Same size m f f' → ◌>>=◌ o f ≡ ◌>>=◌ o f'
     go_same (Go w) l f f' e = e w l
     go_same (Unwinds w) l f f' e = refl
     go_same (Halts halt w) l f f' e = refl
@@ -73,7 +73,7 @@ module _ {W : Type 0} (size : W → ℕ) where
     panics_same next next' Unwind.Resume e = λ w k. refl
     panics_same next next' Unwind.Abort e = λ w k. refl
 
-    go_less : (o : Out W) → NoMore size m o → (f : W → Out W) → Keeps size m f → NoMore size m (on_go o f)
+    go_less : (o : Out W) → NoMore size m o → (f : W → Out W) → Keeps size m f → NoMore size m (◌>>=◌ o f)
     go_less (Go w) l f e = e w l
     go_less (Unwinds w) l f e = tt
     go_less (Halts halt w) l f e = tt
@@ -101,12 +101,12 @@ module _ {W : Type 0} (size : W → ℕ) where
 
 -- where a tick is spent, less is left for what comes after it
 pub tick_same : {W : Type 0} (size : W → ℕ) (m : ℕ) (o : Out W) → Ticked size m o → (f f' : W → Out W) →
-    ((w : W) → suc (size w) ≤ m → f w ≡ f' w) → ticked o f ≡ ticked o f'
+    ((w : W) → suc (size w) ≤ m → f w ≡ f' w) → ◌>>=◌ o f ≡ ◌>>=◌ o f'
 tick_same size m (Go w) l f f' e = e w l
 tick_same size m (Unwinds w) l f f' e = refl
 tick_same size m (Halts halt w) l f f' e = refl
 
-tick_less : {W : Type 0} (size : W → ℕ) (m k : ℕ) (o : Out W) → k ≤ m → Ticked size k o → (f : W → Out W) → Keeps size m f → NoMore size m (ticked o f)
+tick_less : {W : Type 0} (size : W → ℕ) (m k : ℕ) (o : Out W) → k ≤ m → Ticked size k o → (f : W → Out W) → Keeps size m f → NoMore size m (◌>>=◌ o f)
 tick_less size m k (Go w) h l f e = e w (omega arith)
 tick_less size m k (Unwinds w) h l f e = tt
 tick_less size m k (Halts halt w) h l f e = tt

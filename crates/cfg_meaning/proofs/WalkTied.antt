@@ -7,7 +7,7 @@ use Rattle.cfg_graph.specs.declared.statement.Stmt.{Stmt}
 use Rattle.cfg_graph.specs.declared.terminator.Term.{Term}
 use Rattle.cfg_meaning.proofs.WalkLaws.{naming_laws, go_same, tick_same, acted, does_same, entering_same, there_same}
 use Rattle.cfg_meaning.specs.Actions.{site_of, operand_of, operands_of, action_of, mode_of}
-use Rattle.cfg_meaning.specs.Walk.{Next, stuck_in, on_go, branch, renamed, renamed_choice, naming, unwinding, stmts_do, acts, term_does, block_does, ticked, rank_at, does_block, blocks, from_rank, turns, walk}
+use Rattle.cfg_meaning.specs.Walk.{Next, stuck_in, ◌>>=◌, branch, renamed, renamed_choice, naming, unwinding, stmts_do, acts, term_does, block_does, rank_at, does_block, blocks, from_rank, turns, walk}
 use Rattle.store_model.proofs.EffectLaws.{Laws, Tied, Same, fewer_tied}
 use Rattle.store_model.specs.Effects as effects
 use Rattle.store_model.specs.Effects.{Halt, Out, Effects}
@@ -32,7 +32,7 @@ module _ {W : Type 0} (size : W → ℕ) where
     stmts_tied node line (stmt ∷ stmts) f f' e w l =
         go_same size m (p.act (action_of (node line) stmt) w) (acted size p laws m (action_of (node line) stmt) w l)
         (stmts_do p node (suc line) stmts f) (stmts_do q node (suc line) stmts f') (stmts_tied node (suc line) stmts f f' e)
-        ∙ ap (λ o. on_go o (stmts_do q node (suc line) stmts f')) (tied.acting (action_of (node line) stmt) w l)
+        ∙ ap (λ o. ◌>>=◌ o (stmts_do q node (suc line) stmts f')) (tied.acting (action_of (node line) stmt) w l)
 
     term_tied : (node : ℕ) (term : Term) (next : Next W) → Same size m (term_does p node term next) (term_does q node term next)
     term_tied node (Term.Goto block) next w l = refl
@@ -95,7 +95,7 @@ module _ {W : Type 0} (size : W → ℕ) (p q : Effects W) (laws : Laws p size) 
       (fewer_tied size p q m (size v) (omega arith) tied)
       (from_rank_tied (turns p number node body t) (turns q number node body t') (size v) (fewer_tied size p q m (size v) (omega arith) tied)
       (λ d u j. turns_tied m t t' d tied u (omega arith) (omega arith) (omega arith))) v (omega arith))
-      ∙ ap (λ o. ticked o (does_block q number node body n block (from_rank q number node body (turns q number node body t')))) (tied.ticking w l))
+      ∙ ap (λ o. ◌>>=◌ o (does_block q number node body n block (from_rank q number node body (turns q number node body t')))) (tied.ticking w l))
 
   pub walk_tied : (m : ℕ) → Tied p q size m → (t t' n : ℕ) → m < t → m < t' → (w : W) → size w ≤ m →
       walk p number node body t n w ≡ walk q number node body t' n w

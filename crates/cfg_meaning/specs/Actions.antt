@@ -25,11 +25,13 @@ module _ (node : ℕ) where
 
   abbrev pub action_of : Stmt → Action
   action_of (Stmt.Put to from) = effects.Put (site_of to) (operand_of from)
-  action_of (Stmt.Compare to operator left right) = effects.Compare (site_of to) operator (operand_of left) (operand_of right)
+  action_of (Stmt.Compare to operator left right) =
+      effects.Compare (site_of to) operator (operand_of left) (operand_of right)
   action_of (Stmt.Not to operand) = effects.Not (site_of to) (operand_of operand)
   action_of (Stmt.Tuple to parts) = effects.Build (site_of to) effects.OfTuple (operands_of parts)
   action_of (Stmt.Array to parts) = effects.Build (site_of to) effects.OfArray (operands_of parts)
-  action_of (Stmt.Make to adt variant parts) = effects.Build (site_of to) (effects.OfVariant adt variant) (operands_of parts)
+  action_of (Stmt.Make to adt variant parts) =
+      effects.Build (site_of to) (effects.OfVariant adt variant) (operands_of parts)
   action_of (Stmt.Close to closure parts) = effects.Build (site_of to) (effects.OfClosure closure) (operands_of parts)
   action_of (Stmt.NewBox to content) = effects.NewBox (site_of to) (operand_of content)
   action_of (Stmt.Unsize to trait_no from) = effects.Unsize (site_of to) trait_no (operand_of from)

@@ -13,41 +13,55 @@ use Rattle.store_model.specs.Data.{Datum}
 use Rattle.store_model.specs.Effects.{Effects}
 use Rattle.store_model.specs.Entering.{run_body}
 use Rattle.store_model.specs.Free.{Free, on_presence}
-use Rattle.store_model.specs.World.{World}
+use Rattle.store_model.specs.World.{World, Bodies}
 
 -- the effects on values, where the bodies that are called are those of a graph, nested no deeper than so much
 abbrev pub on_values_of : Bool → Graph → ℕ → Effects World
-on_values_of strict graph n = on_values (setting_of strict graph) (run_body (setting_of strict graph) (code_of graph) n) (suc n)
+on_values_of strict graph n =
+    on_values (setting_of strict graph) (run_body (setting_of strict graph) (code_of graph) n) (suc n)
 
--- with fewer ticks than the bound on turns, the walk of a ranked body is what its first block does, and then a walk
+-- the walk of a body is what its first block does, and then a walk
+abbrev pub IsOneEquation :
+    {W : Type 0} → Effects W → ℕ → (ℕ → ℕ → ℕ) → Body → (most block : ℕ) → W → Type 0
+IsOneEquation p number node body most block w =
+    walk p number node body most block w ≡ entered p number node body (walk p number node body most) block w
+
+-- with fewer ticks than the bound on turns, the walk of a ranked body is one equation
 abbrev pub WalkIsOneEquation : Type 0
-WalkIsOneEquation = (strict : Bool) (graph : Graph) (n number : ℕ) (node : ℕ → ℕ → ℕ) (body : Body) → IsRanked body →
+WalkIsOneEquation =
+    (strict : Bool) (graph : Graph) (n number : ℕ) (node : ℕ → ℕ → ℕ) (body : Body) → IsRanked body →
     (most block : ℕ) (w : World) → w.ticks < most →
-    walk (on_values_of strict graph n) number node body most block w
-    ≡ entered (on_values_of strict graph n) number node body (walk (on_values_of strict graph n) number node body most) block w
+    IsOneEquation (on_values_of strict graph n) number node body most block w
 
 -- two bounds that are greater than the ticks give the same walk
 abbrev pub WalkHasNoBound : Type 0
-WalkHasNoBound = (strict : Bool) (graph : Graph) (n number : ℕ) (node : ℕ → ℕ → ℕ) (body : Body) → IsRanked body →
+WalkHasNoBound =
+    (strict : Bool) (graph : Graph) (n number : ℕ) (node : ℕ → ℕ → ℕ) (body : Body) → IsRanked body →
     (most other block : ℕ) (w : World) → w.ticks < most → w.ticks < other →
-    walk (on_values_of strict graph n) number node body most block w ≡ walk (on_values_of strict graph n) number node body other block w
+    walk (on_values_of strict graph n) number node body most block w
+    ≡ walk (on_values_of strict graph n) number node body other block w
 
--- with fewer items than the bound on turns, the free walk of a ranked body is what its first block does, and then a free
--- walk
+-- with fewer items than the bound on turns, the free walk of a ranked body is one equation
 abbrev pub FreeWalkIsOneEquation : Type 0
-FreeWalkIsOneEquation = (items : ItemTable) (local_ty : ℕ → Option TyId) (number : ℕ) (node : ℕ → ℕ → ℕ) (body : Body) → IsRanked body →
-    (most block : ℕ) (w : Free) → length w.items < most →
-    walk (on_presence items local_ty) number node body most block w
-    ≡ entered (on_presence items local_ty) number node body (walk (on_presence items local_ty) number node body most) block w
+FreeWalkIsOneEquation =
+    (items : ItemTable) (local_ty : ℕ → Option TyId) (number : ℕ) (node : ℕ → ℕ → ℕ) (body : Body) →
+    IsRanked body → (most block : ℕ) (w : Free) → length w.items < most →
+    IsOneEquation (on_presence items local_ty) number node body most block w
 
 -- two bounds that are greater than the number of items give the same free walk
 abbrev pub FreeWalkHasNoBound : Type 0
-FreeWalkHasNoBound = (items : ItemTable) (local_ty : ℕ → Option TyId) (number : ℕ) (node : ℕ → ℕ → ℕ) (body : Body) → IsRanked body →
-    (most other block : ℕ) (w : Free) → length w.items < most → length w.items < other →
-    walk (on_presence items local_ty) number node body most block w ≡ walk (on_presence items local_ty) number node body other block w
+FreeWalkHasNoBound =
+    (items : ItemTable) (local_ty : ℕ → Option TyId) (number : ℕ) (node : ℕ → ℕ → ℕ) (body : Body) →
+    IsRanked body → (most other block : ℕ) (w : Free) → length w.items < most → length w.items < other →
+    walk (on_presence items local_ty) number node body most block w
+    ≡ walk (on_presence items local_ty) number node body other block w
 
--- Two bounds on nesting that are no less than the ticks give the same run of a body, whatever its graph is: the bounds on
--- turns and on drops, which go with them, are never met.
+abbrev pub bodies_of : Bool → Graph → ℕ → Bodies
+bodies_of strict graph n = run_body (setting_of strict graph) (code_of graph) n
+
+-- Two bounds on nesting that are no less than the ticks give the same run of a body, whatever its graph is: the bounds
+-- on turns and on drops, which go with them, are never met.
 abbrev pub GraphRunHasNoBound : Type 0
-GraphRunHasNoBound = (strict : Bool) (graph : Graph) (n m : ℕ) (event : Event) (body : ℕ) (args : List Datum) (w : World) → w.ticks ≤ n → w.ticks ≤ m →
-    run_body (setting_of strict graph) (code_of graph) n event body args w ≡ run_body (setting_of strict graph) (code_of graph) m event body args w
+GraphRunHasNoBound =
+    (strict : Bool) (graph : Graph) (n m : ℕ) (event : Event) (body : ℕ) (args : List Datum) (w : World) →
+    w.ticks ≤ n → w.ticks ≤ m → bodies_of strict graph n event body args w ≡ bodies_of strict graph m event body args w

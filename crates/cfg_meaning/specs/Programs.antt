@@ -35,7 +35,8 @@ abbrev pub code_of : Graph → Code
 code_of graph = record {
   arguments = λ n args. arguments_from 1 args;
   answer = λ n. 0;
-  within = λ p turns n w. option_map_or (λ body. walk p n no_node body turns 0 w) (slice_get graph.bodies n) (Halts NoStep w);
+  within = λ p turns n w.
+      option_map_or (λ body. walk p n no_node body turns 0 w) (slice_get graph.bodies n) (Halts NoStep w);
 }
 
 -- the trace and the end of a graph, with these numbers to be asked and so many ticks
@@ -49,4 +50,5 @@ raw_graph_run graph asked ticks = run_of (setting_of false graph) (code_of graph
 -- the walk of a body that takes these items, where each line stands for a node of the source
 abbrev pub free_walk : ItemTable → (ℕ → ℕ → ℕ) → Body → List Bool → Out Free
 free_walk items node body list =
-    walk (on_presence items (λ local. slice_get body.locals local)) 0 node body (suc (length list)) 0 (at_start (range_with_len 1 body.params) list)
+    walk (on_presence items (slice_get body.locals)) 0 node body (suc (length list)) 0
+    (at_start (range_with_len 1 body.params) list)

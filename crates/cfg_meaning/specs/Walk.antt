@@ -19,21 +19,15 @@ Next W = ℕ → W → Out W
 
 -- A missing step is stuck in its block. What halted in a body that was called has its block already.
 abbrev pub stuck_in : ℕ → ℕ → Halt → Halt
-stuck_in body block Aborted = Aborted
-stuck_in body block OutOfTicks = OutOfTicks
 stuck_in body block NoStep = StuckAt body block
-stuck_in body block (StuckAt other at) = StuckAt other at
-stuck_in body block (BadUse site) = BadUse site
-stuck_in body block (BadStore site) = BadStore site
-stuck_in body block NoItem = NoItem
-stuck_in body block NoRun = NoRun
-stuck_in body block PastTheEnd = PastTheEnd
+stuck_in body block halt = halt
 
 module _ {W : Type 0} where
-  abbrev pub on_go : Out W → (W → Out W) → Out W
-  on_go (Go w) next = next w
-  on_go (Unwinds w) next = Halts NoStep w
-  on_go (Halts halt w) next = Halts halt w
+  -- what cannot panic, and what comes next where it goes on: the lines of a `do` block follow one another so
+  abbrev pub ◌>>=◌ : Out W → (W → Out W) → Out W
+  ◌>>=◌ (Go w) next = next w
+  ◌>>=◌ (Unwinds w) next = Halts NoStep w
+  ◌>>=◌ (Halts halt w) next = Halts halt w
 
   abbrev pub fork : Out W → (W → Out W) → (W → Out W) → Out W
   fork (Go w) next panics = next w
@@ -74,7 +68,9 @@ module _ {W : Type 0} where
 
   abbrev pub stmts_do : Effects W → (ℕ → ℕ) → ℕ → List Stmt → (W → Out W) → W → Out W
   stmts_do p node line [] rest w = rest w
-  stmts_do p node line (stmt ∷ stmts) rest w = on_go (p.act (action_of (node line) stmt) w) (stmts_do p node (suc line) stmts rest)
+  stmts_do p node line (stmt ∷ stmts) rest w = do
+    w ← p.act (action_of (node line) stmt) w
+    stmts_do p node (suc line) stmts rest w
 
   -- an effect with a way on and a way by which it panics
   abbrev pub acts : Out W → Next W → ℕ → Unwind → Out W
@@ -82,30 +78,33 @@ module _ {W : Type 0} where
 
   abbrev pub term_does : Effects W → ℕ → Term → Next W → W → Out W
   term_does p node (Term.Goto block) next w = next block w
-  term_does p node (Term.If on if_true if_false) next w = branch (p.choose (effects.IsTrue (operand_of node on)) w) (next if_true) (next if_false)
+  term_does p node (Term.If on if_true if_false) next w =
+      branch (p.choose (effects.IsTrue (operand_of node on)) w) (next if_true) (next if_false)
   term_does p node (Term.Case on variant if_true if_false) next w =
       branch (p.choose (effects.HasVariant (site_of node on) variant) w) (next if_true) (next if_false)
   term_does p node (Term.Math to operator left right onward unwind) next w =
-      acts (p.act (effects.Compute (site_of node to) operator (operand_of node left) (operand_of node right)) w) next onward unwind
-  term_does p node (Term.Negate to operand onward unwind) next w = acts (p.act (effects.Negate (site_of node to) (operand_of node operand)) w) next onward unwind
-  term_does p node (Term.Bounds index count onward unwind) next w = acts (p.act (effects.Bounds (operand_of node index) count) w) next onward unwind
-  term_does p node (Term.Call to body args onward unwind) next w = acts (p.act (effects.Call (site_of node to) body (operands_of node args)) w) next onward unwind
+      acts (p.act (effects.Compute (site_of node to) operator (operand_of node left) (operand_of node right)) w)
+      next onward unwind
+  term_does p node (Term.Negate to operand onward unwind) next w =
+      acts (p.act (effects.Negate (site_of node to) (operand_of node operand)) w) next onward unwind
+  term_does p node (Term.Bounds index count onward unwind) next w =
+      acts (p.act (effects.Bounds (operand_of node index) count) w) next onward unwind
+  term_does p node (Term.Call to body args onward unwind) next w =
+      acts (p.act (effects.Call (site_of node to) body (operands_of node args)) w) next onward unwind
   term_does p node (Term.Virtual to trait_no method args onward unwind) next w =
       acts (p.act (effects.CallVirtual (site_of node to) trait_no method (operands_of node args)) w) next onward unwind
-  term_does p node (Term.Ask to onward unwind) next w = acts (p.act (effects.Ask (site_of node to)) w) next onward unwind
-  term_does p node (Term.DropAt place onward unwind) next w = acts (p.drop (mode_of unwind) (site_of node place) w) next onward unwind
+  term_does p node (Term.Ask to onward unwind) next w =
+      acts (p.act (effects.Ask (site_of node to)) w) next onward unwind
+  term_does p node (Term.DropAt place onward unwind) next w =
+      acts (p.drop (mode_of unwind) (site_of node place) w) next onward unwind
   term_does p node (Term.Panic why unwind) next w = unwinding unwind next (p.panic why w)
   term_does p node Term.Return next w = p.give (record { node = node; place = whole_local 0 }) w
   term_does p node Term.Resume next w = Unwinds w
 
   -- a block: its statements from line 0 on, and its terminator on the line after them
   abbrev pub block_does : Effects W → (ℕ → ℕ) → Block → Next W → W → Out W
-  block_does p node block next w = stmts_do p node 0 block.stmts (term_does p (node (length block.stmts)) block.term next) w
-
-  abbrev pub ticked : Out W → (W → Out W) → Out W
-  ticked (Go w) next = next w
-  ticked (Unwinds w) next = Halts NoStep w
-  ticked (Halts halt w) next = Halts halt w
+  block_does p node block next w =
+      stmts_do p node 0 block.stmts (term_does p (node (length block.stmts)) block.term next) w
 
 module _ {W : Type 0} (p : Effects W) (number : ℕ) (node : ℕ → ℕ → ℕ) (body : Body) where
   abbrev pub rank_at : ℕ → ℕ
@@ -116,12 +115,13 @@ module _ {W : Type 0} (p : Effects W) (number : ℕ) (node : ℕ → ℕ → ℕ
 
   -- a turn block spends a tick as it is entered
   abbrev pub does_turn : ℕ → Block → Next W → W → Out W
-  does_turn n block next w = ticked (p.tick w) (does_block n block next)
+  does_turn n block next w = do
+    w ← p.tick w
+    does_block n block next w
 
   abbrev pub by_kind : Kind → ℕ → Block → (turn plain : Next W) → W → Out W
-  by_kind Kind.Plain n block turn plain w = plain n w
   by_kind Kind.Turn n block turn plain w = turn n w
-  by_kind Kind.Cleanup n block turn plain w = plain n w
+  by_kind _ n block turn plain w = plain n w
 
   abbrev pub if_there : Option Block → ℕ → (Block → W → Out W) → W → Out W
   if_there None n does w = Halts (StuckAt number n) w
@@ -129,14 +129,18 @@ module _ {W : Type 0} (p : Effects W) (number : ℕ) (node : ℕ → ℕ → ℕ
 
   -- what the walk does from a block on, in terms of what it does from the next ones on
   abbrev pub entered : Next W → Next W
-  entered next n w = if_there (slice_get body.blocks n) n (λ block. by_kind block.kind n block (λ n. does_turn n block next) (λ n. does_block n block next)) w
+  entered next n w =
+      if_there (slice_get body.blocks n) n
+      (λ block. by_kind block.kind n block (λ n. does_turn n block next) (λ n. does_block n block next)) w
 
   -- At most so many blocks up to the next turn block, where it is given what a turn does. Each edge but one to a turn
   -- block lowers the rank, so a bound greater than the rank is never met.
   abbrev pub blocks : Next W → ℕ → Next W
-  blocks turn zero n w = if_there (slice_get body.blocks n) n (λ block. by_kind block.kind n block turn (λ n. Halts NoStep)) w
+  blocks turn zero n w =
+      if_there (slice_get body.blocks n) n (λ block. by_kind block.kind n block turn (λ n. Halts NoStep)) w
   blocks turn (suc most) n w =
-      if_there (slice_get body.blocks n) n (λ block. by_kind block.kind n block turn (λ n. does_block n block (blocks turn most))) w
+      if_there (slice_get body.blocks n) n
+      (λ block. by_kind block.kind n block turn (λ n. does_block n block (blocks turn most))) w
 
   abbrev pub from_rank : Next W → Next W
   from_rank turn n w = blocks turn (suc (rank_at n)) n w

@@ -13,6 +13,8 @@ mod graphs;
 #[cfg(test)]
 mod program;
 #[cfg(test)]
+mod trees;
+#[cfg(test)]
 mod types;
 #[cfg(test)]
 mod values;

@@ -6,12 +6,14 @@ pub mod Conditions
 mod First
 mod FreeRuns
 mod JobQueue
+mod LiteralTests
 pub mod Locals
 mod Loops
 mod Operands
 mod Operators
 mod Panics
 mod Patterns
+mod Sites
 mod Temporaries
 mod TraitObjects
 mod Unwinding

@@ -1,5 +1,6 @@
-pub mod Alike
 mod Examples
-pub mod FormsAlike
-pub mod ProgramsAlike
+pub mod FormsFollow
+pub mod ProgramsFollow
 pub mod RunLaws
+pub mod RunsFollow
+pub mod TestLaws

@@ -1,16 +1,17 @@
 -- How the forms of expressions and statements are evaluated, each from the meanings of its parts (The Rust Reference,
 -- "Expressions", "Statements", "Destructors"). All of it is over any effects: those on values give what a program
--- does, those on what is present and gone give its free runs.
+-- does, those on what is present and gone give its free runs. The lines of a `do` block follow one another as long as
+-- each has a value.
 use Rattle.std.specs.Prelude.{ℕ, zero, suc, ◌==◌, Bool, true, false, not, ◌||◌, List, [], ◌∷◌, map, Option, Some, None, if◌then◌else◌}
 use Rattle.mir_base.specs.declared.operator.Cmp.{Cmp}
 use Rattle.mir_base.specs.declared.trace.Why.{Why}
 use Rattle.mir_ty.specs.declared.ty.TyId.{TyId}
 use Rattle.mir_ty.specs.Facts.{needs_drop}
 use Rattle.mir_ty.specs.ItemTable.{ItemTable, type_at}
-use Rattle.store_model.specs.Effects.{Site, Operand, Moved, Copied, Number, Truth, UnitValue, Action, Put, Compare, Touch, Bounds, Borrow, Unsize, IsTrue, HasVariant, Calm, NoStep, OutOfTicks, Out, Go, Unwind, Halts, Choice, Yes, No, Neither, Effects, on_go}
+use Rattle.store_model.specs.Effects.{Site, Operand, Moved, Copied, Number, Truth, UnitValue, Action, Put, Compare, Touch, Bounds, Borrow, Unsize, IsTrue, HasVariant, Calm, NoStep, OutOfTicks, Out, Go, Unwind, Halts, Choice, Yes, No, Neither, Effects}
 use Rattle.store_model.specs.NamedPlace.{Place, whole_local, before_element}
 use Rattle.store_model.specs.TypeForms.{is_never as is_never_ty}
-use Rattle.src_meaning.specs.Scopes.{Entry, Scope, Scopes, entered, innermost, around_innermost, nearest_temporary, with_entry, with_pending, without_pending, without_operands, Exit, Value, Breaks, Continues, Returns, Panics, Run, At, Over, on_value, in_scopes, leave, then_or_leave}
+use Rattle.src_meaning.specs.Scopes.{Entry, Scope, Scopes, innermost, around_innermost, nearest_temporary, with_entry, with_pending, without_pending, becomes_entry, without_operands, Exit, Value, Breaks, Continues, Panics, Run, At, Over, Does, ◌>>◌, doing, changing, choosing, back_in, in_scope, in_scope_with, leaving}
 use Rattle.src_meaning.specs.Shape.{Head, Shape, Aliases, PatternTest, IsVariant, IsNumber, IsTruth, AnyOf, PatternTests, no_test, a_test, Alternatives, no_alternative, an_alternative, Bound, site_at, operand_of_bound, operand_at}
 
 -- where a value is made: in the entry with a key; or in one of its own, from which a box is coerced to a trait object
@@ -22,16 +23,14 @@ abbrev pub coerced : ℕ → ℕ → Destination → Destination
 coerced key trait_no (Into to) = Coerced key trait_no to
 coerced key trait_no (Coerced other another to) = Coerced key trait_no to
 
--- what a node is in: the destination of the body's result, the loops around it by number with their destinations, the
--- bindings that stand for parts of a scrutinee, and for an arm the scrutinee and what happens where the arm is not taken
-pub record Around (W : Type 0) : Type 0 where
+-- what a node is in: the destination of the body's result, the loops around it by number with their destinations, and
+-- the bindings that stand for parts of a scrutinee
+pub record Around : Type 0 where
   pub answer : Destination
   pub loops : List (ℕ × Destination)
   pub aliases : Aliases
-  pub matched : Place
-  pub otherwise : Scopes → W → Run W
 
-abbrev pub in_loop : {W : Type 0} → ℕ → Destination → Around W → Around W
+abbrev pub in_loop : ℕ → Destination → Around → Around
 in_loop id to around = record around { loops = (id, to) ∷ around.loops }
 
 abbrev pub loop_destination : ℕ → List (ℕ × Destination) → Destination
@@ -43,158 +42,191 @@ abbrev pub aliases_with : List Bound → Aliases → Aliases
 aliases_with [] aliases = aliases
 aliases_with (b ∷ bounds) aliases = (b.key, b.site.place) ∷ aliases_with bounds aliases
 
-abbrev pub in_guard : {W : Type 0} → List Bound → Around W → Around W
+abbrev pub in_guard : List Bound → Around → Around
 in_guard bounds around = record around { aliases = aliases_with bounds around.aliases }
 
--- what is evaluated or reached, in scopes
-abbrev pub Does : Type 0 → Type 0
-Does W = Scopes → W → Run W
-
--- how a node is evaluated, as a scope for temporaries of its own or not, into a destination; and how its place is
--- reached, which is then the place of its shape
+-- How a node is evaluated, as a scope for temporaries of its own or not, into a destination; how its place is reached,
+-- which is then the place of its shape; and what it does as an arm with the place that is matched, given what is done
+-- where the arm is not taken.
 pub record Meaning (W : Type 0) : Type 0 where
   pub head : Head
   pub shape : Shape
-  pub evaluate : Around W → Bool → Destination → Does W
-  pub reach : Around W → Does W
+  pub evaluate : Around → Bool → Destination → Does W
+  pub reach : Around → Does W
+  pub arm : Place → Does W → Around → Destination → Does W
 
 abbrev pub entry_of : Head → Entry
 entry_of h = record { key = h.id; ty = h.ty }
 
-abbrev pub site_of_key : ℕ → Site
-site_of_key key = record { node = key; place = whole_local key }
+abbrev pub bound_entry : Bound → Entry
+bound_entry b = record { key = b.key; ty = b.ty }
 
-abbrev pub moved : ℕ → Operand
-moved key = Moved (site_of_key key)
+-- All sites of one effect have the number of one node: that of the node that acts, for a borrow that of its base, for
+-- the store of an assignment that of its place.
+abbrev pub site_in : ℕ → ℕ → Site
+site_in node key = record { node = node; place = whole_local key }
+
+abbrev pub site_of_key : ℕ → Site
+site_of_key key = site_in key key
+
+abbrev pub moved : ℕ → ℕ → Operand
+moved node key = Moved (site_in node key)
 
 abbrev pub keys_of : {W : Type 0} → List (Meaning W) → List ℕ
 keys_of ms = map (λ m. m.head.id) ms
 
-abbrev pub all_moved : {W : Type 0} → List (Meaning W) → List Operand
-all_moved ms = map (λ m. moved m.head.id) ms
+abbrev pub all_moved : {W : Type 0} → ℕ → List (Meaning W) → List Operand
+all_moved node ms = map (λ m. moved node m.head.id) ms
 
-abbrev pub site_of : {W : Type 0} → Meaning W → Around W → Site
-site_of m around = site_at m.head (m.shape.place around.aliases)
+abbrev pub place_of : {W : Type 0} → Meaning W → Around → Place
+place_of m around = m.shape.place around.aliases
+
+abbrev pub site_of : {W : Type 0} → Meaning W → Around → Site
+site_of m around = site_at m.head (place_of m around)
 
 abbrev pub is_never : ItemTable → TyId → Bool
 is_never items id = is_never_ty (type_at items id)
 
-abbrev when : {A : Type 0} → Bool → (A → A) → A → A
-when true change a = change a
-when false change a = a
-
-abbrev pub chosen : {W : Type 0} → Choice W → (W → Run W) → (W → Run W) → Run W
-chosen (Yes w) yes_does no_does = yes_does w
-chosen (No w) yes_does no_does = no_does w
-chosen (Neither halt w) yes_does no_does = Over halt w
+abbrev pub changed_if : {A : Type 0} → Bool → (A → A) → A → A
+changed_if true change a = change a
+changed_if false change a = a
 
 module _ {W : Type 0} (items : ItemTable) (p : Effects W) where
   -- Values and destinations.
 
+  abbrev pub acts : Action → Does W
+  acts action = doing (p.act action)
+
+  abbrev pub panics : Why → Does W
+  panics why = doing (λ w. Unwind (p.panic why w))
+
   abbrev pub deliver : Head → (Site → Action) → Destination → Does W
-  deliver h action (Into key) S w = in_scopes S (p.act (action (record { node = h.id; place = whole_local key })) w)
-  deliver h action (Coerced key trait_no to) S w =
-      in_scopes S (on_go (p.act (action (record { node = h.id; place = whole_local key })) w)
-      (p.act (Unsize (record { node = h.id; place = whole_local to }) trait_no (moved key))))
-
-  -- a node that is a scope for temporaries of its own
-  abbrev pub in_own_scope : Bool → Does W → Does W
-  in_own_scope true does S w = leave p (does (entered true S) w)
-  in_own_scope false does S w = does S w
-
-  abbrev becomes_entry : Entry → Scope → Scope
-  becomes_entry e s = with_entry items e (without_pending e s)
-
-  -- an operand is made, and becomes an entry of the innermost scope
-  abbrev pub operand : Around W → Meaning W → Does W
-  operand around m S w =
-      on_value (m.evaluate around false (Into m.head.id) (when m.shape.in_destination (innermost (with_pending items (entry_of m.head))) S) w)
-      (λ S w. At Value (innermost (becomes_entry (entry_of m.head)) S) w)
-
-  abbrev pub operands : Around W → List (Meaning W) → Does W
-  operands around [] S w = At Value S w
-  operands around (m ∷ ms) S w = on_value (operand around m S w) (operands around ms)
-
-  -- a form with operands: they are made in order in its scope, and all taken at once as it acts
-  abbrev pub acting : Around W → Bool → List (Meaning W) → Does W → Does W
-  acting around own ms act S w =
-      leave p (on_value (operands around ms (entered own S) w) (λ S w. act (innermost (without_operands (keys_of ms)) S) w))
-
-  -- `drop(e)` leaves its operand in the scope, which drops it
-  abbrev pub dropping : Around W → Bool → Meaning W → Does W → Does W
-  dropping around own m act S w = leave p (on_value (operand around m (entered own S) w) act)
-
-  -- Places.
-
-  -- a value in the place of a place becomes an entry of the nearest scope for temporaries
-  abbrev pub temporary : Head → Shape → (Around W → Bool → Destination → Does W) → Around W → Does W
-  temporary h shape evaluate around S w =
-      on_value (evaluate around false (Into h.id) (when shape.in_destination (nearest_temporary (with_pending items (entry_of h))) S) w)
-      (λ S w. At Value (nearest_temporary (becomes_entry (entry_of h)) S) w)
-
-  abbrev pub use_of_place : Head → Shape → (Around W → Does W) → Around W → Bool → Destination → Does W
-  use_of_place h shape reach around own to S w =
-      in_own_scope own (λ S w. on_value (reach around S w) (deliver h (λ site. Put site (operand_at h (shape.place around.aliases))) to)) S w
-
-  abbrev pub array_around : Place → Place
-  array_around place = record place { steps = before_element place.steps }
-
-  -- the base, then the index, then the whole array is borrowed and the bounds are checked
-  abbrev pub reach_element : Head → Shape → Meaning W → Meaning W → ℕ → Around W → Does W
-  reach_element h shape base index length around S w =
-      on_value (base.reach around S w)
-      (λ S w. on_value (index.evaluate around false (Into index.head.id) S w)
-      (λ S w. in_scopes S (on_go (p.act (Touch (site_at h (array_around (shape.place around.aliases)))) w)
-      (p.act (Bounds (Copied (site_of_key index.head.id)) length)))))
-
-  abbrev pub borrowing : Head → Bool → Meaning W → Around W → Bool → Destination → Does W
-  borrowing h unique base around own to S w =
-      in_own_scope own (λ S w. on_value (base.reach around S w) (deliver h (λ site. Borrow site unique (site_of base around)) to)) S w
-
-  -- Assignment: the new value, then the place, then what the place still holds is dropped, then the value is stored,
-  -- also where that drop panics.
-
-  abbrev pub stored : Site → ℕ → Scopes → W → Run W
-  stored site key S w = in_scopes (innermost (without_operands (key ∷ [])) S) (p.act (Put site (moved key)) w)
-
-  abbrev panicking : Run W → Run W
-  panicking run = on_value run (At Panics)
-
-  abbrev pub replacing : Site → ℕ → Scopes → Out W → Run W
-  replacing site key S (Go w) = stored site key S w
-  replacing site key S (Unwind w) = panicking (stored site key S w)
-  replacing site key S (Halts halt w) = Over halt w
-
-  abbrev pub dropped_first : Bool → Site → W → Out W
-  dropped_first true site w = p.drop Calm site w
-  dropped_first false site w = Go w
-
-  abbrev pub assigning : Head → Meaning W → Meaning W → Around W → Bool → Destination → Does W
-  assigning h place value around own to S w =
-      leave p (on_value (operand around value (entered own S) w)
-      (λ S w. on_value (place.reach around S w)
-      (λ S w. on_value (replacing (site_of place around) value.head.id S (dropped_first (needs_drop items place.head.ty) (site_of place around) w))
-      (deliver h (λ site. Put site UnitValue) to))))
-
-  -- Conditions and branches.
-
-  -- a condition is a scope for its temporaries, which is left before the branch
-  abbrev pub condition : Around W → Meaning W → Does W → Does W → Does W
-  condition around m yes_does no_does S w =
-      on_value (m.evaluate around true (Into m.head.id) S w)
-      (λ S w. chosen (p.choose (IsTrue (moved m.head.id)) w) (yes_does S) (no_does S))
-
-  abbrev pub branch : Around W → Destination → Option (Meaning W) → Does W → Does W
-  branch around to None without S w = without S w
-  branch around to (Some m) without S w = m.evaluate around true to S w
+  deliver h action (Into key) = acts (action (site_in h.id key))
+  deliver h action (Coerced key trait_no to) = do
+      acts (action (site_in h.id key))
+      acts (Unsize (site_in h.id to) trait_no (moved h.id key))
 
   abbrev pub put_unit : Head → Destination → Does W
   put_unit h to = deliver h (λ site. Put site UnitValue) to
 
   -- no value is put where no run comes
   abbrev pub put_unit_if : Bool → Head → Destination → Does W
-  put_unit_if true h to S w = At Value S w
-  put_unit_if false h to S w = put_unit h to S w
+  put_unit_if true h to = At Value
+  put_unit_if false h to = put_unit h to
+
+  -- a node that is a scope for temporaries of its own, or not
+  abbrev pub in_own_scope : Head → Bool → Does W → Does W
+  in_own_scope h true does = in_scope items p h.id true does
+  in_own_scope h false does = does
+
+  -- a node is evaluated as a scope for temporaries of its own, and leaves the scopes around it as they were
+  abbrev pub alone : Around → Meaning W → Destination → Does W
+  alone around m to S w = back_in S (m.evaluate around true to S w)
+
+  -- a destination is pending in a scope until it is complete; then it is the youngest entry there
+  abbrev pub pending_if : Bool → ((Scope → Scope) → Scopes → Scopes) → Head → Does W
+  pending_if b in_that h = changing (changed_if b (in_that (with_pending (entry_of h))))
+
+  abbrev pub complete : ((Scope → Scope) → Scopes → Scopes) → Head → Does W
+  complete in_that h = changing (in_that (becomes_entry (entry_of h)))
+
+  -- an operand is made, and becomes an entry of the innermost scope
+  abbrev pub operand : Around → Meaning W → Does W
+  operand around m = do
+      pending_if m.shape.in_destination innermost m.head
+      m.evaluate around false (Into m.head.id)
+      complete innermost m.head
+
+  abbrev pub operands : Around → List (Meaning W) → Does W
+  operands around [] = At Value
+  operands around (m ∷ ms) = operand around m >> operands around ms
+
+  -- operands are no entries any more as they are taken
+  abbrev pub take : List ℕ → Does W
+  take keys = changing (innermost (without_operands keys))
+
+  -- a form with operands: they are made in order in its scope, and all taken at once as it acts
+  abbrev pub acting : Head → Around → Bool → List (Meaning W) → Does W → Does W
+  acting h around own ms act = in_scope items p h.id own do
+      operands around ms
+      take (keys_of ms)
+      act
+
+  -- `drop(e)` leaves its operand in the scope, which drops it
+  abbrev pub dropping : Head → Around → Bool → Meaning W → Does W → Does W
+  dropping h around own m act = in_scope items p h.id own do
+      operand around m
+      act
+
+  -- Places.
+
+  -- a value in the place of a place becomes an entry of the nearest scope for temporaries
+  abbrev pub temporary : Head → Shape → (Around → Bool → Destination → Does W) → Around → Does W
+  temporary h shape evaluate around = do
+      pending_if shape.in_destination nearest_temporary h
+      evaluate around false (Into h.id)
+      complete nearest_temporary h
+
+  abbrev pub use_of_place : Head → Shape → (Around → Does W) → Around → Bool → Destination → Does W
+  use_of_place h shape reach around own to = in_own_scope h own do
+      reach around
+      deliver h (λ site. Put site (operand_at h (shape.place around.aliases))) to
+
+  abbrev pub array_around : Place → Place
+  array_around place = record place { steps = before_element place.steps }
+
+  -- the base, then the index, then the whole array is borrowed and the bounds are checked
+  abbrev pub reach_element : Head → Shape → Meaning W → Meaning W → ℕ → Around → Does W
+  reach_element h shape base index length around = do
+      base.reach around
+      index.evaluate around false (Into index.head.id)
+      acts (Touch (site_at h (array_around (shape.place around.aliases))))
+      acts (Bounds (Copied (site_of_key index.head.id)) length)
+
+  abbrev pub borrowing : Head → Bool → Meaning W → Around → Bool → Destination → Does W
+  borrowing h unique base around own to = in_own_scope h own do
+      base.reach around
+      deliver h (λ site. Borrow (record site { node = base.head.id }) unique (site_of base around)) to
+
+  -- Assignment.
+
+  abbrev pub stored : Site → ℕ → Does W
+  stored site key = do
+      take (key ∷ [])
+      acts (Put site (moved site.node key))
+
+  -- the value is stored, also where the drop of what the place held panics
+  abbrev pub stored_after : Site → ℕ → Scopes → Out W → Run W
+  stored_after site key S (Go w) = stored site key S w
+  stored_after site key S (Unwind w) = (stored site key >> At Panics) S w
+  stored_after site key S (Halts halt w) = Over halt w
+
+  abbrev pub dropped_first : Bool → Site → W → Out W
+  dropped_first true site w = p.drop Calm site w
+  dropped_first false site w = Go w
+
+  -- what the place still holds is dropped, and the value is stored
+  abbrev pub replacing : Bool → Site → ℕ → Does W
+  replacing drops site key S w = stored_after site key S (dropped_first drops site w)
+
+  abbrev pub assigning : Head → Meaning W → Meaning W → Around → Bool → Destination → Does W
+  assigning h place value around own to = in_scope items p h.id own do
+      operand around value
+      place.reach around
+      replacing (needs_drop items place.head.ty) (site_of place around) value.head.id
+      put_unit h to
+
+  -- Conditions and branches.
+
+  -- a condition is a scope for its temporaries, which is left before the branch
+  abbrev pub condition : Around → Meaning W → Does W → Does W → Does W
+  condition around m yes_does no_does = do
+      alone around m (Into m.head.id)
+      choosing (p.choose (IsTrue (moved m.head.id m.head.id))) yes_does no_does
+
+  abbrev pub branch : Around → Destination → Option (Meaning W) → Does W → Does W
+  branch around to None without = without
+  branch around to (Some m) without = alone around m to
 
   -- Patterns.
 
@@ -204,17 +236,16 @@ module _ {W : Type 0} (items : ItemTable) (p : Effects W) where
   tested (Halts halt w) operand = Neither halt w
 
   abbrev pub equals : Site → Operand → W → Choice W
-  equals site value w = tested (p.act (Compare (site_of_key site.node) Cmp.Eq (Copied site) value) w) (moved site.node)
+  equals site value w =
+      tested (p.act (Compare (site_of_key site.node) Cmp.Eq (Copied site) value) w) (moved site.node site.node)
 
   abbrev pub tests_after : Choice W → (W → Choice W) → Choice W
   tests_after (Yes w) rest = rest w
-  tests_after (No w) rest = No w
-  tests_after (Neither halt w) rest = Neither halt w
+  tests_after answer rest = answer
 
   abbrev pub alternatives_after : Choice W → (W → Choice W) → Choice W
-  alternatives_after (Yes w) rest = Yes w
   alternatives_after (No w) rest = rest w
-  alternatives_after (Neither halt w) rest = Neither halt w
+  alternatives_after answer rest = answer
 
   -- whether a pattern takes what stands at its place: its tests from left to right
   abbrev mutual
@@ -234,99 +265,124 @@ module _ {W : Type 0} (items : ItemTable) (p : Effects W) where
 
   -- the names of a pattern, in its order, become entries of a scope
   abbrev pub bind : ((Scope → Scope) → Scopes → Scopes) → List Bound → Does W
-  bind in_scope [] S w = At Value S w
-  bind in_scope (b ∷ bounds) S w =
-      on_value (in_scopes S (p.act (Put (site_of_key b.key) (operand_of_bound b)) w))
-      (λ S w. bind in_scope bounds (in_scope (with_entry items (record { key = b.key; ty = b.ty })) S) w)
+  bind in_that [] = At Value
+  bind in_that (b ∷ bounds) = do
+      acts (Put (site_of_key b.key) (operand_of_bound b))
+      changing (in_that (with_entry (bound_entry b)))
+      bind in_that bounds
 
   abbrev pub touched : Bool → Site → Does W
-  touched true site S w = in_scopes S (p.act (Touch site) w)
-  touched false site S w = At Value S w
+  touched true site = acts (Touch site)
+  touched false site = At Value
 
   -- a scrutinee is a place, which is borrowed whole before the first test, or a temporary
-  abbrev pub scrutinised : Around W → Meaning W → Does W
-  scrutinised around m S w = on_value (m.reach around S w) (touched m.shape.is_place (site_of m around))
+  abbrev pub scrutinised : Around → Meaning W → Does W
+  scrutinised around m = do
+      m.reach around
+      touched m.shape.is_place (site_of m around)
 
   -- `if let`, and a turn of `while let`: scrutinee, names and body are in one scope, which is left before what happens
   -- where the pattern does not take the scrutinee
-  abbrev pub if_taken : Around W → Meaning W → Meaning W → Does W → Does W → Does W
-  if_taken around pattern scrutinee body otherwise S w =
-      then_or_leave p (scrutinised around scrutinee (entered true S) w)
-      (λ S w. chosen (all_hold (pattern.shape.tests (scrutinee.shape.place around.aliases)) w)
-      (λ w. leave p (on_value (bind innermost (pattern.shape.bindings (scrutinee.shape.place around.aliases)) S w) body))
-      (λ w. on_value (leave p (At Value S w)) otherwise))
+  abbrev pub if_taken : Head → Around → Meaning W → Meaning W → Does W → Does W → Does W
+  if_taken h around pattern scrutinee body otherwise =
+      in_scope_with items p h.id true (scrutinised around scrutinee)
+      (choosing (all_hold (pattern.shape.tests (place_of scrutinee around)))
+      (leaving items p do
+        bind innermost (pattern.shape.bindings (place_of scrutinee around))
+        body)
+      (do
+        leaving items p (At Value)
+        otherwise))
 
-  -- no arm is left
-  abbrev no_arm : Does W
-  no_arm S w = At Panics S (p.panic Why.Match w)
+  abbrev pub arms_in_order : List (Meaning W) → Place → Around → Destination → Does W
+  arms_in_order [] matched around to = panics Why.Match
+  arms_in_order (arm ∷ arms) matched around to = arm.arm matched (arms_in_order arms matched around to) around to
 
-  abbrev pub arms_in_order : List (Meaning W) → Around W → Destination → Does W
-  arms_in_order [] around to S w = no_arm S w
-  arms_in_order (arm ∷ arms) around to S w = arm.evaluate (record around { otherwise = arms_in_order arms around to }) false to S w
-
-  abbrev pub matching : Meaning W → List (Meaning W) → Around W → Bool → Destination → Does W
-  matching scrutinee arms around own to S w =
-      in_own_scope own (λ S w. on_value (scrutinised around scrutinee S w)
-      (arms_in_order arms (record around { matched = scrutinee.shape.place around.aliases }) to)) S w
+  abbrev pub matching : Head → Meaning W → List (Meaning W) → Around → Bool → Destination → Does W
+  matching h scrutinee arms around own to = in_own_scope h own do
+      scrutinised around scrutinee
+      arms_in_order arms (place_of scrutinee around) around to
 
   -- an arm that is taken: its names are entries of the arm, and its body is a scope for temporaries
-  abbrev pub taken_arm : Around W → List Bound → Meaning W → Destination → Does W
-  taken_arm around bounds body to S w = leave p (on_value (bind innermost bounds (entered false S) w) (body.evaluate around true to))
+  abbrev pub taken_arm : Head → Around → List Bound → Meaning W → Destination → Does W
+  taken_arm h around bounds body to = in_scope items p h.id false do
+      bind innermost bounds
+      alone around body to
 
-  abbrev pub guarded : Around W → List Bound → Option (Meaning W) → Does W → Does W
-  guarded around bounds None taken S w = taken S w
-  guarded around bounds (Some guard) taken S w = condition (in_guard bounds around) guard taken around.otherwise S w
+  abbrev pub guarded : Around → List Bound → Option (Meaning W) → Does W → Does W → Does W
+  guarded around bounds None taken otherwise = taken
+  guarded around bounds (Some guard) taken otherwise = condition (in_guard bounds around) guard taken otherwise
 
   -- an arm: its tests, then its guard, then its names and its body
-  abbrev pub arm : Meaning W → Option (Meaning W) → Meaning W → Around W → Destination → Does W
-  arm pattern guard body around to S w =
-      chosen (all_hold (pattern.shape.tests around.matched) w)
-      (guarded around (pattern.shape.bindings around.matched) guard (taken_arm around (pattern.shape.bindings around.matched) body to) S)
-      (around.otherwise S)
+  abbrev pub arm : Head → Meaning W → Option (Meaning W) → Meaning W → Place → Does W → Around → Destination → Does W
+  arm h pattern guard body matched otherwise around to =
+      choosing (all_hold (pattern.shape.tests matched))
+      (guarded around (pattern.shape.bindings matched) guard
+      (taken_arm h around (pattern.shape.bindings matched) body to)
+      otherwise)
+      otherwise
 
   -- Blocks and statements.
 
-  abbrev pub statements : Around W → List (Meaning W) → Does W
-  statements around [] S w = At Value S w
-  statements around (m ∷ ms) S w = on_value (m.evaluate around false (Into m.head.id) S w) (statements around ms)
+  abbrev pub statements : Around → List (Meaning W) → Does W
+  statements around [] = At Value
+  statements around (m ∷ ms) = do
+      m.evaluate around false (Into m.head.id)
+      statements around ms
 
-  abbrev pub tail_of : Head → Option (Meaning W) → Around W → Destination → Does W
-  tail_of h None around to S w = put_unit_if (is_never items h.ty) h to S w
-  tail_of h (Some m) around to S w = m.evaluate around true to S w
+  abbrev pub tail_of : Head → Option (Meaning W) → Around → Destination → Does W
+  tail_of h None around to = put_unit_if (is_never items h.ty) h to
+  tail_of h (Some m) around to = alone around m to
 
   -- a block is a scope, and its tail one for temporaries
-  abbrev pub block : Head → List (Meaning W) → Option (Meaning W) → Around W → Bool → Destination → Does W
-  block h ms tail around own to S w = leave p (on_value (statements around ms (entered own S) w) (tail_of h tail around to))
+  abbrev pub block : Head → List (Meaning W) → Option (Meaning W) → Around → Bool → Destination → Does W
+  block h ms tail around own to = in_scope items p h.id own do
+      statements around ms
+      tail_of h tail around to
 
   -- the value of an expression statement is an entry of the statement's scope
-  abbrev pub evaluating : Meaning W → Around W → Does W
-  evaluating m around S w =
-      leave p (on_value (m.evaluate around false (Into m.head.id) (innermost (with_pending items (entry_of m.head)) (entered true S)) w)
-      (λ S w. At Value (innermost (becomes_entry (entry_of m.head)) S) w))
+  abbrev pub evaluating : Head → Meaning W → Around → Does W
+  evaluating h m around = in_scope items p h.id true do
+      pending_if true innermost m.head
+      m.evaluate around false (Into m.head.id)
+      complete innermost m.head
 
   -- `let` of one name: the value is pending in the statement's scope, and then the youngest entry of the block
-  abbrev pub let_name : Head → Meaning W → Around W → Does W
-  let_name x m around S w =
-      leave p (on_value (m.evaluate around false (Into x.id) (innermost (with_pending items (entry_of x)) (entered true S)) w)
-      (λ S w. At Value (around_innermost (with_entry items (entry_of x)) (innermost (without_pending (entry_of x)) S)) w))
+  abbrev pub let_name : Head → Head → Meaning W → Around → Does W
+  let_name h x m around = in_scope items p h.id true do
+      pending_if true innermost x
+      m.evaluate around false (Into x.id)
+      changing (innermost (without_pending (entry_of x)))
+      changing (around_innermost (with_entry (entry_of x)))
 
   -- `let` of another pattern: from a place, or from a temporary of the statement, which is pending until it is complete
-  abbrev pub let_parts : Meaning W → Meaning W → Around W → Does W
-  let_parts pattern m around S w =
-      leave p (on_value (m.reach around (when (not (m.shape.is_place || m.shape.in_destination)) (innermost (with_pending items (entry_of m.head))) (entered true S)) w)
-      (bind around_innermost (pattern.shape.bindings (m.shape.place around.aliases))))
+  abbrev pub let_parts : Head → Meaning W → Meaning W → Around → Does W
+  let_parts h pattern m around = in_scope items p h.id true do
+      pending_if (not (m.shape.is_place || m.shape.in_destination)) innermost m.head
+      m.reach around
+      bind around_innermost (pattern.shape.bindings (place_of m around))
 
-  -- `let` without a value: its names are entries that are gone. One whose type needs dropping is gone already, since it
-  -- is new or was dropped with its scope; another may hold the value of the turn of a loop before
+  -- one whose type needs dropping is gone already, since it is new or was dropped with its scope; another may hold the
+  -- value of the turn of a loop before
+  abbrev pub emptied : Bool → ℕ → Does W
+  emptied true key = At Value
+  emptied false key = doing (p.drop Calm (site_of_key key))
+
+  -- `let` without a value: its names are entries that are gone
   abbrev pub declared : List Bound → Does W
-  declared [] S w = At Value S w
-  declared (b ∷ bounds) S w =
-      on_value (if needs_drop items b.ty then At Value S w else in_scopes S (p.drop Calm (site_of_key b.key) w))
-      (λ S w. declared bounds (innermost (with_entry items (record { key = b.key; ty = b.ty })) S) w)
+  declared [] = At Value
+  declared (b ∷ bounds) = do
+      emptied (needs_drop items b.ty) b.key
+      changing (innermost (with_entry (bound_entry b)))
+      declared bounds
 
-  abbrev pub letting : Meaning W → Option (Meaning W) → Around W → Does W
-  letting pattern None around S w = declared (pattern.shape.bindings (whole_local 0)) S w
-  letting pattern (Some m) around S w = if pattern.shape.is_binding then let_name pattern.head m around S w else let_parts pattern m around S w
+  abbrev pub let_value : Bool → Head → Meaning W → Meaning W → Around → Does W
+  let_value true h pattern m = let_name h pattern.head m
+  let_value false h pattern m = let_parts h pattern m
+
+  abbrev pub letting : Head → Meaning W → Option (Meaning W) → Around → Does W
+  letting h pattern None around = declared (pattern.shape.bindings (whole_local 0))
+  letting h pattern (Some m) around = let_value pattern.shape.is_binding h pattern m around
 
   -- Loops and jumps.
 
@@ -335,14 +391,12 @@ module _ {W : Type 0} (items : ItemTable) (p : Effects W) where
   ticked (Unwind w) next = Over NoStep w
   ticked (Halts halt w) next = Over halt w
 
-  -- what follows a turn of a loop: the next turn, or the end of the loop
+  -- what follows a turn of a loop, which began in these scopes: the next turn, or the end of the loop
   abbrev pub turned : ℕ → Scopes → Run W → Does W → Run W
-  turned id S0 (At Value S w) next = next S w
-  turned id S0 (At (Breaks loop) S w) next = if id == loop then At Value S0 w else At (Breaks loop) S w
-  turned id S0 (At (Continues loop) S w) next = (if id == loop then next S0 else At (Continues loop) S) w
-  turned id S0 (At Returns S w) next = At Returns S w
-  turned id S0 (At Panics S w) next = At Panics S w
-  turned id S0 (Over halt w) next = Over halt w
+  turned id begun (At Value S w) next = next S w
+  turned id begun (At (Breaks loop) S w) next = if id == loop then At Value begun w else At (Breaks loop) S w
+  turned id begun (At (Continues loop) S w) next = (if id == loop then next begun else At (Continues loop) S) w
+  turned id begun run next = run
 
   -- fewer turns than so many. Each spends a tick, or takes an item, so a bound that is greater than what is left of
   -- these never ends a loop by itself
@@ -352,8 +406,15 @@ module _ {W : Type 0} (items : ItemTable) (p : Effects W) where
 
   -- the end of a loop with a condition
   abbrev pub ends_loop : Head → Destination → Does W
-  ends_loop h to S w = on_value (put_unit h to S w) (At (Breaks h.id))
+  ends_loop h to = do
+      put_unit h to
+      At (Breaks h.id)
 
-  abbrev pub jumping : Exit → Head → Option (Meaning W) → Around W → Destination → Does W
-  jumping exit h None around to S w = on_value (put_unit h to S w) (At exit)
-  jumping exit h (Some m) around to S w = on_value (m.evaluate around false to S w) (At exit)
+  abbrev pub value_of_jump : Head → Option (Meaning W) → Around → Destination → Does W
+  value_of_jump h None around to = put_unit h to
+  value_of_jump h (Some m) around to = m.evaluate around false to
+
+  abbrev pub jumping : Exit → Head → Option (Meaning W) → Around → Destination → Does W
+  jumping exit h m around to = do
+      value_of_jump h m around to
+      At exit

@@ -9,15 +9,21 @@ use Rattle.store_model.specs.Entering.{run_body}
 use Rattle.store_model.specs.Free.{Free, on_presence}
 use Rattle.store_model.specs.World.{World}
 use Rattle.typed_tree.specs.Tree.{BodyTree, ProgramTree}
+use Rattle.src_meaning.specs.AtLocals.{at_locals}
+use Rattle.src_meaning.specs.Locals.{local_of}
 use Rattle.src_meaning.specs.Programs.{activation, setting_of, code_of}
 
 -- two bounds on the turns of loops that are greater than the number of items give the same free run of a body
 abbrev pub FreeRunHasNoBound : Type 0
-FreeRunHasNoBound = (items : ItemTable) (body : BodyTree) (local_ty : ℕ → Option TyId) (most other : ℕ) (w : Free) → length w.items < most → length w.items < other →
-    activation items (on_presence items local_ty) most body w ≡ activation items (on_presence items local_ty) other body w
+FreeRunHasNoBound = (items : ItemTable) (body : BodyTree) (local_ty : ℕ → Option TyId) (most other : ℕ) (w : Free) →
+    length w.items < most → length w.items < other →
+    activation items (at_locals (local_of items body) (on_presence items local_ty)) most body w
+    ≡ activation items (at_locals (local_of items body) (on_presence items local_ty)) other body w
 
 -- Two bounds on nesting that are no less than the ticks give the same run of a body: the bounds on turns and on drops,
 -- which go with them, are never met.
 abbrev pub RunHasNoBound : Type 0
-RunHasNoBound = (program : ProgramTree) (n m : ℕ) (event : Event) (body : ℕ) (args : List Datum) (w : World) → w.ticks ≤ n → w.ticks ≤ m →
-    run_body (setting_of program) (code_of program) n event body args w ≡ run_body (setting_of program) (code_of program) m event body args w
+RunHasNoBound = (program : ProgramTree) (n m : ℕ) (event : Event) (body : ℕ) (args : List Datum) (w : World) →
+    w.ticks ≤ n → w.ticks ≤ m →
+    run_body (setting_of program) (code_of program) n event body args w
+    ≡ run_body (setting_of program) (code_of program) m event body args w

@@ -1,7 +1,10 @@
+pub mod AtLocals
 pub mod Evaluation
 pub mod First
 pub mod Forms
 pub mod Laws
+pub mod Locals
 pub mod Programs
 pub mod Scopes
 pub mod Shape
+pub mod Takes

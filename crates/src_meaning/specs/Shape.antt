@@ -18,6 +18,9 @@ pub record Head : Type 0 where
   pub ty : TyId
   pub by : Option Use
 
+abbrev pub head : ℕ → TyId → Option Use → Head
+head id ty by = record { id = id; ty = ty; by = by }
+
 -- Inside a guard the name of a binding of its arm stands for the part that the binding would take.
 abbrev pub Aliases : Type 0
 Aliases = List (ℕ × Place)
@@ -60,7 +63,6 @@ pub record Shape : Type 0 where
   pub is_place : Bool
   pub in_destination : Bool  -- a block, branch or loop, whose value is made in a destination that is pending
   pub is_binding : Bool  -- a pattern that is one name
-  pub is_literal : Bool  -- a pattern that is one literal: its entry holds what the comparison gives
   pub place : Aliases → Place  -- a value stands in a temporary under its own number
   pub tests : Place → PatternTests
   pub bindings : Place → List Bound
@@ -69,11 +71,11 @@ abbrev pub site_at : Head → Place → Site
 site_at h place = record { node = h.id; place = place }
 
 -- a place whose value is used is copied or moved
-abbrev moves : Option Use → Bool
+abbrev pub moves : Option Use → Bool
 moves (Some Use.Move) = true
 moves by = false
 
-abbrev copied_or_moved : Bool → Site → Operand
+abbrev pub copied_or_moved : Bool → Site → Operand
 copied_or_moved true site = Moved site
 copied_or_moved false site = Copied site
 
@@ -90,7 +92,14 @@ abbrev pub kind_of : ItemTable → TyId → IntKind
 kind_of items id = unwrap_or (int_kind (type_at items id)) IntKind.I32
 
 abbrev a_value : Head → Shape
-a_value h = record { is_place = false; in_destination = false; is_binding = false; is_literal = false; place = λ aliases. whole_local h.id; tests = λ place. no_test; bindings = λ place. [] }
+a_value h = record {
+  is_place = false;
+  in_destination = false;
+  is_binding = false;
+  place = λ aliases. whole_local h.id;
+  tests = λ place. no_test;
+  bindings = λ place. [];
+}
 
 abbrev a_value_in_destination : Head → Shape
 a_value_in_destination h = record (a_value h) { in_destination = true }
@@ -98,14 +107,21 @@ a_value_in_destination h = record (a_value h) { in_destination = true }
 abbrev a_place : Head → (Aliases → Place) → Shape
 a_place h place = record (a_value h) { is_place = true; place = place }
 
+-- a part of a place
+abbrev a_part : Head → (Aliases → Place) → Step → Shape
+a_part h base step = a_place h (λ aliases. extended step (base aliases))
+
 abbrev a_pattern : Head → (Place → PatternTests) → (Place → List Bound) → Shape
 a_pattern h tests bindings = record (a_value h) { tests = tests; bindings = bindings }
 
 abbrev a_test_alone : Head → (Site → PatternTest) → Shape
-a_test_alone h test = record (a_value h) { is_literal = true; tests = λ place. a_test (test (site_at h place)) no_test }
+a_test_alone h test = record (a_value h) { tests = λ place. a_test (test (site_at h place)) no_test }
 
 abbrev a_binding : Head → Shape
-a_binding h = record (a_value h) { is_binding = true; bindings = λ place. (record { key = h.id; ty = h.ty; takes = moves h.by; site = site_at h place }) ∷ [] }
+a_binding h = record (a_value h) {
+  is_binding = true;
+  bindings = λ place. (record { key = h.id; ty = h.ty; takes = moves h.by; site = site_at h place }) ∷ [];
+}
 
 -- patterns of parts, one after the other, each at its part
 pub record Parts : Type 0 where
@@ -130,22 +146,26 @@ variant_test true site variant rest = a_test (IsVariant site variant) rest
 variant_test false site variant rest = rest
 
 abbrev of_variant : Head → Bool → ℕ → Parts → Shape
-of_variant h is_test variant parts = a_pattern h (λ place. variant_test is_test (site_at h place) variant (parts.tests place)) parts.bindings
+of_variant h is_test variant parts =
+    a_pattern h (λ place. variant_test is_test (site_at h place) variant (parts.tests place)) parts.bindings
+
+abbrev of_alternatives : Head → (Place → Alternatives) → Shape
+of_alternatives h alternatives = a_pattern h (λ place. a_test (AnyOf (alternatives place)) no_test) (λ place. [])
 
 module _ (items : ItemTable) where
   abbrev mutual
     pub shape : Node → Shape
-    shape (node id at ty by form) = shape_of form (record { id = id; ty = ty; by = by })
+    shape (node id at ty by form) = shape_of form (head id ty by)
 
     pub shape_of : Form → Head → Shape
     shape_of (tree.Number value) h = a_value h
     shape_of (tree.Truth value) h = a_value h
     shape_of tree.UnitValue h = a_value h
     shape_of (tree.Variable key) h = a_place h (place_of_key key)
-    shape_of (tree.Captured closure part) h = a_place h (λ aliases. extended (ToPart part) (place_of_key closure aliases))
-    shape_of (tree.Field base part) h = a_place h (λ aliases. extended (ToPart part) ((shape base).place aliases))
-    shape_of (tree.Index base index length) h = a_place h (λ aliases. extended (ToElement (number_of index)) ((shape base).place aliases))
-    shape_of (tree.Deref base) h = a_place h (λ aliases. extended ToContent ((shape base).place aliases))
+    shape_of (tree.Captured closure part name) h = a_part h (place_of_key closure) (ToPart part)
+    shape_of (tree.Field base part) h = a_part h (shape base).place (ToPart part)
+    shape_of (tree.Index base index length) h = a_part h (shape base).place (ToElement (number_of index))
+    shape_of (tree.Deref base) h = a_part h (shape base).place ToContent
     shape_of (tree.Not operand) h = a_value h
     shape_of (tree.Negate operand) h = a_value h
     shape_of (tree.Arithmetic operator left right) h = a_value h
@@ -182,15 +202,16 @@ module _ (items : ItemTable) where
     shape_of (tree.Break loop value) h = a_value h
     shape_of (tree.Continue loop) h = a_value h
     shape_of (tree.Return value) h = a_value h
-    shape_of tree.Wildcard h = a_pattern h (λ place. no_test) (λ place. [])
-    shape_of tree.Binding h = a_binding h
+    shape_of tree.Wildcard h = a_value h
+    shape_of (tree.Binding name) h = a_binding h
     shape_of (tree.NumberPattern value) h = a_test_alone h (λ site. IsNumber site value (kind_of items h.ty))
     shape_of (tree.TruthPattern value) h = a_test_alone h (λ site. IsTruth site value)
     shape_of (tree.StructPattern fields) h = of_parts h (in_fields fields ToPart)
-    shape_of (tree.VariantPattern variant is_test fields) h = of_variant h is_test variant (in_fields fields (ToField variant))
+    shape_of (tree.VariantPattern variant is_test fields) h =
+        of_variant h is_test variant (in_fields fields (ToField variant))
     shape_of (tree.TuplePattern parts) h = of_parts h (in_parts parts 0)
     shape_of (tree.ArrayPattern elements) h = of_parts h (in_parts elements 0)
-    shape_of (tree.OrPattern alternatives) h = a_pattern h (λ place. a_test (AnyOf (alternatives_at alternatives place)) no_test) (λ place. [])
+    shape_of (tree.OrPattern alternatives) h = of_alternatives h (alternatives_at alternatives)
 
     -- the fields of a pattern, each at the step to it
     pub in_fields : Fields → (ℕ → Step) → Parts

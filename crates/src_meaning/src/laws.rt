@@ -1,9 +1,16 @@
 //! The laws of the source's meaning. Each is a clause of a function without parameters.
 ghost use Rattle.src_meaning.specs.Laws.{FreeRunHasNoBound, RunHasNoBound};
+ghost use Rattle.src_meaning.specs.Takes.{TestsHoldWhereTaken};
 
 /// The bounds by which a run is defined are never met: with no more ticks than the bounds on nesting, or
 /// with fewer items of a free run than the bounds on turns, two bounds give the same run of a body.
 pub fn law_of_runs()
     ensures values { RunHasNoBound }
     ensures free { FreeRunHasNoBound }
+{}
+
+/// The tests of a pattern hold exactly where it takes the value (The Rust Reference, "Patterns"): of any
+/// effects that answer each single test by what stands there.
+pub fn law_of_tests()
+    ensures { TestsHoldWhereTaken }
 {}

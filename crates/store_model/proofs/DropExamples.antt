@@ -1,5 +1,6 @@
 -- Drops of values, worked out by hand and closed by computation: in a program with a struct `D` that has a `Drop` body,
--- a pair of two `D`s, and a box of one. The `Drop` body of the value with the number 1 panics.
+-- a pair of two `D`s, and a box of one. The `Drop` body of the value with the number 1 panics, and that of the value with
+-- the number 4 stores another box with it in local 2.
 use Rattle.std.proofs.Common.{◌≡◌, ℕ, zero, suc, pred, refl, [], ◌∷◌, List}
 use Rattle.std.specs.Prelude.{Some, None, false, codes}
 use Rattle.mir_base.specs.declared.trace.Event.{Event}
@@ -12,7 +13,7 @@ use Rattle.store_model.specs.Acting.{drop as drops}
 use Rattle.store_model.specs.Data.{Datum, Gone, Aggregate, Box, no_part, a_part}
 use Rattle.store_model.specs.Effects.{Calm, Unwinding, Mode, Halt, Aborted, Out, Go, Unwind, Halts}
 use Rattle.store_model.specs.NamedPlace.{whole_local}
-use Rattle.store_model.specs.Standing.{Setting}
+use Rattle.store_model.specs.Standing.{Setting, root_address, stored_at}
 use Rattle.store_model.specs.World.{World, telling, Answer, Returns, Unwinds, Bodies, Activation, cell}
 
 abbrev d_ty : TyId
@@ -32,16 +33,17 @@ setting = record {
   strict = false;
 }
 
+abbrev d : ℕ → Datum
+d serial = Aggregate 0 (Some serial) no_part
+
 abbrev end_of_body : ℕ → World → Answer
 end_of_body (suc zero) w = Unwinds w
+end_of_body (suc (suc (suc (suc zero)))) w = Returns Gone (stored_at (root_address 0 2) (Box 8 None (d 4)) w)
 end_of_body serial w = Returns Gone w
 
 abbrev bodies : Bodies
 bodies (Event.Dropped adt serial) body args w = end_of_body serial (record (telling (Event.Dropped adt serial) w) { ticks = pred w.ticks })
 bodies event body args w = Returns Gone w
-
-abbrev d : ℕ → Datum
-d serial = Aggregate 0 (Some serial) no_part
 
 abbrev holding : ℕ → Datum → World
 holding local value = record { asked = []; ticks = 5; serial = 9; activations = (record { body = 0; cells = (local, value) ∷ [] }) ∷ []; trace = [] }
@@ -90,3 +92,6 @@ a_box_without_its_content = refl
 
 a_box_whose_content_panicked : dropped Calm 2 (Box 7 None (d 1)) ≡ Panics (drop 0 1 ∷ free 7 ∷ []) Gone
 a_box_whose_content_panicked = refl
+
+a_box_that_was_stored_meanwhile : dropped Calm 2 (Box 7 None (d 4)) ≡ GoesOn (drop 0 4 ∷ free 8 ∷ []) Gone
+a_box_that_was_stored_meanwhile = refl

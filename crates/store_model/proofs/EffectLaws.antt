@@ -18,7 +18,7 @@ NoMoreOf size m (Neither halt w) = Unit {0}
 -- where a run goes on, less than so much is left
 abbrev pub Ticked : {W : Type 0} → (W → ℕ) → ℕ → Out W → Type 0
 Ticked size m (Go w) = suc (size w) ≤ m
-Ticked size m (Unwind w) = Unit {0}
+Ticked size m (Unwind w) = size w ≤ m
 Ticked size m (Halts halt w) = Unit {0}
 
 -- nothing is given back, and a turn takes something

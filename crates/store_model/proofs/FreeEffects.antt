@@ -6,9 +6,9 @@ use Rattle.mir_ty.specs.Facts.{needs_drop}
 use Rattle.mir_ty.specs.ItemTable.{ItemTable}
 use Rattle.store_model.proofs.EffectLaws.{NoMore, NoMoreOf, Ticked, Laws, Keeps}
 use Rattle.store_model.specs.Effects as effects
-use Rattle.store_model.specs.Effects.{Site, Operand, Action, Test, Mode, Calm, Unwinding, Halt, NoRun, Out, Go, Unwind, Halts, Choice, Effects}
+use Rattle.store_model.specs.Effects.{Site, Operand, Action, Test, Mode, Calm, Unwinding, Halt, NoRun, PastTheEnd, Out, Go, Unwind, Halts, Choice, Effects}
 use Rattle.store_model.specs.NamedPlace.{place_ty}
-use Rattle.store_model.specs.Free.{Free, item, chosen_item, choice_after, when, may_use, may_test, may_store, watched_at, presence_of, after, never_at, using, unless_never, operand_used, operands_used, store, returns_by_item, computed_by_item, act, choose, unwound, dropped, drop, on_presence}
+use Rattle.store_model.specs.Free.{Free, item, chosen_item, choice_after, when, may_use, may_test, may_store, watched_at, presence_of, after, never_at, using, unless_never, operand_used, operands_used, store, returns_by_item, computed_by_item, acted_on, act, choose, unwound, dropped, drop, on_presence}
 
 abbrev pub items_of : Free → ℕ
 items_of w = length w.items
@@ -39,6 +39,12 @@ module _ (m : ℕ) where
   go_less (Unwind w) l next e = l
   go_less (Halts halt w) l next e = tt
 
+  halting_less : (b : Bool) (halt : Halt) (o : Out Free) → NoMore items_of m o → NoMore items_of m (effects.halting_if b halt o)
+  halting_less true halt (Go w) l = tt
+  halting_less true halt (Unwind w) l = l
+  halting_less true halt (Halts other w) l = tt
+  halting_less false halt o l = l
+
   module _ (table : ItemTable) (local_ty : ℕ → Option TyId) where
     never_less : (b : Bool) → Keeps items_of m (unless_never table local_ty b)
     never_less true w l = tt
@@ -61,7 +67,8 @@ module _ (m : ℕ) where
 
     store_less : (to : Site) → Keeps items_of m (store table local_ty to)
     store_less to w l =
-        when_less (may_store (watched_at table local_ty to) (presence_of table local_ty to w)) (effects.BadStore to) (λ w. Go (after table local_ty false to w)) (λ v k. k) w l
+        when_less (may_store (watched_at table local_ty to) (presence_of table local_ty to w)) (effects.BadStore to)
+        (λ w. Go (after table local_ty false to w)) (λ v k. k) w l
 
     computed_less : (to : Site) → Keeps items_of m (computed_by_item table local_ty to)
     computed_less to w l = item_less w.items w _ _ l (store_less to) (λ v k. k)
@@ -73,24 +80,29 @@ module _ (m : ℕ) where
     returns_less : (to : Site) → Keeps items_of m (returns_by_item table local_ty to)
     returns_less to w l = item_less w.items w _ _ l (unless_never_returns (never_at table local_ty to) to) (λ v k. k)
 
+    acted_less : (action : Action) → Keeps items_of m (acted_on table local_ty action)
+    acted_less (effects.Put to from) w l = operands_less (from ∷ []) _ (store_less to) w l
+    acted_less (effects.Compare to operator left right) w l = operands_less (left ∷ right ∷ []) _ (store_less to) w l
+    acted_less (effects.Not to operand) w l = operands_less (operand ∷ []) _ (store_less to) w l
+    acted_less (effects.Build to kind parts) w l = operands_less parts _ (store_less to) w l
+    acted_less (effects.NewBox to content) w l = operands_less (content ∷ []) _ (store_less to) w l
+    acted_less (effects.Unsize to trait_no operand) w l = operands_less (operand ∷ []) _ (store_less to) w l
+    acted_less (effects.Borrow to unique base) w l = using_less base (store table local_ty to) (store_less to) w l
+    acted_less (effects.Touch base) w l = using_less base Go (λ v k. k) w l
+    acted_less (effects.Print operand) w l = operands_less (operand ∷ []) _ (λ v k. k) w l
+    acted_less (effects.Forget operand) w l = operands_less (operand ∷ []) _ (λ v k. k) w l
+    acted_less (effects.Free box) w l = l
+    acted_less (effects.Compute to operator left right) w l = operands_less (left ∷ right ∷ []) _ (computed_less to) w l
+    acted_less (effects.Negate to operand) w l = operands_less (operand ∷ []) _ (computed_less to) w l
+    acted_less (effects.Bounds index count) w l = operands_less (index ∷ []) _ (λ v k. item_less v.items v _ _ k (λ u j. j) (λ u j. j)) w l
+    acted_less (effects.Call to body args) w l = operands_less args _ (returns_less to) w l
+    acted_less (effects.CallVirtual to trait_no method args) w l = operands_less args _ (returns_less to) w l
+    acted_less (effects.Ask to) w l = computed_less to w l
+
     act_less : (action : Action) → Keeps items_of m (act table local_ty action)
-    act_less (effects.Put to from) w l = operands_less (from ∷ []) _ (store_less to) w l
-    act_less (effects.Compare to operator left right) w l = operands_less (left ∷ right ∷ []) _ (store_less to) w l
-    act_less (effects.Not to operand) w l = operands_less (operand ∷ []) _ (store_less to) w l
-    act_less (effects.Build to kind parts) w l = operands_less parts _ (store_less to) w l
-    act_less (effects.NewBox to content) w l = operands_less (content ∷ []) _ (store_less to) w l
-    act_less (effects.Unsize to trait_no operand) w l = operands_less (operand ∷ []) _ (store_less to) w l
-    act_less (effects.Borrow to unique base) w l = using_less base (store table local_ty to) (store_less to) w l
-    act_less (effects.Touch base) w l = using_less base Go (λ v k. k) w l
-    act_less (effects.Print operand) w l = operands_less (operand ∷ []) _ (λ v k. k) w l
-    act_less (effects.Forget operand) w l = operands_less (operand ∷ []) _ (λ v k. k) w l
-    act_less (effects.Free box) w l = l
-    act_less (effects.Compute to operator left right) w l = operands_less (left ∷ right ∷ []) _ (computed_less to) w l
-    act_less (effects.Negate to operand) w l = operands_less (operand ∷ []) _ (computed_less to) w l
-    act_less (effects.Bounds index count) w l = operands_less (index ∷ []) _ (λ v k. item_less v.items v _ _ k (λ u j. j) (λ u j. j)) w l
-    act_less (effects.Call to body args) w l = operands_less args _ (returns_less to) w l
-    act_less (effects.CallVirtual to trait_no method args) w l = operands_less args _ (returns_less to) w l
-    act_less (effects.Ask to) w l = computed_less to w l
+    act_less action w l =
+        halting_less (effects.stores_where (never_at table local_ty) action) PastTheEnd (acted_on table local_ty action w)
+        (acted_less action w l)
 
     choose_less : (test : Test) (w : Free) → items_of w ≤ m → NoMoreOf items_of m (choose table local_ty test w)
     choose_less (effects.IsTrue operand) w l = choice_less (operand_used table local_ty operand w) (operand_less operand w l)

@@ -2,8 +2,11 @@ mod CountLemmas
 mod DropExamples
 mod PlacePieces
 pub mod DataLemmas
+pub mod Agreement
 pub mod EffectLaws
+pub mod Following
 pub mod FreeEffects
+pub mod NeverStores
 pub mod PartLaws
 pub mod PlaceLaws
 pub mod PlaceSteps

@@ -7,10 +7,11 @@ use Rattle.mir_base.specs.declared.int_kind.IntKind.{IntKind}
 use Rattle.mir_base.specs.declared.operator.Math.{Math}
 use Rattle.mir_base.specs.declared.trace.Event.{Event}
 use Rattle.store_model.proofs.EffectLaws.{NoMore, NoMoreOf, Ticked, Laws, Tied}
-use Rattle.store_model.specs.Acting.{Computed, Gives, PanicsBy, computed, or_no_step, used, taken, all_taken, taking, taking_two, taking_all, put, put_if, told, made_event, built, boxed, printed, if_nothing_numbered, freed, put_computed, compute, negate, within_bounds, bounded, answered, asked, chosen_truth, chosen_if, variant_tested, choose, virtual_body, called, act, give, dropped_if, nothing_if, drop, on_values}
+use Rattle.store_model.specs.Acting.{Computed, Gives, PanicsBy, computed, or_no_step, used, taken, all_taken, taking, taking_two, taking_all, put, put_if, told, made_event, built, boxed, printed, if_nothing_numbered, freed, put_computed, compute, negate, within_bounds, bounded, answered, asked, chosen_truth, chosen_if, variant_tested, choose, never_at, virtual_body, called, acted, act, give, dropped_if, nothing_if, drop, on_values}
+use Rattle.mir_ty.specs.ItemTable.{ItemTable}
 use Rattle.store_model.specs.declared.address.At.TheVariants.{Part, Inside}
 use Rattle.store_model.specs.Data.{Datum, Data, Gone, Number, Truth, UnitValue, Aggregate, Box, Address, no_part, a_part}
-use Rattle.store_model.specs.DropAt.{drop_body_out, unwinding_out, in_mode, same_if, still_found, Stage, Begins, HasRun, gone_at, freed_at, as_read, if_part, with_body, own_body, drop_impl, drop_value, drop_parts, dropped_there, drop_at}
+use Rattle.store_model.specs.DropAt.{drop_body_out, unwinding_out, in_mode, same_if, still_found, Stage, Begins, HasRun, gone_at, freed_there, freed_at, as_read, if_part, with_body, own_body, drop_impl, drop_value, drop_parts, dropped_there, drop_at}
 use Rattle.store_model.specs.Effects as effects
 use Rattle.store_model.specs.Effects.{Site, Operand, Kind, OfTuple, OfArray, OfVariant, OfClosure, Action, Test, Mode, Calm, Unwinding, Halt, OutOfTicks, NoStep, Out, Go, Unwind, Halts, Choice, Yes, No, Neither, Effects}
 use Rattle.store_model.specs.Entering.{Code, ended, after_tick, run_body}
@@ -205,26 +206,37 @@ module _ (m : ℕ) where
           step_less body (λ body. answered setting to (run (Event.Call body) body args w)) w
           (λ body. answered_less to (run (Event.Call body) body args w) (thrifty m (Event.Call body) body args w l))
 
-      act_less : (action : Action) (w : World) → w.ticks ≤ m → Kept m (act setting run action w)
-      act_less (effects.Put to from) w l = taking_less from _ (put_less to) w l
-      act_less (effects.Compare to operator left right) w l = taking_two_less left right _ (λ a b v k. put_if_less to _ v k) w l
-      act_less (effects.Not to operand) w l = taking_less operand _ (λ d v k. put_if_less to _ v k) w l
-      act_less (effects.Build to kind parts) w l = taking_all_less parts _ (built_less to kind) w l
-      act_less (effects.NewBox to content) w l = taking_less content _ (boxed_less to) w l
-      act_less (effects.Unsize to trait_no operand) w l = taking_less operand _ (λ d v k. put_if_less to _ v k) w l
-      act_less (effects.Borrow to unique base) w l = step_less (used setting w base) _ w (λ s. put_less to (Address s.address) w l)
-      act_less (effects.Touch base) w l = step_less (used setting w base) _ w (λ s. goes w l)
-      act_less (effects.Print operand) w l = taking_less operand _ printed_less w l
-      act_less (effects.Forget operand) w l = taking_less operand _ (λ d v k. record { kept = k }) w l
-      act_less (effects.Free box) w l =
+      acted_less : (action : Action) (w : World) → w.ticks ≤ m → Kept m (acted setting run action w)
+      acted_less (effects.Put to from) w l = taking_less from _ (put_less to) w l
+      acted_less (effects.Compare to operator left right) w l = taking_two_less left right _ (λ a b v k. put_if_less to _ v k) w l
+      acted_less (effects.Not to operand) w l = taking_less operand _ (λ d v k. put_if_less to _ v k) w l
+      acted_less (effects.Build to kind parts) w l = taking_all_less parts _ (built_less to kind) w l
+      acted_less (effects.NewBox to content) w l = taking_less content _ (boxed_less to) w l
+      acted_less (effects.Unsize to trait_no operand) w l = taking_less operand _ (λ d v k. put_if_less to _ v k) w l
+      acted_less (effects.Borrow to unique base) w l = step_less (used setting w base) _ w (λ s. put_less to (Address s.address) w l)
+      acted_less (effects.Touch base) w l = step_less (used setting w base) _ w (λ s. goes w l)
+      acted_less (effects.Print operand) w l = taking_less operand _ printed_less w l
+      acted_less (effects.Forget operand) w l = taking_less operand _ (λ d v k. record { kept = k }) w l
+      acted_less (effects.Free box) w l =
           reached_less (reach setting w box.place) (λ s. freed setting s s.value w) (Halts NoStep w) (Halts NoStep w)
           (λ s. freed_less s s.value w l) (halted NoStep w) (halted NoStep w)
-      act_less (effects.Compute to operator left right) w l = taking_two_less left right _ (compute_less to operator _) w l
-      act_less (effects.Negate to operand) w l = taking_less operand _ (negate_less to _) w l
-      act_less (effects.Bounds index count) w l = taking_less index _ (bounded_less count) w l
-      act_less (effects.Call to body args) w l = taking_all_less args _ (called_less to (Some body)) w l
-      act_less (effects.CallVirtual to trait_no method args) w l = taking_all_less args _ (λ values v k. called_less to _ values v k) w l
-      act_less (effects.Ask to) w l = asked_less to w.asked w l
+      acted_less (effects.Compute to operator left right) w l = taking_two_less left right _ (compute_less to operator _) w l
+      acted_less (effects.Negate to operand) w l = taking_less operand _ (negate_less to _) w l
+      acted_less (effects.Bounds index count) w l = taking_less index _ (bounded_less count) w l
+      acted_less (effects.Call to body args) w l = taking_all_less args _ (called_less to (Some body)) w l
+      acted_less (effects.CallVirtual to trait_no method args) w l = taking_all_less args _ (λ values v k. called_less to _ values v k) w l
+      acted_less (effects.Ask to) w l = asked_less to w.asked w l
+
+      halting_less : (b : Bool) (halt : Halt) (o : Out World) → Kept m o → Kept m (effects.halting_if b halt o)
+      halting_less true halt (Go w) h = record { kept = tt }
+      halting_less true halt (Unwind w) h = record { kept = h.kept }
+      halting_less true halt (Halts other w) h = record { kept = tt }
+      halting_less false halt o h = h
+
+      act_less : (action : Action) (w : World) → w.ticks ≤ m → Kept m (act setting run action w)
+      act_less action w l =
+          halting_less (effects.stores_where (never_at setting w) action) NoStep (acted setting run action w)
+          (acted_less action w l)
 
       give_less : (site : Site) (w : World) → w.ticks ≤ m → Kept m (give setting run site w)
       give_less site w l = step_less (used setting w site) _ w (λ s. goes w l)
@@ -252,17 +264,21 @@ module _ (m : ℕ) where
       same_if_less true next w h = h
       same_if_less false next w h = halted NoStep w
 
-      still_found_less : (found : Found) (o : Option Standing) (next : Standing → World → Out World) (w : World) → ((s : Standing) → Kept m (next s w)) →
-          Kept m (still_found found o next w)
+      still_found_less : (found : Found) (o : Option Standing) (next : Standing → World → Out World) (w : World) →
+          ((s : Standing) → Kept m (next s w)) → Kept m (still_found setting.items found o next w)
       still_found_less found None next w e = halted NoStep w
       still_found_less found (Some s) next w e = same_if_less _ (next s) w (e s)
 
       gone_less : (s : Standing) (w : World) → w.ticks ≤ m → Kept m (gone_at setting run s w)
       gone_less s w l = still_found_less s.found _ (λ s w. Go (stored_at s.address Gone w)) w (λ s. record { kept = l })
 
-      freed_at_less : (serial : ℕ) (s : Standing) (w : World) → w.ticks ≤ m → Kept m (freed_at setting run serial s w)
-      freed_at_less serial s w l =
-          still_found_less s.found _ (λ s w. Go (telling (Event.Freed serial) (stored_at s.address Gone w))) w (λ s. record { kept = l })
+      freed_there_less : (value : Datum) (s : Standing) (w : World) → w.ticks ≤ m → Kept m (freed_there setting run value s w)
+      freed_there_less (Box serial impl_no inside) s w l = record { kept = l }
+      freed_there_less _ s w l = halted NoStep w
+
+      freed_at_less : (s : Standing) (w : World) → w.ticks ≤ m → Kept m (freed_at setting run s w)
+      freed_at_less s w l =
+          still_found_less s.found _ (λ s w. freed_there setting run s.value s w) w (λ s. freed_there_less s.value s w l)
 
       module _ (again : Stage → Standing → Mode → World → Out World)
           (again_less : (stage : Stage) (s : Standing) (mode : Mode) (w : World) → w.ticks ≤ m → Kept m (again stage s mode w)) (ticks : ℕ) where
@@ -295,7 +311,7 @@ module _ (m : ℕ) where
               (λ mode v k. in_mode_less mode (drop_parts setting run again ticks parts zero s mode v) _ (parts_less parts zero s mode v k) (λ mode u j. gone_less s u j))
           value_less (Box serial impl_no inside) stage s mode w l =
               in_mode_less mode _ _ (part_less (into setting.items Inside s) (drop_value setting run again ticks inside Begins) mode w l (λ s. value_less inside Begins s mode w l))
-              (λ mode u j. freed_at_less serial s u j)
+              (λ mode u j. freed_at_less s u j)
 
           parts_less : (parts : Data) (n : ℕ) (s : Standing) (mode : Mode) (w : World) → w.ticks ≤ m →
               Kept m (drop_parts setting run again ticks parts n s mode w)
@@ -424,10 +440,10 @@ same_if_same : (b : Bool) (next next' : World → Out World) (w : World) → nex
 same_if_same true next next' w e = e
 same_if_same false next next' w e = refl
 
-still_found_same : (found : Found) (o : Option Standing) (next next' : Standing → World → Out World) (w : World) → ((s : Standing) → next s w ≡ next' s w) →
-    still_found found o next w ≡ still_found found o next' w
-still_found_same found None next next' w e = refl
-still_found_same found (Some s) next next' w e = same_if_same _ (next s) (next' s) w (e s)
+still_found_same : (items : ItemTable) (found : Found) (o : Option Standing) (next next' : Standing → World → Out World) (w : World) →
+    ((s : Standing) → next s w ≡ next' s w) → still_found items found o next w ≡ still_found items found o next' w
+still_found_same items found None next next' w e = refl
+still_found_same items found (Some s) next next' w e = same_if_same _ (next s) (next' s) w (e s)
 
 module _ (setting : Setting) (run run' : Bodies) (spending : Spending run) (n : ℕ) (agree : Agree n run run') where
   thrifty_run : Thrifty run
@@ -439,29 +455,33 @@ module _ (setting : Setting) (run run' : Bodies) (spending : Spending run) (n : 
       step_same body (λ body. answered setting to (run (Event.Call body) body args w)) (λ body. answered setting to (run' (Event.Call body) body args w)) w
       (λ body. ap (answered setting to) (agree (Event.Call body) body args w l))
 
-  act_same : (action : Action) (w : World) → w.ticks ≤ n → act setting run action w ≡ act setting run' action w
-  act_same (effects.Call to body args) w l =
+  acted_same : (action : Action) (w : World) → w.ticks ≤ n → acted setting run action w ≡ acted setting run' action w
+  acted_same (effects.Call to body args) w l =
       after_taken_same n (all_taken setting args w) (called setting run to (Some body)) (called setting run' to (Some body)) w (all_taken_less n setting args w l)
       (called_same to (Some body))
-  act_same (effects.CallVirtual to trait_no method args) w l =
+  acted_same (effects.CallVirtual to trait_no method args) w l =
       after_taken_same n (all_taken setting args w) (λ values w. called setting run to (virtual_body setting trait_no method w values) values w)
       (λ values w. called setting run' to (virtual_body setting trait_no method w values) values w) w (all_taken_less n setting args w l)
       (λ values v k. called_same to (virtual_body setting trait_no method v values) values v k)
-  act_same (effects.Put to from) w l = refl
-  act_same (effects.Compare to operator left right) w l = refl
-  act_same (effects.Not to operand) w l = refl
-  act_same (effects.Build to kind parts) w l = refl
-  act_same (effects.NewBox to content) w l = refl
-  act_same (effects.Unsize to trait_no operand) w l = refl
-  act_same (effects.Borrow to unique base) w l = refl
-  act_same (effects.Touch base) w l = refl
-  act_same (effects.Print operand) w l = refl
-  act_same (effects.Forget operand) w l = refl
-  act_same (effects.Free box) w l = refl
-  act_same (effects.Compute to operator left right) w l = refl
-  act_same (effects.Negate to operand) w l = refl
-  act_same (effects.Bounds index count) w l = refl
-  act_same (effects.Ask to) w l = refl
+  acted_same (effects.Put to from) w l = refl
+  acted_same (effects.Compare to operator left right) w l = refl
+  acted_same (effects.Not to operand) w l = refl
+  acted_same (effects.Build to kind parts) w l = refl
+  acted_same (effects.NewBox to content) w l = refl
+  acted_same (effects.Unsize to trait_no operand) w l = refl
+  acted_same (effects.Borrow to unique base) w l = refl
+  acted_same (effects.Touch base) w l = refl
+  acted_same (effects.Print operand) w l = refl
+  acted_same (effects.Forget operand) w l = refl
+  acted_same (effects.Free box) w l = refl
+  acted_same (effects.Compute to operator left right) w l = refl
+  acted_same (effects.Negate to operand) w l = refl
+  acted_same (effects.Bounds index count) w l = refl
+  acted_same (effects.Ask to) w l = refl
+
+  act_same : (action : Action) (w : World) → w.ticks ≤ n → act setting run action w ≡ act setting run' action w
+  act_same action w l =
+      ap (effects.halting_if (effects.stores_where (never_at setting w) action) NoStep) (acted_same action w l)
 
   module _ (ticks : ℕ) (few : ticks ≤ n) (again again' : Stage → Standing → Mode → World → Out World)
       (again_less : (stage : Stage) (s : Standing) (mode : Mode) (w : World) → w.ticks ≤ ticks → Kept ticks (again stage s mode w))
@@ -504,7 +524,7 @@ module _ (setting : Setting) (run run' : Bodies) (spending : Spending run) (n : 
           (λ mode. gone_at setting run s) (λ mode. gone_at setting run' s)
           (parts_same parts zero s mode w l) (parts_less ticks setting run thrifty_run again again_less ticks parts zero s mode w l) (λ mode v k. refl))
       value_same (Box serial impl_no inside) stage s mode w l =
-          in_mode_same ticks mode _ _ (λ mode. freed_at setting run serial s) (λ mode. freed_at setting run' serial s)
+          in_mode_same ticks mode _ _ (λ mode. freed_at setting run s) (λ mode. freed_at setting run' s)
           (part_same (into setting.items Inside s) (drop_value setting run again ticks inside Begins) (drop_value setting run' again' ticks inside Begins) mode w l
           (λ s. value_same inside Begins s mode w l))
           (part_less ticks setting run thrifty_run again again_less ticks (into setting.items Inside s) (drop_value setting run again ticks inside Begins) mode w l
@@ -526,7 +546,7 @@ module _ (setting : Setting) (run run' : Bodies) (spending : Spending run) (n : 
   drop_at_same zero b' stage s mode w l h h' = absurd (let never : ⊥ = omega arith in never)
   drop_at_same (suc b) zero stage s mode w l h h' = absurd (let never : ⊥ = omega arith in never)
   drop_at_same (suc b) (suc b') stage s mode w l h h' =
-      still_found_same s.found _ (dropped_there setting run (drop_at setting run b) stage mode) (dropped_there setting run' (drop_at setting run' b') stage mode) w
+      still_found_same setting.items s.found _ (dropped_there setting run (drop_at setting run b) stage mode) (dropped_there setting run' (drop_at setting run' b') stage mode) w
       (λ s. value_same w.ticks l (drop_at setting run b) (drop_at setting run' b') (drop_at_less w.ticks setting run thrifty_run b)
       (λ stage s mode v k. drop_at_same b b' stage s mode v (omega arith) (omega arith) (omega arith)) s.value stage s mode w (omega arith))
 

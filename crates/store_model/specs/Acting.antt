@@ -15,10 +15,10 @@ use Rattle.store_model.specs.declared.address.At.TheVariants.{Part, Inside}
 use Rattle.store_model.specs.Data.{Datum, Data, Gone, Number, Truth, UnitValue, Aggregate, Box, Address, no_part, a_part, data_from}
 use Rattle.store_model.specs.DropAt.{Begins, drop_impl, drop_at}
 use Rattle.store_model.specs.Effects as effects
-use Rattle.store_model.specs.Effects.{Site, Operand, Kind, OfTuple, OfArray, OfVariant, OfClosure, Action, Test, Mode, Halt, NoStep, Out, Go, Unwind, Halts, Choice, Yes, No, Neither, Effects}
+use Rattle.store_model.specs.Effects.{Site, Operand, Kind, OfTuple, OfArray, OfVariant, OfClosure, Action, Test, Mode, Halt, NoStep, Out, Go, Unwind, Halts, Choice, Yes, No, Neither, Effects, halting_if}
 use Rattle.store_model.specs.NamedPlace.{place_ty}
 use Rattle.store_model.specs.Standing.{Setting, Found, As, AsObject, concrete_ty, found_part, Standing, standing_at_address, reach, on_reached, stored_at}
-use Rattle.store_model.specs.TypeForms.{adt_of, box_content, int_kind, is_dyn_of}
+use Rattle.store_model.specs.TypeForms.{adt_of, box_content, int_kind, is_dyn_of, is_never}
 use Rattle.store_model.specs.World.{World, telling, numbered_next, tick, Answer, Returns, Unwinds, HaltsIn, Bodies}
 use Rattle.store_model.specs.Wholeness.{is_whole, serials}
 
@@ -84,16 +84,13 @@ if_found (Some found) forget = forget found
 
 abbrev mutual
   pub forgotten : ItemTable → Datum → Found → List Event
-  forgotten items Gone found = []
-  forgotten items (Number number) found = []
-  forgotten items (Truth truth) found = []
-  forgotten items UnitValue found = []
   forgotten items (Aggregate variant serial parts) found =
       made_forgotten serial (drop_impl items (concrete_ty items found))
       ++ forgotten_parts items parts (λ n. found_part items (Part n) (Aggregate variant serial no_part) found) 0
   forgotten items (Box serial impl_no inside) found =
-      if_found (found_part items Inside (Box serial impl_no Gone) found) (forgotten items inside) ++ Event.ForgotBox serial ∷ []
-  forgotten items (Address address) found = []
+      if_found (found_part items Inside (Box serial impl_no Gone) found) (forgotten items inside)
+      ++ Event.ForgotBox serial ∷ []
+  forgotten items value found = []
 
   pub forgotten_parts : ItemTable → Data → (ℕ → Option Found) → ℕ → List Event
   forgotten_parts items no_part found_at n = []
@@ -126,9 +123,14 @@ made adt variant parts serial (Some of) = Aggregate variant serial (data_from pa
 
 module _ (setting : Setting) where
   -- the type that a place has by the body that runs
-  abbrev ty_of_place : World → effects.Site → Option Ty
+  abbrev pub ty_of_place : World → effects.Site → Option Ty
   ty_of_place w site =
-      option_and_then (type_at setting.items) (place_ty setting.items (λ local. option_and_then (λ body. setting.local_ty body local) (body_of_youngest w)) site.place)
+      option_and_then (type_at setting.items)
+      (place_ty setting.items
+      (λ local. option_and_then (λ body. setting.local_ty body local) (body_of_youngest w)) site.place)
+
+  abbrev pub never_at : World → effects.Site → Bool
+  never_at w site = is_never (ty_of_place w site)
 
   abbrev ty_of_operand : World → Operand → Option Ty
   ty_of_operand w (effects.Copied site) = ty_of_place w site
@@ -154,7 +156,8 @@ module _ (setting : Setting) where
   abbrev pub all_taken : List Operand → World → Option (List Datum × World)
   all_taken [] w = Some ([], w)
   all_taken (operand ∷ operands) w =
-      option_and_then (λ one. option_map_or (λ rest. Some (one.0 ∷ rest.0, rest.1)) (all_taken operands one.1) None) (taken operand w)
+      option_and_then (λ one. option_map_or (λ rest. Some (one.0 ∷ rest.0, rest.1)) (all_taken operands one.1) None)
+      (taken operand w)
 
   abbrev pub taking : Operand → World → (Datum → World → Out World) → Out World
   taking operand w next = or_no_step (taken operand w) (λ t. next t.0 t.1) w
@@ -167,7 +170,8 @@ module _ (setting : Setting) where
 
   -- a value is stored, whatever stood at its place
   abbrev pub put : Site → Datum → World → Out World
-  put to value w = on_reached (reach setting w to.place) (λ s. Go (stored_at s.address value w)) (Halts NoStep w) (Halts NoStep w)
+  put to value w =
+      on_reached (reach setting w to.place) (λ s. Go (stored_at s.address value w)) (Halts NoStep w) (Halts NoStep w)
 
   abbrev pub put_if : Site → Option Datum → World → Out World
   put_if to value w = or_no_step value (λ v. put to v w) w
@@ -194,14 +198,16 @@ module _ (setting : Setting) where
   built to OfArray parts w = put to (Aggregate 0 None (data_from parts)) w
   built to (OfClosure closure) parts w = put to (Aggregate 0 None (data_from parts)) w
   built to (OfVariant adt variant) parts w =
-      made_event adt to (made adt variant parts (Some w.serial) (drop_impl setting.items (Some (Ty.Adt adt)))) (drop_impl setting.items (Some (Ty.Adt adt))) w
+      made_event adt to (made adt variant parts (Some w.serial) (drop_impl setting.items (Some (Ty.Adt adt))))
+      (drop_impl setting.items (Some (Ty.Adt adt))) w
 
   abbrev pub boxed : Site → Datum → World → Out World
   boxed to content w = told (Event.Boxed w.serial) (put to (Box w.serial None content) (numbered_next w))
 
   abbrev impl_boxed : ℕ → World → Operand → Option ℕ
   impl_boxed trait_no w operand =
-      option_and_then (impl_of setting.items trait_no) (adt_of (option_and_then (type_at setting.items) (box_content (ty_of_operand w operand))))
+      option_and_then (impl_of setting.items trait_no)
+      (adt_of (option_and_then (type_at setting.items) (box_content (ty_of_operand w operand))))
 
   abbrev pub printed : Datum → World → Out World
   printed (Number number) w = Go (telling (Event.Printed number) w)
@@ -221,7 +227,8 @@ module _ (setting : Setting) where
 
   -- a box is freed alone, where no numbered value is left in it
   abbrev pub freed : Standing → Datum → World → Out World
-  freed s (Box serial impl_no inside) w = if_nothing_numbered (serials inside) (Go (telling (Event.Freed serial) (stored_at s.address Gone w))) w
+  freed s (Box serial impl_no inside) w =
+      if_nothing_numbered (serials inside) (Go (telling (Event.Freed serial) (stored_at s.address Gone w))) w
   freed s value w = Halts NoStep w
 
   abbrev pub put_computed : Site → Computed → World → Out World
@@ -255,7 +262,8 @@ module _ (setting : Setting) where
   abbrev object_body : ℕ → ℕ → Found → Option ℕ
   object_body trait_no method (As id) = None
   object_body trait_no method (AsObject id impl_no) =
-      option_and_then (λ body. if_so (is_dyn_of trait_no (type_at setting.items id)) body) (row_body setting.items method impl_no)
+      option_and_then (λ body. if_so (is_dyn_of trait_no (type_at setting.items id)) body)
+      (row_body setting.items method impl_no)
 
   -- the body of a trait's method, by the impl of the trait object that the first argument names
   abbrev pub virtual_body : ℕ → ℕ → World → List Datum → Option ℕ
@@ -283,7 +291,8 @@ module _ (setting : Setting) where
   abbrev pub choose : Test → World → Choice World
   choose (effects.IsTrue operand) w = chosen_truth (taken operand w) w
   choose (effects.HasVariant site variant) w =
-      on_reached (reach setting w site.place) (λ s. variant_tested variant s.value w) (Neither NoStep w) (Neither NoStep w)
+      on_reached (reach setting w site.place) (λ s. variant_tested variant s.value w) (Neither NoStep w)
+      (Neither NoStep w)
 
   abbrev impl_put : Site → Option ℕ → Datum → World → Out World
   impl_put to impl_no value w = put_if to (option_and_then (λ n. with_impl n value) impl_no) w
@@ -292,27 +301,34 @@ module _ (setting : Setting) where
     abbrev pub called : Site → Option ℕ → List Datum → World → Out World
     called to body args w = or_no_step body (λ body. answered to (run (Event.Call body) body args w)) w
 
-    abbrev pub act : Action → World → Out World
-    act (effects.Put to from) w = taking from w (put to)
-    act (effects.Compare to operator left right) w =
+    abbrev pub acted : Action → World → Out World
+    acted (effects.Put to from) w = taking from w (put to)
+    acted (effects.Compare to operator left right) w =
         taking_two left right w (λ a b. put_if to (option_map_or (λ t. Some (Truth t)) (compared operator a b) None))
-    act (effects.Not to operand) w = taking operand w (λ v. put_if to (negated v))
-    act (effects.Build to kind parts) w = taking_all parts w (built to kind)
-    act (effects.NewBox to content) w = taking content w (boxed to)
-    act (effects.Unsize to trait_no operand) w = taking operand w (impl_put to (impl_boxed trait_no w operand))
-    act (effects.Borrow to unique base) w = or_no_step (used w base) (λ s. put to (Address s.address) w) w
-    act (effects.Touch base) w = or_no_step (used w base) (λ s. Go w) w
-    act (effects.Print operand) w = taking operand w printed
-    act (effects.Forget operand) w =
-        taking operand w (λ v w'. Go (told_all (option_map_or (forgotten setting.items v) (operand_found w operand) []) w'))
-    act (effects.Free box) w = on_reached (reach setting w box.place) (λ s. freed s s.value w) (Halts NoStep w) (Halts NoStep w)
-    act (effects.Compute to operator left right) w = taking_two left right w (compute to operator (int_kind (ty_of_operand w left)))
-    act (effects.Negate to operand) w = taking operand w (negate to (int_kind (ty_of_operand w operand)))
-    act (effects.Bounds index length) w = taking index w (bounded length)
-    act (effects.Call to body args) w = taking_all args w (called to (Some body))
-    act (effects.CallVirtual to trait_no method args) w =
+    acted (effects.Not to operand) w = taking operand w (λ v. put_if to (negated v))
+    acted (effects.Build to kind parts) w = taking_all parts w (built to kind)
+    acted (effects.NewBox to content) w = taking content w (boxed to)
+    acted (effects.Unsize to trait_no operand) w = taking operand w (impl_put to (impl_boxed trait_no w operand))
+    acted (effects.Borrow to unique base) w = or_no_step (used w base) (λ s. put to (Address s.address) w) w
+    acted (effects.Touch base) w = or_no_step (used w base) (λ s. Go w) w
+    acted (effects.Print operand) w = taking operand w printed
+    acted (effects.Forget operand) w =
+        taking operand w
+        (λ v w'. Go (told_all (option_map_or (forgotten setting.items v) (operand_found w operand) []) w'))
+    acted (effects.Free box) w =
+        on_reached (reach setting w box.place) (λ s. freed s s.value w) (Halts NoStep w) (Halts NoStep w)
+    acted (effects.Compute to operator left right) w =
+        taking_two left right w (compute to operator (int_kind (ty_of_operand w left)))
+    acted (effects.Negate to operand) w = taking operand w (negate to (int_kind (ty_of_operand w operand)))
+    acted (effects.Bounds index length) w = taking index w (bounded length)
+    acted (effects.Call to body args) w = taking_all args w (called to (Some body))
+    acted (effects.CallVirtual to trait_no method args) w =
         taking_all args w (λ values w. called to (virtual_body trait_no method w values) values w)
-    act (effects.Ask to) w = asked to w.asked w
+    acted (effects.Ask to) w = asked to w.asked w
+
+    -- no value of the type `!` is ever made, so none is stored
+    abbrev pub act : Action → World → Out World
+    act action w = halting_if (effects.stores_where (never_at w) action) NoStep (acted action w)
 
     -- the result of a body is whole
     abbrev pub give : Site → World → Out World
@@ -330,7 +346,8 @@ module _ (setting : Setting) where
     -- the bound is greater than the ticks that are left
     abbrev pub drop : ℕ → Mode → Site → World → Out World
     drop bound mode site w =
-        on_reached (reach setting w site.place) (λ s. dropped_if bound (not setting.strict || is_whole s.value) mode s w)
+        on_reached (reach setting w site.place)
+        (λ s. dropped_if bound (not setting.strict || is_whole s.value) mode s w)
         (nothing_if setting.strict w) (Halts NoStep w)
 
     abbrev pub on_values : ℕ → Effects World

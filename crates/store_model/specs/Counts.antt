@@ -30,4 +30,5 @@ count_left rest = node_count (datum_of rest.0) + count_waiting rest.1
 -- fewer values are left than before, or as many, and the next one has fewer at and below it
 abbrev pub IsNearerEnd : ℕ → Option (List Value) → Value × Option (List Value) → Type 0
 IsNearerEnd count waiting rest =
-    (count_left rest < count + count_waiting waiting) ⊎ ((count_left rest ≡ count + count_waiting waiting) × (node_count (datum_of rest.0) < count))
+    (count_left rest < count + count_waiting waiting) ⊎
+    ((count_left rest ≡ count + count_waiting waiting) × (node_count (datum_of rest.0) < count))

@@ -10,7 +10,9 @@ use Rattle.mir_ty.specs.ItemTable.{ItemTable}
 use Rattle.store_model.specs.declared.address.At.TheVariants.{Part, Inside}
 use Rattle.store_model.specs.Data.{Datum, Data, Gone, Number, Truth, UnitValue, Aggregate, Box, Address, no_part, a_part}
 use Rattle.store_model.specs.Effects.{Mode, Calm, Unwinding, Aborted, OutOfTicks, NoStep, Out, Go, Unwind, Halts}
-use Rattle.store_model.specs.Standing.{Setting, Found, As, AsObject, concrete_ty, Standing, into, standing_at_address, stored_at}
+use Rattle.store_model.specs.Standing.{Setting, Found, As, AsObject, adt_of_impl, concrete_ty, is_found_as}
+use Rattle.store_model.specs.Standing.{Standing, into, standing_at_address, stored_at}
+use Rattle.store_model.specs.TypeForms.{is_adt}
 use Rattle.store_model.specs.World.{World, telling, Answer, Returns, Unwinds, HaltsIn, Bodies}
 
 -- how a `Drop` body ends in a mode
@@ -37,26 +39,29 @@ with_drop_body n None = None
 with_drop_body n (Some body) = Some (n, body)
 
 abbrev pub drop_impl : ItemTable → Option Ty → Option (ℕ × ℕ)
-drop_impl items (Some (Ty.Adt n)) = with_drop_body n (option_map_or (λ adt. adt.drop_body) (slice_get items.adts n) None)
+drop_impl items (Some (Ty.Adt n)) =
+    with_drop_body n (option_map_or (λ adt. adt.drop_body) (slice_get items.adts n) None)
 drop_impl items _ = None
 
 abbrev serial_or_none : Option ℕ → ℕ
 serial_or_none None = 0
 serial_or_none (Some serial) = serial
 
-abbrev same_found : Found → Found → Bool
-same_found (As a) (As b) = a.0 == b.0
-same_found (As a) (AsObject b n) = false
-same_found (AsObject a m) (As b) = false
-same_found (AsObject a m) (AsObject b n) = m == n
+-- A place has not lost what was found there while it is found as that type, as for references; a trait object, as the
+-- concrete type of its impl. It need not be found in the same way.
+abbrev still_of : ItemTable → Found → Found → Bool
+still_of items (As id) now = is_found_as items id now
+still_of items (AsObject id impl_no) now =
+    option_map_or (λ n. is_adt n (concrete_ty items now)) (adt_of_impl items impl_no) false
 
 abbrev pub same_if : Bool → (World → Out World) → World → Out World
 same_if true next w = next w
 same_if false next w = Halts NoStep w
 
-abbrev pub still_found : Found → Option Standing → (Standing → World → Out World) → World → Out World
-still_found found None next w = Halts NoStep w
-still_found found (Some s) next w = same_if (same_found found s.found) (next s) w
+abbrev pub still_found :
+    ItemTable → Found → Option Standing → (Standing → World → Out World) → World → Out World
+still_found items found None next w = Halts NoStep w
+still_found items found (Some s) next w = same_if (still_of items found s.found) (next s) w
 
 -- whether the `Drop` body of a value is still to run, or has run
 pub data Stage : Type 0 where
@@ -66,13 +71,18 @@ pub data Stage : Type 0 where
 module _ (setting : Setting) (run : Bodies) where
   -- an address that has not lost its place: what stands there is still of the type that was found before
   abbrev still : Standing → (Standing → World → Out World) → World → Out World
-  still s next w = still_found s.found (standing_at_address setting w s.address) next w
+  still s next w = still_found setting.items s.found (standing_at_address setting w s.address) next w
 
   abbrev pub gone_at : Standing → World → Out World
   gone_at s w = still s (λ s w. Go (stored_at s.address Gone w)) w
 
-  abbrev pub freed_at : ℕ → Standing → World → Out World
-  freed_at serial s w = still s (λ s w. Go (telling (Event.Freed serial) (stored_at s.address Gone w))) w
+  -- the box that stands there then is freed: a `Drop` body run meanwhile may have stored another
+  abbrev pub freed_there : Datum → Standing → World → Out World
+  freed_there (Box serial impl_no inside) s w = Go (telling (Event.Freed serial) (stored_at s.address Gone w))
+  freed_there value s w = Halts NoStep w
+
+  abbrev pub freed_at : Standing → World → Out World
+  freed_at s w = still s (λ s w. freed_there s.value s w) w
 
   -- what stands at an address, where the value there was read when so many ticks were left: since then a `Drop` body
   -- may have run, and then it is read again
@@ -86,10 +96,13 @@ module _ (setting : Setting) (run : Bodies) where
     if_part (Some s) drop mode w = as_read (w.ticks == ticks) drop s mode w
 
     -- the `Drop` body runs, and the value goes on to its parts as they stand then
-    abbrev pub with_body : Option (ℕ × ℕ) → Option ℕ → Standing → (Mode → World → Out World) → Mode → World → Out World
+    abbrev pub with_body :
+        Option (ℕ × ℕ) → Option ℕ → Standing → (Mode → World → Out World) → Mode → World → Out World
     with_body None serial s parts mode w = parts mode w
     with_body (Some of) serial s parts mode w =
-        in_mode mode (drop_body_out mode (run (Event.Dropped of.0 (serial_or_none serial)) of.1 (Address s.address ∷ []) w)) (again HasRun s)
+        in_mode mode
+        (drop_body_out mode (run (Event.Dropped of.0 (serial_or_none serial)) of.1 (Address s.address ∷ []) w))
+        (again HasRun s)
 
     abbrev pub own_body : Stage → Option (ℕ × ℕ) → Option (ℕ × ℕ)
     own_body Begins of = of
@@ -106,13 +119,14 @@ module _ (setting : Setting) (run : Bodies) where
           with_body (own_body stage (drop_impl setting.items (concrete_ty setting.items s.found))) serial s
           (λ mode w. in_mode mode (drop_parts parts 0 s mode w) (λ mode. gone_at s)) mode w
       drop_value (Box serial impl_no inside) stage s mode w =
-          in_mode mode (if_part (into setting.items Inside s) (drop_value inside Begins) mode w) (λ mode. freed_at serial s)
+          in_mode mode (if_part (into setting.items Inside s) (drop_value inside Begins) mode w) (λ mode. freed_at s)
 
       -- the parts from a number on, in order
       pub drop_parts : Data → ℕ → Standing → Mode → World → Out World
       drop_parts no_part n s mode w = Go w
       drop_parts (a_part first rest) n s mode w =
-          in_mode mode (if_part (into setting.items (Part n) s) (drop_value first Begins) mode w) (drop_parts rest (suc n) s)
+          in_mode mode (if_part (into setting.items (Part n) s) (drop_value first Begins) mode w)
+          (drop_parts rest (suc n) s)
 
   abbrev pub dropped_there : (Stage → Standing → Mode → World → Out World) → Stage → Mode → Standing → World → Out World
   dropped_there again stage mode s w = drop_value again w.ticks s.value stage s mode w

@@ -1,7 +1,8 @@
 -- What one statement, operand or terminator does to what a run holds (the rustc development guide, "The MIR"). The
 -- evaluation rules of the source and the steps of a graph are stated over these effects, so that one proof joins them,
 -- whatever the effects are: those on values (`Acting`), or those on what is present and gone (`Free`).
-use Rattle.std.specs.Prelude.{ℕ, ℤ, Bool, List}
+use Rattle.std.specs.Prelude.{◌≡◌, ℕ, ℤ, Bool, true, false, List, Option, Some, None}
+use Rattle.std.specs.Option.{option_map_or}
 use Rattle.mir_base.specs.declared.int_kind.IntKind.{IntKind}
 use Rattle.mir_base.specs.declared.operator.Cmp.{Cmp}
 use Rattle.mir_base.specs.declared.operator.Math.{Math}
@@ -45,6 +46,30 @@ pub data Action : Type 0 where
   Call : (to : Site) (body : ℕ) (args : List Operand) → Action
   CallVirtual : (to : Site) (trait_no method : ℕ) (args : List Operand) → Action
   Ask : (to : Site) → Action
+
+-- the place into which an action stores, if it stores
+abbrev pub stored_by : Action → Option Site
+stored_by (Put to from) = Some to
+stored_by (Compare to operator left right) = Some to
+stored_by (Not to operand) = Some to
+stored_by (Build to kind parts) = Some to
+stored_by (NewBox to content) = Some to
+stored_by (Unsize to trait_no operand) = Some to
+stored_by (Borrow to unique base) = Some to
+stored_by (Touch base) = None
+stored_by (Print operand) = None
+stored_by (Forget operand) = None
+stored_by (Free box) = None
+stored_by (Compute to operator left right) = Some to
+stored_by (Negate to operand) = Some to
+stored_by (Bounds index length) = None
+stored_by (Call to body args) = Some to
+stored_by (CallVirtual to trait_no method args) = Some to
+stored_by (Ask to) = Some to
+
+-- it stores into a place of which something holds
+abbrev pub stores_where : (Site → Bool) → Action → Bool
+stores_where holds action = option_map_or holds (stored_by action) false
 
 pub data Test : Type 0 where
   IsTrue : (operand : Operand) → Test
@@ -99,3 +124,19 @@ abbrev pub aborting : {W : Type 0} → Out W → (W → Out W) → Out W
 aborting (Go w) next = next w
 aborting (Unwind w) next = Halts Aborted w
 aborting (Halts halt w) next = Halts halt w
+
+-- where something holds, what would go on halts
+abbrev pub halting_if : {W : Type 0} → Bool → Halt → Out W → Out W
+halting_if true halt (Go w) = Halts halt w
+halting_if true halt out = out
+halting_if false halt out = out
+
+abbrev pub DoesNotGoOn : {W : Type 0} → Out W → Type 0
+DoesNotGoOn (Go w) = ⊥
+DoesNotGoOn (Unwind w) = Unit {0}
+DoesNotGoOn (Halts halt w) = Unit {0}
+
+-- no action that stores into a place of the type `!` goes on
+abbrev pub StoresNoNever : {W : Type 0} → (W → Site → Bool) → Effects W → Type 0
+StoresNoNever {W} never_at p =
+    (action : Action) (w : W) → stores_where (never_at w) action ≡ true → DoesNotGoOn (p.act action w)

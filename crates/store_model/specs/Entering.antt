@@ -19,7 +19,8 @@ cells_of_youngest (a ∷ older) = a.cells
 
 -- a body ends: it returns the value of its result, or it unwinds; its line is the last
 abbrev pub ended : ℕ → ℕ → Out World → Answer
-ended body answer (Go w) = Returns (cell answer (cells_of_youngest w.activations)) (telling (Event.Return body) (left w))
+ended body answer (Go w) =
+    Returns (cell answer (cells_of_youngest w.activations)) (telling (Event.Return body) (left w))
 ended body answer (Unwind w) = Unwinds (telling (Event.Unwind body) (left w))
 ended body answer (Halts halt w) = HaltsIn halt w
 
@@ -50,12 +51,7 @@ abbrev end_of_halt : Halt → End
 end_of_halt Aborted = End.Aborted
 end_of_halt OutOfTicks = End.OutOfTicks
 end_of_halt (StuckAt body block) = End.Stuck body block
-end_of_halt NoStep = End.Stuck 0 0
-end_of_halt (BadUse site) = End.Stuck 0 0
-end_of_halt (BadStore site) = End.Stuck 0 0
-end_of_halt NoItem = End.Stuck 0 0
-end_of_halt NoRun = End.Stuck 0 0
-end_of_halt PastTheEnd = End.Stuck 0 0
+end_of_halt halt = End.Stuck 0 0
 
 -- what a run tells: its trace and its end
 abbrev pub told_by : Answer → Trace × End
@@ -69,4 +65,5 @@ main_of items = option_map_or (λ n. n) (position (λ sig. pointwise nat_eq sig.
 
 -- `main` is called with these numbers to be asked and so many ticks
 abbrev pub run_of : Setting → Code → ℕ → List ℤ → ℕ → Trace × End
-run_of setting code main asked ticks = told_by (run_body setting code (suc ticks) (Event.Call main) main [] (beginning asked ticks))
+run_of setting code main asked ticks =
+    told_by (run_body setting code (suc ticks) (Event.Call main) main [] (beginning asked ticks))

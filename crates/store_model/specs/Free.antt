@@ -7,7 +7,7 @@ use Rattle.mir_ty.specs.declared.ty.TyId.{TyId}
 use Rattle.mir_ty.specs.Facts.{needs_drop}
 use Rattle.mir_ty.specs.ItemTable.{ItemTable, type_at}
 use Rattle.store_model.specs.Effects as effects
-use Rattle.store_model.specs.Effects.{Site, Operand, Action, Test, Mode, Calm, Unwinding, Halt, Aborted, BadUse, BadStore, NoItem, NoRun, PastTheEnd, Out, Go, Unwind, Halts, Choice, Yes, No, Neither, Effects}
+use Rattle.store_model.specs.Effects.{Site, Operand, Action, Test, Mode, Calm, Unwinding, Halt, Aborted, BadUse, BadStore, NoItem, NoRun, PastTheEnd, Out, Go, Unwind, Halts, Choice, Yes, No, Neither, Effects, halting_if}
 use Rattle.store_model.specs.NamedPlace.{place_ty, Watched, Whole, ThroughReference, ByElement, watched}
 use Rattle.store_model.specs.Presence.{Presence, is_present, is_gone, after_action, containers_present, is_whole_at, is_there_at}
 use Rattle.store_model.specs.TypeForms.{is_never}
@@ -23,22 +23,35 @@ presence key (c ∷ cells) = if key == c.0 then c.1 else presence key cells
 
 abbrev pub with_presence : ℕ → (Presence → Presence) → List (ℕ × Presence) → List (ℕ × Presence)
 with_presence key change [] = (key, change is_gone) ∷ []
-with_presence key change (c ∷ cells) = if key == c.0 then (key, change c.1) ∷ cells else c ∷ with_presence key change cells
+with_presence key change (c ∷ cells) =
+    if key == c.0 then (key, change c.1) ∷ cells else c ∷ with_presence key change cells
 
 -- Whether a place may be used: what is behind a reference is not watched, and an element that a local names is
 -- watched as its whole array.
 
 -- copied, moved, borrowed or read as a whole: no place at or below it is gone, and no container of it
 abbrev pub may_use : Watched → Presence → Bool
-may_use w p = elim w.reach [ Whole ↦ is_whole_at w.steps p | ThroughReference ↦ is_there_at w.steps p | ByElement ↦ is_whole_at w.steps p ]
+may_use w p = elim w.reach [
+  Whole ↦ is_whole_at w.steps p
+  | ThroughReference ↦ is_there_at w.steps p
+  | ByElement ↦ is_whole_at w.steps p
+]
 
 -- tested: neither the place itself is gone nor a container of it
 abbrev pub may_test : Watched → Presence → Bool
-may_test w p = elim w.reach [ Whole ↦ is_there_at w.steps p | ThroughReference ↦ is_there_at w.steps p | ByElement ↦ is_whole_at w.steps p ]
+may_test w p = elim w.reach [
+  Whole ↦ is_there_at w.steps p
+  | ThroughReference ↦ is_there_at w.steps p
+  | ByElement ↦ is_whole_at w.steps p
+]
 
 -- stored into or dropped: no container of the place is gone
 abbrev pub may_store : Watched → Presence → Bool
-may_store w p = elim w.reach [ Whole ↦ containers_present w.steps p | ThroughReference ↦ is_there_at w.steps p | ByElement ↦ is_whole_at w.steps p ]
+may_store w p = elim w.reach [
+  Whole ↦ containers_present w.steps p
+  | ThroughReference ↦ is_there_at w.steps p
+  | ByElement ↦ is_whole_at w.steps p
+]
 
 -- what is done behind a reference, or at an element that a local names, counts for no place
 abbrev acted : Bool → Watched → Presence → Presence
@@ -94,9 +107,7 @@ module _ (table : ItemTable) (local_ty : ℕ → Option TyId) where
   abbrev pub operand_used : Operand → Free → Out Free
   operand_used (effects.Copied site) w = using site (unless_never (never_at site)) w
   operand_used (effects.Moved site) w = using site (λ w. Go (after true site w)) w
-  operand_used (effects.Number value kind) w = Go w
-  operand_used (effects.Truth value) w = Go w
-  operand_used effects.UnitValue w = Go w
+  operand_used value w = Go w
 
   abbrev pub operands_used : List Operand → (Free → Out Free) → Free → Out Free
   operands_used [] next w = next w
@@ -112,24 +123,28 @@ module _ (table : ItemTable) (local_ty : ℕ → Option TyId) where
   abbrev pub computed_by_item : Site → Free → Out Free
   computed_by_item to w = panics_by_item w (store to)
 
+  abbrev pub acted_on : Action → Free → Out Free
+  acted_on (effects.Put to from) w = operands_used (from ∷ []) (store to) w
+  acted_on (effects.Compare to operator left right) w = operands_used (left ∷ right ∷ []) (store to) w
+  acted_on (effects.Not to operand) w = operands_used (operand ∷ []) (store to) w
+  acted_on (effects.Build to kind parts) w = operands_used parts (store to) w
+  acted_on (effects.NewBox to content) w = operands_used (content ∷ []) (store to) w
+  acted_on (effects.Unsize to trait_no operand) w = operands_used (operand ∷ []) (store to) w
+  acted_on (effects.Borrow to unique base) w = using base (store to) w
+  acted_on (effects.Touch base) w = using base Go w
+  acted_on (effects.Print operand) w = operands_used (operand ∷ []) Go w
+  acted_on (effects.Forget operand) w = operands_used (operand ∷ []) Go w
+  acted_on (effects.Free box) w = Go (after true box w)
+  acted_on (effects.Compute to operator left right) w = operands_used (left ∷ right ∷ []) (computed_by_item to) w
+  acted_on (effects.Negate to operand) w = operands_used (operand ∷ []) (computed_by_item to) w
+  acted_on (effects.Bounds index length) w = operands_used (index ∷ []) (λ w. panics_by_item w Go) w
+  acted_on (effects.Call to body args) w = operands_used args (returns_by_item to) w
+  acted_on (effects.CallVirtual to trait_no method args) w = operands_used args (returns_by_item to) w
+  acted_on (effects.Ask to) w = computed_by_item to w
+
+  -- nor is there one past a store of it
   abbrev pub act : Action → Free → Out Free
-  act (effects.Put to from) w = operands_used (from ∷ []) (store to) w
-  act (effects.Compare to operator left right) w = operands_used (left ∷ right ∷ []) (store to) w
-  act (effects.Not to operand) w = operands_used (operand ∷ []) (store to) w
-  act (effects.Build to kind parts) w = operands_used parts (store to) w
-  act (effects.NewBox to content) w = operands_used (content ∷ []) (store to) w
-  act (effects.Unsize to trait_no operand) w = operands_used (operand ∷ []) (store to) w
-  act (effects.Borrow to unique base) w = using base (store to) w
-  act (effects.Touch base) w = using base Go w
-  act (effects.Print operand) w = operands_used (operand ∷ []) Go w
-  act (effects.Forget operand) w = operands_used (operand ∷ []) Go w
-  act (effects.Free box) w = Go (after true box w)
-  act (effects.Compute to operator left right) w = operands_used (left ∷ right ∷ []) (computed_by_item to) w
-  act (effects.Negate to operand) w = operands_used (operand ∷ []) (computed_by_item to) w
-  act (effects.Bounds index length) w = operands_used (index ∷ []) (λ w. panics_by_item w Go) w
-  act (effects.Call to body args) w = operands_used args (returns_by_item to) w
-  act (effects.CallVirtual to trait_no method args) w = operands_used args (returns_by_item to) w
-  act (effects.Ask to) w = computed_by_item to w
+  act action w = halting_if (effects.stores_where never_at action) PastTheEnd (acted_on action w)
 
   abbrev pub choose : Test → Free → Choice Free
   choose (effects.IsTrue operand) w = choice_after (operand_used operand w)
@@ -147,14 +162,16 @@ module _ (table : ItemTable) (local_ty : ℕ → Option TyId) where
 
   abbrev pub drop : Mode → Site → Free → Out Free
   drop mode site w =
-      when (may_store (watched_at site) (presence_of site w)) (BadStore site) (dropped (option_map_or (needs_drop table) (ty_at site) false) mode site) w
+      when (may_store (watched_at site) (presence_of site w)) (BadStore site)
+      (dropped (option_map_or (needs_drop table) (ty_at site) false) mode site) w
 
   -- a turn of a loop always takes the item 0
   abbrev pub tick : Free → Out Free
   tick w = item w.items w Go (Halts NoRun)
 
   abbrev pub on_presence : Effects Free
-  on_presence = record { act = act; choose = choose; drop = drop; panic = λ why w. w; tick = tick; give = λ site w. Go w }
+  on_presence =
+      record { act = act; choose = choose; drop = drop; panic = λ why w. w; tick = tick; give = λ site w. Go w }
 
 abbrev pub params_present : List ℕ → List (ℕ × Presence)
 params_present [] = []

@@ -1,17 +1,26 @@
--- The laws of places, of whole values and of serial numbers, which later proofs stand on.
-use Rattle.std.specs.Prelude.{◌≡◌, ◌↔◌, ◌⊎◌, ℕ, List, [], ◌∷◌, ◌++◌, Some, None, IsSome, IsTrue, Contains}
+-- The laws of places, of whole values, of serial numbers and of effects, which later proofs stand on.
+use Rattle.std.specs.Prelude.{◌≡◌, ◌↔◌, ◌⊎◌, ℕ, List, [], ◌∷◌, ◌++◌, Option, Some, None, IsSome, IsTrue, Contains}
 use Rattle.std.specs.Option.{option_and_then, option_map_or}
 use Rattle.std.specs.List.{flat_map}
 use Rattle.std.specs.List.Sorted.{IsPermutation}
 use Rattle.store_model.specs.declared.address.At.{At}
+use Rattle.mir_ty.specs.declared.ty.TyId.{TyId}
+use Rattle.mir_ty.specs.ItemTable.{ItemTable}
+use Rattle.store_model.specs.Acting as values
 use Rattle.store_model.specs.Data.{Datum, Gone}
 use Rattle.store_model.specs.Dropping.{steps_to_parts}
+use Rattle.store_model.specs.Effects.{StoresNoNever}
+use Rattle.store_model.specs.Free as free
 use Rattle.store_model.specs.Places.{part, standing_at, replaced, IsCutOff, AreApart}
+use Rattle.store_model.specs.Standing.{Setting}
 use Rattle.store_model.specs.Wholeness.{IsWhole, is_whole, IsNumbered, serials, serial_before_parts, serial_after_parts}
+use Rattle.store_model.specs.World.{Bodies}
 
 -- a path may be walked in two pieces
 abbrev pub StandsAlong : Type 0
-StandsAlong = (above below : List At) (root : Datum) → standing_at (above ++ below) root ≡ option_and_then (standing_at below) (standing_at above root)
+StandsAlong =
+    (above below : List At) (root : Datum) →
+    standing_at (above ++ below) root ≡ option_and_then (standing_at below) (standing_at above root)
 
 -- nothing stands at a path exactly where a container on it is gone or has no such part
 abbrev pub StandsUnlessCutOff : Type 0
@@ -28,7 +37,9 @@ KeepsWithoutPlace = (path : List At) (new root : Datum) → standing_at path roo
 
 -- what was put stands at its place
 abbrev pub StandsAtPlace : Type 0
-StandsAtPlace = (path : List At) (new root old : Datum) → standing_at path root ≡ Some old → standing_at path (replaced path new root) ≡ Some new
+StandsAtPlace =
+    (path : List At) (new root old : Datum) → standing_at path root ≡ Some old →
+    standing_at path (replaced path new root) ≡ Some new
 
 -- below the place stand the parts of what was put
 abbrev pub StandsBelow : Type 0
@@ -42,19 +53,27 @@ StandsAbove = (path below : List At) (new root old : Datum) → standing_at path
 
 -- apart from the place everything stands as before
 abbrev pub StandsApart : Type 0
-StandsApart = (path other : List At) (new root : Datum) → AreApart path other → standing_at other (replaced path new root) ≡ standing_at other root
+StandsApart =
+    (path other : List At) (new root : Datum) → AreApart path other →
+    standing_at other (replaced path new root) ≡ standing_at other root
 
 -- below a place that is gone nothing stands
 abbrev pub NothingBelowGone : Type 0
-NothingBelowGone = (path below : List At) (step : At) (root : Datum) → standing_at path root ≡ Some Gone → standing_at (path ++ step ∷ below) root ≡ None
+NothingBelowGone =
+    (path below : List At) (step : At) (root : Datum) → standing_at path root ≡ Some Gone →
+    standing_at (path ++ step ∷ below) root ≡ None
 
 -- of two values put in one place the later stays
 abbrev pub LaterStays : Type 0
-LaterStays = (path : List At) (new later root : Datum) → replaced path later (replaced path new root) ≡ replaced path later root
+LaterStays =
+    (path : List At) (new later root : Datum) →
+    replaced path later (replaced path new root) ≡ replaced path later root
 
 -- what is put in a container does away with what was put in a part of it
 abbrev pub ContainerStays : Type 0
-ContainerStays = (path below : List At) (new later root : Datum) → replaced path later (replaced (path ++ below) new root) ≡ replaced path later root
+ContainerStays =
+    (path below : List At) (new later root : Datum) →
+    replaced path later (replaced (path ++ below) new root) ≡ replaced path later root
 
 -- what stands in a place, put there again, changes nothing
 abbrev pub KeepsWhatStood : Type 0
@@ -62,7 +81,9 @@ KeepsWhatStood = (path : List At) (root old : Datum) → standing_at path root �
 
 -- what was taken or replaced, put back, gives the value as it was
 abbrev pub GivesBack : Type 0
-GivesBack = (path : List At) (new root old : Datum) → standing_at path root ≡ Some old → replaced path old (replaced path new root) ≡ root
+GivesBack =
+    (path : List At) (new root old : Datum) → standing_at path root ≡ Some old →
+    replaced path old (replaced path new root) ≡ root
 
 -- to put a value below a place is to change what stands there
 abbrev pub ChangesWithin : Type 0
@@ -92,12 +113,14 @@ WholeWithWhole = (path : List At) (new root : Datum) → IsWhole root → IsWhol
 
 -- a value from which something was taken is not whole
 abbrev pub NotWholeWhereTaken : Type 0
-NotWholeWhereTaken = (path : List At) (root old : Datum) → standing_at path root ≡ Some old → IsWhole (replaced path Gone root) → ⊥
+NotWholeWhereTaken =
+    (path : List At) (root old : Datum) → standing_at path root ≡ Some old → IsWhole (replaced path Gone root) → ⊥
 
 -- a place keeps its part of the serial numbers in dropping order, whatever is put there
 abbrev pub SerialsSplit : Type 0
 SerialsSplit = (path : List At) (root old : Datum) → standing_at path root ≡ Some old →
-    (before : List ℕ) × (after : List ℕ) × (serials root ≡ before ++ serials old ++ after) × ((new : Datum) → serials (replaced path new root) ≡ before ++ serials new ++ after)
+    (before : List ℕ) × (after : List ℕ) × (serials root ≡ before ++ serials old ++ after) ×
+    ((new : Datum) → serials (replaced path new root) ≡ before ++ serials new ++ after)
 
 -- a value that is put in the place of another brings its serial numbers and takes away the other's
 abbrev pub SerialsExchange : Type 0
@@ -111,13 +134,27 @@ SerialsTaken = (path : List At) (root old : Datum) → standing_at path root ≡
 
 -- a value is numbered exactly where it has a serial number of its own, and it has no more than one
 abbrev pub NumberedBySerial : Type 0
-NumberedBySerial = (root : Datum) → IsNumbered root ↔ ((serial : ℕ) × (serial_before_parts root ++ serial_after_parts root ≡ serial ∷ []))
+NumberedBySerial =
+    (root : Datum) → IsNumbered root ↔
+    ((serial : ℕ) × (serial_before_parts root ++ serial_after_parts root ≡ serial ∷ []))
 
 -- the serial numbers of a value are its own with those of its parts, along the steps in dropping order
 abbrev pub SerialsAlongSteps : Type 0
 SerialsAlongSteps = (root : Datum) →
-    serials root ≡ serial_before_parts root ++ flat_map (λ step. option_map_or serials (part step root) []) (steps_to_parts root) ++ serial_after_parts root
+    serials root
+    ≡ serial_before_parts root
+    ++ flat_map (λ step. option_map_or serials (part step root) []) (steps_to_parts root)
+    ++ serial_after_parts root
 
 -- the steps in dropping order are those that lead to a part
 abbrev pub StepsLead : Type 0
 StepsLead = (root : Datum) (step : At) → Contains (steps_to_parts root) step ↔ IsSome (part step root)
+
+-- no run goes on past a store into a place of the type `!`, nor does a free run
+abbrev pub RunsStoreNoNever : Type 0
+RunsStoreNoNever = (setting : Setting) (run : Bodies) (bound : ℕ) →
+    StoresNoNever (values.never_at setting) (values.on_values setting run bound)
+
+abbrev pub FreeRunsStoreNoNever : Type 0
+FreeRunsStoreNoNever = (table : ItemTable) (local_ty : ℕ → Option TyId) →
+    StoresNoNever (λ w. free.never_at table local_ty) (free.on_presence table local_ty)

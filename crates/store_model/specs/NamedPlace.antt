@@ -26,21 +26,10 @@ whole_local local = record { local = local; steps = [] }
 
 abbrev pub same_step : Step → Step → Bool
 same_step (ToPart n) (ToPart m) = n == m
-same_step (ToPart n) (ToField v m) = false
-same_step (ToPart n) ToContent = false
-same_step (ToPart n) (ToElement m) = false
-same_step (ToField v n) (ToPart m) = false
 same_step (ToField v n) (ToField u m) = v == u && n == m
-same_step (ToField v n) ToContent = false
-same_step (ToField v n) (ToElement m) = false
-same_step ToContent (ToPart m) = false
-same_step ToContent (ToField u m) = false
 same_step ToContent ToContent = true
-same_step ToContent (ToElement m) = false
-same_step (ToElement n) (ToPart m) = false
-same_step (ToElement n) (ToField u m) = false
-same_step (ToElement n) ToContent = false
 same_step (ToElement n) (ToElement m) = n == m
+same_step one other = false
 
 abbrev pub is_enum : ItemTable → Ty → Bool
 is_enum items (Ty.Adt n) = option_map_or (λ adt. adt.is_enum) (slice_get items.adts n) false
@@ -107,9 +96,11 @@ watched_content false rest = watched_step ToContent rest
 abbrev pub watched : ItemTable → Option TyId → List Step → Watched
 watched items id [] = record { steps = []; reach = Whole }
 watched items id (ToPart n ∷ steps) =
-    watched_step (ToPart n) (watched items (option_and_then (stepped_ty items (ToPart n)) (option_and_then (type_at items) id)) steps)
+    watched_step (ToPart n)
+    (watched items (option_and_then (stepped_ty items (ToPart n)) (option_and_then (type_at items) id)) steps)
 watched items id (ToField v n ∷ steps) =
-    watched_step (ToField v n) (watched items (option_and_then (stepped_ty items (ToField v n)) (option_and_then (type_at items) id)) steps)
+    watched_step (ToField v n)
+    (watched items (option_and_then (stepped_ty items (ToField v n)) (option_and_then (type_at items) id)) steps)
 watched items id (ToContent ∷ steps) =
     watched_content (is_reference (option_and_then (type_at items) id))
     (watched items (option_and_then content_of (option_and_then (type_at items) id)) steps)

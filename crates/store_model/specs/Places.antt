@@ -37,7 +37,8 @@ standing_at (step ∷ path) root = option_and_then (standing_at path) (part step
 -- the root with another value at the end of a path, if there is such a place
 abbrev pub replaced : List At → Datum → Datum → Datum
 replaced [] new root = new
-replaced (step ∷ path) new root = option_map_or (λ inner. with_part step (replaced path new inner) root) (part step root) root
+replaced (step ∷ path) new root =
+    option_map_or (λ inner. with_part step (replaced path new inner) root) (part step root) root
 
 -- some container on the path has no part where the next step leads; one that is gone has no parts
 pub record IsCutOff (path : List At) (root : Datum) : Type 0 where

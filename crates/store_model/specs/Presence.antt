@@ -25,7 +25,8 @@ itself_gone (known gone parts) = gone
 -- the part to which a step leads
 abbrev pub part_among : Step → Presence → Parts → Presence
 part_among step otherwise none_named = otherwise
-part_among step otherwise (named other part rest) = if same_step step other then part else part_among step otherwise rest
+part_among step otherwise (named other part rest) =
+    if same_step step other then part else part_among step otherwise rest
 
 abbrev pub presence_at : Step → Presence → Presence
 presence_at step (known gone parts) = part_among step (known gone none_named) parts
@@ -38,7 +39,8 @@ presence_along (step ∷ steps) p = presence_along steps (presence_at step p)
 abbrev pub changed_among : Step → (Presence → Presence) → Presence → Parts → Parts
 changed_among step change otherwise none_named = named step (change otherwise) none_named
 changed_among step change otherwise (named other part rest) =
-    if same_step step other then named other (change part) rest else named other part (changed_among step change otherwise rest)
+    if same_step step other then named other (change part) rest else named other part
+    (changed_among step change otherwise rest)
 
 abbrev pub changed_at : Step → (Presence → Presence) → Presence → Presence
 changed_at step change (known gone parts) = known gone (changed_among step change (known gone none_named) parts)

@@ -42,7 +42,8 @@ concrete_ty items (AsObject id impl_no) = adt_ty (adt_of_impl items impl_no)
 -- whether a value is found as the type that a reference names
 abbrev pub is_found_as : ItemTable → TyId → Found → Bool
 is_found_as items id (As found) = id.0 == found.0
-is_found_as items id (AsObject found impl_no) = id.0 == found.0 || option_map_or (λ n. is_adt n (type_at items id)) (adt_of_impl items impl_no) false
+is_found_as items id (AsObject found impl_no) =
+    id.0 == found.0 || option_map_or (λ n. is_adt n (type_at items id)) (adt_of_impl items impl_no) false
 
 abbrev found_content : TyId → Option ℕ → Found
 found_content id None = As id
@@ -72,7 +73,8 @@ abbrev below : Addr → At → Addr
 below address step = record address { path = address.path ++ step ∷ [] }
 
 abbrev standing_of : Standing → At → Option Datum → Option Found → Option Standing
-standing_of s step (Some value) (Some found) = Some (record { address = below s.address step; found = found; value = value })
+standing_of s step (Some value) (Some found) =
+    Some (record { address = below s.address step; found = found; value = value })
 standing_of s step (Some value) None = None
 standing_of s step None found = None
 
@@ -89,7 +91,8 @@ root_address depth key = record { depth = depth; key = (record { 0 = key }); pat
 
 abbrev root_standing : ℕ → ℕ → Cells → Option TyId → Option Standing
 root_standing depth key cells None = None
-root_standing depth key cells (Some id) = Some (record { address = root_address depth key; found = As id; value = cell key cells })
+root_standing depth key cells (Some id) =
+    Some (record { address = root_address depth key; found = As id; value = cell key cells })
 
 module _ (setting : Setting) (w : World) where
   -- what a local of the activation of a depth holds
@@ -100,7 +103,8 @@ module _ (setting : Setting) (w : World) where
   -- what stands at an address, if it has not lost its place
   abbrev pub standing_at_address : Addr → Option Standing
   standing_at_address address =
-      option_and_then (into_all setting.items address.path) (standing_in address.depth address.key.0 (at_depth address.depth w.activations))
+      option_and_then (into_all setting.items address.path)
+      (standing_in address.depth address.key.0 (at_depth address.depth w.activations))
 
 -- a place is reached; or a container of it is gone; or there is no such place
 pub data Reached : Type 0 where
@@ -145,7 +149,8 @@ module _ (setting : Setting) (w : World) (cells : Cells) where
   through value s = Nowhere
 
   abbrev into_field : ℕ → ℕ → Datum → Standing → Reached
-  into_field variant n (Aggregate active serial parts) s = reached_if (variant == active) (into setting.items (Part n) s)
+  into_field variant n (Aggregate active serial parts) s =
+      reached_if (variant == active) (into setting.items (Part n) s)
   into_field variant n value s = Nowhere
 
   abbrev stepped : Step → Standing → Reached
@@ -179,4 +184,5 @@ root_of address w = option_map_or (λ a. cell address.key.0 a.cells) (at_depth a
 -- another value stands at an address
 abbrev pub stored_at : Addr → Datum → World → World
 stored_at address value w =
-    record w { activations = with_cell_at address.depth address.key.0 (replaced address.path value (root_of address w)) w.activations }
+    record w { activations = with_cell_at address.depth address.key.0
+    (replaced address.path value (root_of address w)) w.activations }

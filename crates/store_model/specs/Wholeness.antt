@@ -22,12 +22,9 @@ abbrev mutual
 abbrev mutual
   pub is_whole : Datum → Bool
   is_whole Gone = false
-  is_whole (Number number) = true
-  is_whole (Truth truth) = true
-  is_whole UnitValue = true
   is_whole (Aggregate variant serial parts) = are_whole parts
   is_whole (Box serial impl_no inside) = is_whole inside
-  is_whole (Address address) = true
+  is_whole datum = true
 
   pub are_whole : Data → Bool
   are_whole no_part = true
@@ -52,13 +49,9 @@ IsNumbered datum = ⊥
 -- the serial numbers at and below a value, in the order of their drops
 abbrev mutual
   pub serials : Datum → List ℕ
-  serials Gone = []
-  serials (Number number) = []
-  serials (Truth truth) = []
-  serials UnitValue = []
   serials (Aggregate variant serial parts) = option_to_list serial ++ serials_of_all parts
   serials (Box serial impl_no inside) = serials inside ++ serial ∷ []
-  serials (Address address) = []
+  serials datum = []
 
   pub serials_of_all : Data → List ℕ
   serials_of_all no_part = []

@@ -1,6 +1,6 @@
 -- What a run has at hand: the numbers that are still to be asked, the ticks that are left, the next serial number, the
--- bodies that run with what their locals hold, and the events so far (The Rust Reference, "Variables", for the locals of
--- a body; asked numbers, ticks and serial numbers are this project's own).
+-- bodies that run with what their locals hold, and the events so far (The Rust Reference, "Variables", for the locals
+-- of a body; asked numbers, ticks and serial numbers are this project's own).
 use Rattle.std.specs.Prelude.{ℕ, zero, suc, ◌==◌, ℤ, List, [], ◌∷◌, ◌++◌, Option, Some, None, length, if◌then◌else◌}
 use Rattle.mir_base.specs.declared.trace.Event.{Event}
 use Rattle.mir_base.specs.Trace.{Trace}
@@ -39,7 +39,8 @@ at_depth depth (a ∷ older) = if depth == length older then Some a else at_dept
 abbrev pub with_cell_at : ℕ → ℕ → Datum → List Activation → List Activation
 with_cell_at depth key value [] = []
 with_cell_at depth key value (a ∷ older) =
-    if depth == length older then (record a { cells = with_cell key value a.cells }) ∷ older else a ∷ with_cell_at depth key value older
+    if depth == length older then (record a { cells = with_cell key value a.cells }) ∷ older else a
+    ∷ with_cell_at depth key value older
 
 abbrev pub telling : Event → World → World
 telling event w = record w { trace = w.trace ++ event ∷ [] }

@@ -1,6 +1,6 @@
-//! The laws of places, of whole values and of serial numbers. Each is a clause of a function without
+//! The laws of places, of whole values, of serial numbers and of effects. Each is a clause of a function without
 //! parameters, and a lemma of `proofs/` that a proof above this crate cites.
-ghost use Rattle.store_model.specs.Laws.{StandsAlong, StandsUnlessCutOff, PathsCompare, KeepsWithoutPlace, StandsAtPlace, StandsBelow, StandsAbove, StandsApart, LaterStays, ContainerStays, KeepsWhatStood, GivesBack, ChangesWithin, ChangesApart, WholeWithoutGone, WholeByTest, WholeBelow, WholeWithWhole, NotWholeWhereTaken, NothingBelowGone, NumberedBySerial, SerialsSplit, SerialsExchange, SerialsTaken, SerialsAlongSteps, StepsLead};
+ghost use Rattle.store_model.specs.Laws.{FreeRunsStoreNoNever, RunsStoreNoNever, StandsAlong, StandsUnlessCutOff, PathsCompare, KeepsWithoutPlace, StandsAtPlace, StandsBelow, StandsAbove, StandsApart, LaterStays, ContainerStays, KeepsWhatStood, GivesBack, ChangesWithin, ChangesApart, WholeWithoutGone, WholeByTest, WholeBelow, WholeWithWhole, NotWholeWhereTaken, NothingBelowGone, NumberedBySerial, SerialsSplit, SerialsExchange, SerialsTaken, SerialsAlongSteps, StepsLead};
 
 /// Where something stands, and how two paths lie to one another.
 pub fn law_of_paths()
@@ -46,4 +46,11 @@ pub fn law_of_serials()
     ensures exchange { SerialsExchange }
     ensures taken { SerialsTaken }
     ensures along_steps { SerialsAlongSteps }
+{}
+
+/// No value of the type `!` is ever stored: what stores into a place of that type panics or halts, in a run and in a
+/// free run. So what would come after it can be left out.
+pub fn law_of_never_stores()
+    ensures runs { RunsStoreNoNever }
+    ensures free_runs { FreeRunsStoreNoNever }
 {}

@@ -13,7 +13,8 @@ mod value;
 
 pub use address::{Addr, At, AtPath};
 pub use laws::{
-    law_of_changes, law_of_paths, law_of_serials, law_of_what_stands, law_of_wholeness,
+    law_of_changes, law_of_never_stores, law_of_paths, law_of_serials, law_of_what_stands,
+    law_of_wholeness,
 };
 pub use parts::parts_in_order;
 pub use path::Path;

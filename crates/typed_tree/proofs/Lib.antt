@@ -1,4 +1,3 @@
 pub mod NumberLemmas
-pub mod SampleLemmas
 pub mod SearchLemmas
 pub mod ViewLemmas

@@ -19,7 +19,7 @@ abbrev mutual
   nodes_in (Truth value) = []
   nodes_in UnitValue = []
   nodes_in (Variable key) = []
-  nodes_in (Captured closure part) = []
+  nodes_in (Captured closure part name) = []
   nodes_in (Field base part) = nodes_of base
   nodes_in (Index base index length) = nodes_of base ++ nodes_of index
   nodes_in (Deref base) = nodes_of base
@@ -50,7 +50,8 @@ abbrev mutual
   nodes_in (Let pattern initialiser) = nodes_of pattern ++ nodes_if_any initialiser
   nodes_in (Evaluate expression) = nodes_of expression
   nodes_in (If condition then otherwise) = nodes_of condition ++ nodes_of then ++ nodes_if_any otherwise
-  nodes_in (IfLet pattern scrutinee then otherwise) = nodes_of pattern ++ nodes_of scrutinee ++ nodes_of then ++ nodes_if_any otherwise
+  nodes_in (IfLet pattern scrutinee then otherwise) =
+      nodes_of pattern ++ nodes_of scrutinee ++ nodes_of then ++ nodes_if_any otherwise
   nodes_in (Match scrutinee arms) = nodes_of scrutinee ++ nodes_among arms
   nodes_in (Arm pattern guard body) = nodes_of pattern ++ nodes_if_any guard ++ nodes_of body
   nodes_in (Loop body) = nodes_of body
@@ -60,7 +61,7 @@ abbrev mutual
   nodes_in (Continue from) = []
   nodes_in (Return value) = nodes_if_any value
   nodes_in Wildcard = []
-  nodes_in Binding = []
+  nodes_in (Binding name) = []
   nodes_in (NumberPattern value) = []
   nodes_in (TruthPattern value) = []
   nodes_in (StructPattern fields) = nodes_of_fields fields

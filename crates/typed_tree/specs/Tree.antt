@@ -1,10 +1,12 @@
 -- A typed program as plain data, without the places in memory where its nodes lie: what its meaning and its lowering
 -- go by. The forms are those of The Rust Reference, "Expressions", "Statements" and "Patterns". Nothing in a node is
 -- to be looked up by name: it has the numbers of the entry, part, variant, body, trait, method or loop that it means.
-use Rattle.std.specs.Prelude.{ℕ, ℤ, Bool, List, Option}
+-- A binding and a captured variable have their names as well, which are printed where a use is refused.
+use Rattle.std.specs.Prelude.{ℕ, ℤ, Bool, List, Option, Contains}
 use Rattle.mir_base.specs.declared.operator.Cmp.{Cmp}
 use Rattle.mir_base.specs.declared.operator.Math.{Math}
 use Rattle.mir_base.specs.declared.place_in_text.Pos.{Pos}
+use Rattle.mir_ty.specs.declared.ty.Ty.{Ty}
 use Rattle.mir_ty.specs.declared.ty.TyId.{TyId}
 use Rattle.mir_ty.specs.ItemTable.{ItemTable}
 use Rattle.typed_tree.specs.declared.node.Use.{Use}
@@ -21,7 +23,7 @@ mutual
     UnitValue : Form
     -- places: each reference and box on the way to a field or a method is gone through by a node of its own
     Variable : (key : ℕ) → Form
-    Captured : (closure part : ℕ) → Form
+    Captured : (closure part : ℕ) (name : List ℕ) → Form
     Field : (base : Node) (part : ℕ) → Form
     Index : (base index : Node) (length : ℕ) → Form
     Deref : (base : Node) → Form
@@ -70,7 +72,7 @@ mutual
     Return : (value : MaybeNode) → Form
     -- patterns: a binding makes an entry under its own number; a variant of an enum with one variant is no test
     Wildcard : Form
-    Binding : Form
+    Binding : (name : List ℕ) → Form
     NumberPattern : (value : ℤ) → Form
     TruthPattern : (value : Bool) → Form
     StructPattern : (fields : Fields) → Form
@@ -107,3 +109,9 @@ pub record BodyTree : Type 0 where
 pub record ProgramTree : Type 0 where
   pub items : ItemTable
   pub bodies : List BodyTree
+
+-- A program's table of items has `bool`, which comparisons, tests of literals and drop flags have as their type, and
+-- `()`, also where its text names neither.
+pub record IsProgram (program : ProgramTree) : Type 0 where
+  pub has_bool : Contains program.items.types Ty.Bool
+  pub has_unit : Contains program.items.types Ty.Unit

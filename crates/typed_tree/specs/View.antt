@@ -30,7 +30,7 @@ form_layer (Form-F.Number value) = Number value
 form_layer (Form-F.Truth value) = Truth value
 form_layer Form-F.UnitValue = UnitValue
 form_layer (Form-F.Variable key) = Variable key.0
-form_layer (Form-F.Captured closure part) = Captured closure.0 part
+form_layer (Form-F.Captured closure part name) = Captured closure.0 part name
 form_layer (Form-F.Field base part) = Field base.value part
 form_layer (Form-F.Index base index length) = Index base.value index.value length
 form_layer (Form-F.Deref base) = Deref base.value
@@ -43,7 +43,8 @@ form_layer (Form-F.Or left right) = Or left.value right.value
 form_layer (Form-F.Assign place value) = Assign place.value value.value
 form_layer (Form-F.Call body args) = Call body (nodes_from args)
 form_layer (Form-F.MethodCall body receiver args) = MethodCall body receiver.value (nodes_from args)
-form_layer (Form-F.VirtualCall trait_no method receiver args) = VirtualCall trait_no method receiver.value (nodes_from args)
+form_layer (Form-F.VirtualCall trait_no method receiver args) =
+    VirtualCall trait_no method receiver.value (nodes_from args)
 form_layer (Form-F.ClosureCall body callee args) = ClosureCall body callee.value (nodes_from args)
 form_layer (Form-F.Make adt variant fields) = Make adt variant (fields_from fields)
 form_layer (Form-F.Tuple parts) = Tuple (nodes_from parts)
@@ -61,7 +62,8 @@ form_layer (Form-F.Block statements tail) = Block (nodes_from statements) (maybe
 form_layer (Form-F.Let pattern initialiser) = Let pattern.value (maybe_from initialiser)
 form_layer (Form-F.Evaluate expression) = Evaluate expression.value
 form_layer (Form-F.If condition then otherwise) = If condition.value then.value (maybe_from otherwise)
-form_layer (Form-F.IfLet pattern scrutinee then otherwise) = IfLet pattern.value scrutinee.value then.value (maybe_from otherwise)
+form_layer (Form-F.IfLet pattern scrutinee then otherwise) =
+    IfLet pattern.value scrutinee.value then.value (maybe_from otherwise)
 form_layer (Form-F.Match scrutinee arms) = Match scrutinee.value (nodes_from arms)
 form_layer (Form-F.Arm pattern guard body) = Arm pattern.value (maybe_from guard) body.value
 form_layer (Form-F.Loop body) = Loop body.value
@@ -71,7 +73,7 @@ form_layer (Form-F.Break from value) = Break from.0 (maybe_from value)
 form_layer (Form-F.Continue from) = Continue from.0
 form_layer (Form-F.Return value) = Return (maybe_from value)
 form_layer Form-F.Wildcard = Wildcard
-form_layer Form-F.Binding = Binding
+form_layer (Form-F.Binding name) = Binding name
 form_layer (Form-F.NumberPattern value) = NumberPattern value
 form_layer (Form-F.TruthPattern value) = TruthPattern value
 form_layer (Form-F.StructPattern fields) = StructPattern (fields_from fields)
@@ -109,7 +111,12 @@ abbrev pub param_tree : Param → ParamTree
 param_tree param = record { pattern = tree_of param.pattern; ty = param.ty }
 
 abbrev pub body_of : TBody → BodyTree
-body_of body = record { number = body.number; params = map param_tree body.params; answer = body.result; block = tree_of body.block }
+body_of body = record {
+  number = body.number;
+  params = map param_tree body.params;
+  answer = body.result;
+  block = tree_of body.block;
+}
 
 abbrev pub program_of : Typed → ProgramTree
 program_of program = record { items = program.items; bodies = map body_of program.bodies }

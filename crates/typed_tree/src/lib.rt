@@ -10,6 +10,3 @@ pub use body::{Param, TBody, Typed};
 pub use law::law_numbers_in_order;
 pub use node::{Form, Node, NumberedField, Use};
 pub use search::node_at;
-
-#[cfg(test)]
-mod tests;

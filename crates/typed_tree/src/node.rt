@@ -1,4 +1,4 @@
-use mir_base::{Cmp, Key, List, Math, NodeId, Pos};
+use mir_base::{Cmp, Key, List, Math, Name, NodeId, Pos};
 use mir_ty::TyId;
 use std::alloc::Global;
 
@@ -42,7 +42,8 @@ pub struct NumberedField {
     pub value: Node,
 }
 
-/// What a node is. Nothing in it is to be looked up by name.
+/// What a node is. Nothing in it is to be looked up by name; names are there for what is printed of a place
+/// (rustc prints them in E0381 and E0382).
 #[derive(Debug, Drop)]
 #[cycle(node)]
 pub enum Form {
@@ -54,10 +55,12 @@ pub enum Form {
     UnitValue,
     /// A variable, a parameter or a binding, by the node that makes its entry.
     Variable(Key),
-    /// A captured variable: a part of the closure value, which is the entry of the first parameter.
+    /// A captured variable, with its name: a part of the closure value, which is the entry of the first
+    /// parameter.
     Captured {
         closure: Key,
         part: u32,
+        name: Name,
     },
     /// A field of a struct, a tuple or a closure. Each box and reference that it goes through is a node
     /// `Deref` around the base.
@@ -211,8 +214,8 @@ pub enum Form {
     Return(Option<Box<Node, Global>>),
     /// The pattern `_`.
     Wildcard,
-    /// A name as a pattern; it makes the entry with this node's number.
-    Binding,
+    /// A name as a pattern, also that of a parameter; it makes the entry with this node's number.
+    Binding(Name),
     NumberPattern(i128),
     TruthPattern(bool),
     StructPattern(List<NumberedField>),

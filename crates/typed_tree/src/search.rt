@@ -35,7 +35,7 @@ fn find_in_form(form: &Form, id: NodeId) -> Option<&Node>
         | Form::Panic
         | Form::Continue { .. }
         | Form::Wildcard
-        | Form::Binding
+        | Form::Binding(_)
         | Form::NumberPattern(_)
         | Form::TruthPattern(_) => None,
         Form::Field { base: child, .. }

@@ -43,7 +43,7 @@ abbrev field_names : {A : Type 0} → List A → List (List ℕ)
 field_names [] = []
 field_names (a ∷ rest) = codes "f" ∷ field_names rest
 
-abbrev variant : List ℕ → List TyId → Variant
+abbrev pub variant : List ℕ → List TyId → Variant
 variant name fields = record { name = name; fields = fields; field_names = field_names fields }
 
 abbrev pub struct : List ℕ → List TyId → Option ℕ → Adt

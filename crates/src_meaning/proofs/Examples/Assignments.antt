@@ -8,9 +8,9 @@ use Rattle.mir_ty.specs.declared.ty.Ty.{Ty}
 use Rattle.mir_ty.specs.declared.ty.TyId.{TyId}
 use Rattle.mir_ty.specs.ItemTable.{ItemTable}
 use Rattle.typed_tree.specs.declared.node.Use.{Use}
-use Rattle.typed_tree.specs.Tree.{no_node, absent, present, Number, Variable, Index, Assign, Call, Array, Block, Binding, BodyTree, ProgramTree}
+use Rattle.typed_tree.specs.Tree.{no_node, absent, present, Number, Variable, Index, Assign, Call, Array, Block, BodyTree, ProgramTree}
 use Rattle.src_meaning.specs.Programs.{source}
-use Rattle.src_meaning.proofs.Examples.Words.{unit, n, used, nodes, let_, stmt, body, ty_no, head}
+use Rattle.src_meaning.proofs.Examples.Words.{a_name, unit, n, used, nodes, let_, stmt, body, ty_no, head}
 use Rattle.src_meaning.proofs.Examples.WithD.{d_ty, d, drop_d, take, with_d}
 
 abbrev array_d_2_ty : TyId
@@ -41,7 +41,7 @@ makes = body 3 [] d_ty (n 0 d_ty (Block no_node (present (d 1 (pos 7)))))
 abbrev main_element : BodyTree
 main_element = body 4 [] unit
     (n 0 unit (Block (nodes (
-    (let_ 1 (used 2 array_d_2_ty Use.Move Binding) (n 3 array_d_2_ty (Array (nodes ((d 4 (pos 5)) ∷ (d 6 (pos 6)) ∷ [])))))
+    (let_ 1 (used 2 array_d_2_ty Use.Move a_name) (n 3 array_d_2_ty (Array (nodes ((d 4 (pos 5)) ∷ (d 6 (pos 6)) ∷ [])))))
     ∷ (stmt 8 (n 9 unit (Assign (used 10 d_ty Use.Store (Index (n 11 array_d_2_ty (Variable 2)) (n 12 usize (Call 2 no_node)) 2)) (n 13 d_ty (Call 3 no_node)))))
     ∷ [])) absent))
 

@@ -7,9 +7,9 @@ use Rattle.mir_ty.specs.declared.ty.Ty.{Ty}
 use Rattle.mir_ty.specs.declared.ty.TyId.{TyId}
 use Rattle.mir_ty.specs.ItemTable.{ItemTable}
 use Rattle.typed_tree.specs.declared.node.Use.{Use}
-use Rattle.typed_tree.specs.Tree.{absent, Variable, Field, Deref, Call, Tuple, NewBox, Forget, Block, Binding, BodyTree, ProgramTree}
+use Rattle.typed_tree.specs.Tree.{absent, Variable, Field, Deref, Call, Tuple, NewBox, Forget, Block, BodyTree, ProgramTree}
 use Rattle.src_meaning.specs.Programs.{source}
-use Rattle.src_meaning.proofs.Examples.Words.{unit, n, used, nodes, let_, stmt, body, ty_no, head}
+use Rattle.src_meaning.proofs.Examples.Words.{a_name, unit, n, used, nodes, let_, stmt, body, ty_no, head}
 use Rattle.src_meaning.proofs.Examples.WithD.{d_ty, d, drop_d, take, with_d}
 
 abbrev tuple_d_d_ty : TyId
@@ -38,7 +38,7 @@ items = with_d (record {
 abbrev main_part : BodyTree
 main_part = body 2 [] unit
     (n 0 unit (Block (nodes (
-    (let_ 1 (used 2 boxed_tuple_d_d_ty Use.Move Binding) (n 3 boxed_tuple_d_d_ty (NewBox (n 4 tuple_d_d_ty (Tuple (nodes ((d 5 (pos 1)) ∷ (d 7 (pos 2)) ∷ [])))))))
+    (let_ 1 (used 2 boxed_tuple_d_d_ty Use.Move a_name) (n 3 boxed_tuple_d_d_ty (NewBox (n 4 tuple_d_d_ty (Tuple (nodes ((d 5 (pos 1)) ∷ (d 7 (pos 2)) ∷ [])))))))
     ∷ (stmt 9 (n 10 unit (Call 1 (nodes (
     (used 11 d_ty Use.Move (Field (n 12 tuple_d_d_ty (Deref (n 13 boxed_tuple_d_d_ty (Variable 2)))) 0))
     ∷ [])))))

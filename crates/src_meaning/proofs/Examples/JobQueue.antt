@@ -10,9 +10,9 @@ use Rattle.mir_ty.specs.declared.ty.Ty.{Ty}
 use Rattle.mir_ty.specs.declared.ty.TyId.{TyId}
 use Rattle.mir_ty.specs.ItemTable.{ItemTable}
 use Rattle.typed_tree.specs.declared.node.Use.{Use}
-use Rattle.typed_tree.specs.Tree.{no_node, no_field, absent, present, Number, Truth, Variable, Field, Deref, Not, Arithmetic, Comparison, And, Assign, Call, VirtualCall, Make, NewBox, Print, Ask, Panic, Borrow, Unsize, Block, If, Match, Arm, While, Return, Wildcard, Binding, VariantPattern, BodyTree, ProgramTree}
+use Rattle.typed_tree.specs.Tree.{no_node, no_field, absent, present, Number, Truth, Variable, Field, Deref, Not, Arithmetic, Comparison, And, Assign, Call, VirtualCall, Make, NewBox, Print, Ask, Panic, Borrow, Unsize, Block, If, Match, Arm, While, Return, Wildcard, VariantPattern, BodyTree, ProgramTree}
 use Rattle.src_meaning.specs.Programs.{source}
-use Rattle.src_meaning.proofs.Examples.Words.{i32, unit, bool, never, scalars, n, used, nodes, fields, let_, stmt, body, param, ty_no, variant, struct, enum, head}
+use Rattle.src_meaning.proofs.Examples.Words.{a_name, i32, unit, bool, never, scalars, n, used, nodes, fields, let_, stmt, body, param, ty_no, variant, struct, enum, head}
 
 abbrev buf_ty : TyId
 buf_ty = ty_no 4
@@ -77,14 +77,14 @@ items = record {
 
 -- fn drop(&mut self) { print(self.0); }
 abbrev drop_buf : BodyTree
-drop_buf = body 0 (param (used 0 unique_buf_ty Use.Copy Binding) unique_buf_ty ∷ []) unit
+drop_buf = body 0 (param (used 0 unique_buf_ty Use.Copy a_name) unique_buf_ty ∷ []) unit
     (n 1 unit (Block (nodes (
     (stmt 2 (n 3 unit (Print (used 4 i32 Use.Copy (Field (n 5 buf_ty (Deref (n 6 unique_buf_ty (Variable 0)))) 0)))))
     ∷ [])) absent))
 
 -- fn new(n: i32) -> Self { Send { head: Buf(n), body: Buf(n + 1), sent: 0 } }
 abbrev send_new : BodyTree
-send_new = body 1 (param (used 0 i32 Use.Copy Binding) i32 ∷ []) send_ty
+send_new = body 1 (param (used 0 i32 Use.Copy a_name) i32 ∷ []) send_ty
     (n 1 send_ty (Block no_node (present (n 2 send_ty (Make 1 0 (fields (
     (0, (n 3 buf_ty (Make 0 0 (fields ((0, (used 4 i32 Use.Copy (Variable 0))) ∷ [])))))
     ∷ (
@@ -98,12 +98,12 @@ send_new = body 1 (param (used 0 i32 Use.Copy Binding) i32 ∷ []) send_ty
 
 -- fn cost(&self) -> i32 { 2 - self.sent }
 abbrev send_cost : BodyTree
-send_cost = body 2 (param (used 0 shared_send_ty Use.Copy Binding) shared_send_ty ∷ []) i32
+send_cost = body 2 (param (used 0 shared_send_ty Use.Copy a_name) shared_send_ty ∷ []) i32
     (n 1 i32 (Block no_node (present (n 2 i32 (Arithmetic Math.Sub (n 3 i32 (Number (pos 2))) (used 4 i32 Use.Copy (Field (n 5 send_ty (Deref (n 6 shared_send_ty (Variable 0)))) 2)))))))
 
 -- fn run(&mut self, turn: i32) -> bool { self.sent = self.sent + 1; if self.sent == 1 { self.body = Buf(turn); return false; } true }
 abbrev send_run : BodyTree
-send_run = body 3 (param (used 0 unique_send_ty Use.Copy Binding) unique_send_ty ∷ param (used 1 i32 Use.Copy Binding) i32 ∷ []) bool
+send_run = body 3 (param (used 0 unique_send_ty Use.Copy a_name) unique_send_ty ∷ param (used 1 i32 Use.Copy a_name) i32 ∷ []) bool
     (n 2 bool (Block (nodes (
     (stmt 3 (n 4 unit (Assign (used 5 i32 Use.Store (Field (n 6 send_ty (Deref (n 7 unique_send_ty (Variable 0)))) 2)) (n 8 i32 (Arithmetic Math.Add (used 9 i32 Use.Copy (Field (n 10 send_ty (Deref (n 11 unique_send_ty (Variable 0)))) 2)) (n 12 i32 (Number (pos 1))))))))
     ∷ (stmt 13 (n 14 unit (If (n 15 bool (Comparison Cmp.Eq (used 16 i32 Use.Copy (Field (n 17 send_ty (Deref (n 18 unique_send_ty (Variable 0)))) 2)) (n 19 i32 (Number (pos 1))))) (n 20 never (Block (nodes (
@@ -114,32 +114,32 @@ send_run = body 3 (param (used 0 unique_send_ty Use.Copy Binding) unique_send_ty
 
 -- fn cost(&self) -> i32 { 1 }
 abbrev fail_cost : BodyTree
-fail_cost = body 4 (param (used 0 shared_fail_ty Use.Copy Binding) shared_fail_ty ∷ []) i32
+fail_cost = body 4 (param (used 0 shared_fail_ty Use.Copy a_name) shared_fail_ty ∷ []) i32
     (n 1 i32 (Block no_node (present (n 2 i32 (Number (pos 1))))))
 
 -- fn run(&mut self, turn: i32) -> bool { if turn > 2 { panic!("job failed") } true }
 abbrev fail_run : BodyTree
-fail_run = body 5 (param (used 0 unique_fail_ty Use.Copy Binding) unique_fail_ty ∷ param (used 1 i32 Use.Copy Binding) i32 ∷ []) bool
+fail_run = body 5 (param (used 0 unique_fail_ty Use.Copy a_name) unique_fail_ty ∷ param (used 1 i32 Use.Copy a_name) i32 ∷ []) bool
     (n 2 bool (Block (nodes (
     (stmt 3 (n 4 unit (If (n 5 bool (Comparison Cmp.Gt (used 6 i32 Use.Copy (Variable 1)) (n 7 i32 (Number (pos 2))))) (n 8 never (Block no_node (present (n 9 never Panic)))) absent)))
     ∷ [])) (present (n 10 bool (Truth true)))))
 
 -- fn step(slot: Slot, turn: i32) -> Slot { match slot { Slot::Ready(mut job) => { if job.cost() > 3 { return Slot::Free; } if job.run(turn) { return Slot::Done(turn); } Slot::Ready(job) } other => other, } }
 abbrev step : BodyTree
-step = body 6 (param (used 0 slot_ty Use.Move Binding) slot_ty ∷ param (used 1 i32 Use.Copy Binding) i32 ∷ []) slot_ty
+step = body 6 (param (used 0 slot_ty Use.Move a_name) slot_ty ∷ param (used 1 i32 Use.Copy a_name) i32 ∷ []) slot_ty
     (n 2 slot_ty (Block no_node (present (n 3 slot_ty (Match (used 4 slot_ty Use.Borrow (Variable 0)) (nodes (
-    (n 5 slot_ty (Arm (used 6 slot_ty Use.Test (VariantPattern 1 true (fields ((0, (used 7 boxed_dyn_job_ty Use.Move Binding)) ∷ [])))) absent (n 8 slot_ty (Block (nodes (
+    (n 5 slot_ty (Arm (used 6 slot_ty Use.Test (VariantPattern 1 true (fields ((0, (used 7 boxed_dyn_job_ty Use.Move a_name)) ∷ [])))) absent (n 8 slot_ty (Block (nodes (
     (stmt 9 (n 10 unit (If (n 11 bool (Comparison Cmp.Gt (n 12 i32 (VirtualCall 0 0 (n 13 shared_dyn_job_ty (Borrow false (used 14 dyn_job_ty Use.Borrow (Deref (n 15 boxed_dyn_job_ty (Variable 7)))))) no_node)) (n 16 i32 (Number (pos 3))))) (n 17 never (Block (nodes ((stmt 18 (n 19 never (Return (present (n 20 slot_ty (Make 3 0 no_field)))))) ∷ [])) absent)) absent)))
     ∷ (stmt 21 (n 22 unit (If (n 23 bool (VirtualCall 0 1 (n 24 unique_dyn_job_ty (Borrow true (used 25 dyn_job_ty Use.BorrowMut (Deref (n 26 boxed_dyn_job_ty (Variable 7)))))) (nodes ((used 27 i32 Use.Copy (Variable 1)) ∷ [])))) (n 28 never (Block (nodes (
     (stmt 29 (n 30 never (Return (present (n 31 slot_ty (Make 3 2 (fields ((0, (used 32 i32 Use.Copy (Variable 1))) ∷ []))))))))
     ∷ [])) absent)) absent)))
     ∷ [])) (present (n 33 slot_ty (Make 3 1 (fields ((0, (used 34 boxed_dyn_job_ty Use.Move (Variable 7))) ∷ [])))))))))
-    ∷ (n 35 slot_ty (Arm (used 36 slot_ty Use.Move Binding) absent (used 37 slot_ty Use.Move (Variable 36))))
+    ∷ (n 35 slot_ty (Arm (used 36 slot_ty Use.Move a_name) absent (used 37 slot_ty Use.Move (Variable 36))))
     ∷ [])))))))
 
 -- fn is_done(slot: &Slot) -> bool { match *slot { Slot::Done(_) => true, _ => false, } }
 abbrev is_done : BodyTree
-is_done = body 7 (param (used 0 shared_slot_ty Use.Copy Binding) shared_slot_ty ∷ []) bool
+is_done = body 7 (param (used 0 shared_slot_ty Use.Copy a_name) shared_slot_ty ∷ []) bool
     (n 1 bool (Block no_node (present (n 2 bool (Match (used 3 slot_ty Use.Borrow (Deref (n 4 shared_slot_ty (Variable 0)))) (nodes (
     (n 5 bool (Arm (used 6 slot_ty Use.Test (VariantPattern 2 true (fields ((0, (n 7 i32 Wildcard)) ∷ [])))) absent (n 8 bool (Truth true))))
     ∷ (n 9 bool (Arm (n 10 slot_ty Wildcard) absent (n 11 bool (Truth false))))
@@ -149,7 +149,7 @@ is_done = body 7 (param (used 0 shared_slot_ty Use.Copy Binding) shared_slot_ty 
 abbrev main_ : BodyTree
 main_ = body 8 [] unit
     (n 0 unit (Block (nodes (
-    (let_ 1 (used 2 queue_ty Use.Move Binding) (n 3 queue_ty (Make 4 0 (fields ((
+    (let_ 1 (used 2 queue_ty Use.Move a_name) (n 3 queue_ty (Make 4 0 (fields ((
       0,
       (n 4 slot_ty (Make 3 1 (fields (
           (0, (n 5 boxed_dyn_job_ty (Unsize 0 (n 6 boxed_send_ty (NewBox (n 7 send_ty (Call 1 (nodes ((n 8 i32 (Number (pos 10))) ∷ [])))))))))
@@ -166,7 +166,7 @@ main_ = body 8 [] unit
           ∷ [])))),
     )
     ∷ [])))))
-    ∷ (let_ 15 (used 16 i32 Use.Copy Binding) (n 17 i32 Ask))
+    ∷ (let_ 15 (used 16 i32 Use.Copy a_name) (n 17 i32 Ask))
     ∷ (stmt 18 (n 19 unit (While (n 20 bool (Not (n 21 bool (And (n 22 bool (Call 7 (nodes (
     (n 23 shared_slot_ty (Borrow false (used 24 slot_ty Use.Borrow (Field (n 25 queue_ty (Variable 2)) 0))))
     ∷ [])))) (n 26 bool (Call 7 (nodes (

@@ -5,9 +5,9 @@ use Rattle.mir_base.specs.declared.trace.End.{End}
 use Rattle.mir_base.specs.declared.trace.Event.TheVariants.{Call as call, Return as return, Make as make, Dropped as drop}
 use Rattle.mir_ty.specs.ItemTable.{ItemTable}
 use Rattle.typed_tree.specs.declared.node.Use.{Use}
-use Rattle.typed_tree.specs.Tree.{absent, Variable, Assign, Call, Block, Binding, BodyTree, ProgramTree}
+use Rattle.typed_tree.specs.Tree.{absent, Variable, Assign, Call, Block, BodyTree, ProgramTree}
 use Rattle.src_meaning.specs.Programs.{source}
-use Rattle.src_meaning.proofs.Examples.Words.{unit, n, used, nodes, let_, stmt, body, head}
+use Rattle.src_meaning.proofs.Examples.Words.{a_name, unit, n, used, nodes, let_, stmt, body, head}
 use Rattle.src_meaning.proofs.Examples.WithD.{d_ty, d, drop_d, take, with_d}
 
 abbrev items : ItemTable
@@ -24,8 +24,8 @@ items = with_d (record {
 abbrev main_two : BodyTree
 main_two = body 2 [] unit
     (n 0 unit (Block (nodes (
-    (let_ 1 (used 2 d_ty Use.Move Binding) (d 3 (pos 1)))
-    ∷ (let_ 5 (used 6 d_ty Use.Move Binding) (d 7 (pos 2)))
+    (let_ 1 (used 2 d_ty Use.Move a_name) (d 3 (pos 1)))
+    ∷ (let_ 5 (used 6 d_ty Use.Move a_name) (d 7 (pos 2)))
     ∷ [])) absent))
 
 abbrev two : ProgramTree
@@ -51,7 +51,7 @@ out_of_ticks_at_once = refl
 abbrev pub main_again : BodyTree
 main_again = body 2 [] unit
     (n 0 unit (Block (nodes (
-    (let_ 1 (used 2 d_ty Use.Move Binding) (d 3 (pos 1)))
+    (let_ 1 (used 2 d_ty Use.Move a_name) (d 3 (pos 1)))
     ∷ (stmt 5 (n 6 unit (Call 1 (nodes ((used 7 d_ty Use.Move (Variable 2)) ∷ [])))))
     ∷ (stmt 8 (n 9 unit (Assign (used 10 d_ty Use.Store (Variable 2)) (d 11 (pos 2)))))
     ∷ (stmt 13 (n 14 unit (Call 1 (nodes ((used 15 d_ty Use.Move (Variable 2)) ∷ [])))))

@@ -8,9 +8,9 @@ use Rattle.mir_ty.specs.declared.ty.Ty.{Ty}
 use Rattle.mir_ty.specs.declared.ty.TyId.{TyId}
 use Rattle.mir_ty.specs.ItemTable.{ItemTable}
 use Rattle.typed_tree.specs.declared.node.Use.{Use}
-use Rattle.typed_tree.specs.Tree.{no_node, absent, present, Number, Call, Tuple, Panic, Borrow, Block, Loop, Break, Binding, BodyTree, ProgramTree}
+use Rattle.typed_tree.specs.Tree.{no_node, absent, present, Number, Call, Tuple, Panic, Borrow, Block, Loop, Break, BodyTree, ProgramTree}
 use Rattle.src_meaning.specs.Programs.{source}
-use Rattle.src_meaning.proofs.Examples.Words.{i32, unit, never, n, used, nodes, stmt, body, param, ty_no, head}
+use Rattle.src_meaning.proofs.Examples.Words.{a_name, i32, unit, never, n, used, nodes, stmt, body, param, ty_no, head}
 use Rattle.src_meaning.proofs.Examples.WithD.{d_ty, shared_d_ty, d, drop_d, take, with_d}
 
 abbrev tuple_d_d_ty : TyId
@@ -36,21 +36,21 @@ abbrev t : BodyTree
 t = body 3 [] d_ty (n 0 d_ty (Block no_node (present (d 1 (pos 2)))))
 
 abbrev g : BodyTree
-g = body 4 (param (used 0 shared_d_ty Use.Copy Binding) shared_d_ty ∷ []) d_ty
+g = body 4 (param (used 0 shared_d_ty Use.Copy a_name) shared_d_ty ∷ []) d_ty
     (n 1 d_ty (Block no_node (present (d 2 (pos 3)))))
 
 abbrev f : BodyTree
-f = body 5 (param (used 0 d_ty Use.Move Binding) d_ty ∷ param (used 1 d_ty Use.Move Binding) d_ty ∷ param (used 2 d_ty Use.Move Binding) d_ty ∷ []) unit
+f = body 5 (param (used 0 d_ty Use.Move a_name) d_ty ∷ param (used 1 d_ty Use.Move a_name) d_ty ∷ param (used 2 d_ty Use.Move a_name) d_ty ∷ []) unit
     (n 3 unit (Block no_node absent))
 
 -- fn f2(x: D, n: i32, k: i32) {}
 abbrev f2 : BodyTree
-f2 = body 7 (param (used 0 d_ty Use.Move Binding) d_ty ∷ param (used 1 i32 Use.Copy Binding) i32 ∷ param (used 2 i32 Use.Copy Binding) i32 ∷ []) unit
+f2 = body 7 (param (used 0 d_ty Use.Move a_name) d_ty ∷ param (used 1 i32 Use.Copy a_name) i32 ∷ param (used 2 i32 Use.Copy a_name) i32 ∷ []) unit
     (n 3 unit (Block no_node absent))
 
 -- fn g2(r: &D) -> i32 { 0 }
 abbrev g2 : BodyTree
-g2 = body 8 (param (used 0 shared_d_ty Use.Copy Binding) shared_d_ty ∷ []) i32
+g2 = body 8 (param (used 0 shared_d_ty Use.Copy a_name) shared_d_ty ∷ []) i32
     (n 1 i32 (Block no_node (present (n 2 i32 (Number (pos 0))))))
 
 -- fn main() { loop { (D(1), D(2), (D(3), D(4), break), D(5)); } }

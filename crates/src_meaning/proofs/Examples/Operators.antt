@@ -10,9 +10,9 @@ use Rattle.mir_ty.specs.declared.ty.Ty.{Ty}
 use Rattle.mir_ty.specs.declared.ty.TyId.{TyId}
 use Rattle.mir_ty.specs.ItemTable.{ItemTable}
 use Rattle.typed_tree.specs.declared.node.Use.{Use}
-use Rattle.typed_tree.specs.Tree.{absent, Number, Variable, Field, Index, Arithmetic, Array, Print, Ask, Block, Binding, BodyTree, ProgramTree}
+use Rattle.typed_tree.specs.Tree.{absent, Number, Variable, Field, Index, Arithmetic, Array, Print, Ask, Block, BodyTree, ProgramTree}
 use Rattle.src_meaning.specs.Programs.{source}
-use Rattle.src_meaning.proofs.Examples.Words.{i32, unit, n, used, nodes, let_, stmt, body, ty_no, head}
+use Rattle.src_meaning.proofs.Examples.Words.{a_name, i32, unit, n, used, nodes, let_, stmt, body, ty_no, head}
 use Rattle.src_meaning.proofs.Examples.WithD.{d_ty, d, drop_d, take, with_d}
 
 abbrev array_d_2_ty : TyId
@@ -35,8 +35,8 @@ items = with_d (record {
 abbrev main_index : BodyTree
 main_index = body 2 [] unit
     (n 0 unit (Block (nodes (
-    (let_ 1 (used 2 array_d_2_ty Use.Move Binding) (n 3 array_d_2_ty (Array (nodes ((d 4 (pos 5)) ∷ (d 6 (pos 6)) ∷ [])))))
-    ∷ (let_ 8 (used 9 usize Use.Copy Binding) (n 10 usize (Number (pos 2))))
+    (let_ 1 (used 2 array_d_2_ty Use.Move a_name) (n 3 array_d_2_ty (Array (nodes ((d 4 (pos 5)) ∷ (d 6 (pos 6)) ∷ [])))))
+    ∷ (let_ 8 (used 9 usize Use.Copy a_name) (n 10 usize (Number (pos 2))))
     ∷ (stmt 11 (n 12 unit (Print (used 13 i32 Use.Copy (Field (n 14 d_ty (Index (n 15 array_d_2_ty (Variable 2)) (used 16 usize Use.Copy (Variable 9)) 2)) 0)))))
     ∷ [])) absent))
 
@@ -55,8 +55,8 @@ an_index_past_the_end = refl
 abbrev main_element : BodyTree
 main_element = body 2 [] unit
     (n 0 unit (Block (nodes (
-    (let_ 1 (used 2 array_d_2_ty Use.Move Binding) (n 3 array_d_2_ty (Array (nodes ((d 4 (pos 5)) ∷ (d 6 (pos 6)) ∷ [])))))
-    ∷ (let_ 8 (used 9 usize Use.Copy Binding) (n 10 usize (Number (pos 1))))
+    (let_ 1 (used 2 array_d_2_ty Use.Move a_name) (n 3 array_d_2_ty (Array (nodes ((d 4 (pos 5)) ∷ (d 6 (pos 6)) ∷ [])))))
+    ∷ (let_ 8 (used 9 usize Use.Copy a_name) (n 10 usize (Number (pos 1))))
     ∷ (stmt 11 (n 12 unit (Print (used 13 i32 Use.Copy (Field (n 14 d_ty (Index (n 15 array_d_2_ty (Variable 2)) (used 16 usize Use.Copy (Variable 9)) 2)) 0)))))
     ∷ [])) absent))
 

@@ -8,9 +8,9 @@ use Rattle.mir_ty.specs.declared.ty.Ty.{Ty}
 use Rattle.mir_ty.specs.declared.ty.TyId.{TyId}
 use Rattle.mir_ty.specs.ItemTable.{ItemTable}
 use Rattle.typed_tree.specs.declared.node.Use.{Use}
-use Rattle.typed_tree.specs.Tree.{no_node, absent, present, Variable, Assign, Call, Make, Block, Binding, BodyTree, ProgramTree}
+use Rattle.typed_tree.specs.Tree.{no_node, absent, present, Variable, Assign, Call, Make, Block, BodyTree, ProgramTree}
 use Rattle.src_meaning.specs.Programs.{source}
-use Rattle.src_meaning.proofs.Examples.Words.{unit, n, used, nodes, fields, let_, stmt, body, param, ty_no, struct, head}
+use Rattle.src_meaning.proofs.Examples.Words.{a_name, unit, n, used, nodes, fields, let_, stmt, body, param, ty_no, struct, head}
 use Rattle.src_meaning.proofs.Examples.WithN.{n_ty, nn, drop_n, with_n}
 
 abbrev s_ty : TyId
@@ -28,20 +28,20 @@ items = with_n (record {
 
 -- fn h(p: N) -> N { N(5) }
 abbrev h : BodyTree
-h = body 1 (param (used 0 n_ty Use.Move Binding) n_ty ∷ []) n_ty (n 1 n_ty (Block no_node (present (nn 2 (pos 5)))))
+h = body 1 (param (used 0 n_ty Use.Move a_name) n_ty ∷ []) n_ty (n 1 n_ty (Block no_node (present (nn 2 (pos 5)))))
 
 -- fn main() { let s = S { a: N(-1), b: N(2), c: N(3) }; }
 abbrev main_struct : BodyTree
 main_struct = body 2 [] unit
     (n 0 unit (Block (nodes (
-    (let_ 1 (used 2 s_ty Use.Move Binding) (n 3 s_ty (Make 1 0 (fields ((0, (nn 4 (negsuc 0))) ∷ (1, (nn 6 (pos 2))) ∷ (2, (nn 8 (pos 3))) ∷ [])))))
+    (let_ 1 (used 2 s_ty Use.Move a_name) (n 3 s_ty (Make 1 0 (fields ((0, (nn 4 (negsuc 0))) ∷ (1, (nn 6 (pos 2))) ∷ (2, (nn 8 (pos 3))) ∷ [])))))
     ∷ [])) absent))
 
 -- fn main() { let s = S { a: N(-1), b: N(-2), c: N(3) }; }
 abbrev main_twice : BodyTree
 main_twice = body 2 [] unit
     (n 0 unit (Block (nodes (
-    (let_ 1 (used 2 s_ty Use.Move Binding) (n 3 s_ty (Make 1 0 (fields ((0, (nn 4 (negsuc 0))) ∷ (1, (nn 6 (negsuc 1))) ∷ (2, (nn 8 (pos 3))) ∷ [])))))
+    (let_ 1 (used 2 s_ty Use.Move a_name) (n 3 s_ty (Make 1 0 (fields ((0, (nn 4 (negsuc 0))) ∷ (1, (nn 6 (negsuc 1))) ∷ (2, (nn 8 (pos 3))) ∷ [])))))
     ∷ [])) absent))
 
 abbrev struct_ : ProgramTree
@@ -70,7 +70,7 @@ a_second_panic_aborts = refl
 abbrev main_assign : BodyTree
 main_assign = body 2 [] unit
     (n 0 unit (Block (nodes (
-    (let_ 1 (used 2 n_ty Use.Move Binding) (nn 3 (negsuc 0)))
+    (let_ 1 (used 2 n_ty Use.Move a_name) (nn 3 (negsuc 0)))
     ∷ (stmt 5 (n 6 unit (Assign (used 7 n_ty Use.Store (Variable 2)) (nn 8 (pos 2)))))
     ∷ [])) absent))
 
@@ -104,7 +104,7 @@ a_result_is_dropped_after_the_parameters = refl
 abbrev main_pending : BodyTree
 main_pending = body 2 [] unit
     (n 0 unit (Block (nodes (
-    (let_ 1 (used 2 n_ty Use.Move Binding) (n 3 n_ty (Block (nodes ((let_ 4 (used 5 n_ty Use.Move Binding) (nn 6 (negsuc 0))) ∷ [])) (present (nn 8 (pos 7))))))
+    (let_ 1 (used 2 n_ty Use.Move a_name) (n 3 n_ty (Block (nodes ((let_ 4 (used 5 n_ty Use.Move a_name) (nn 6 (negsuc 0))) ∷ [])) (present (nn 8 (pos 7))))))
     ∷ [])) absent))
 
 abbrev pending : ProgramTree

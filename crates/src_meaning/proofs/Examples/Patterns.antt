@@ -8,9 +8,9 @@ use Rattle.mir_ty.specs.declared.ty.Ty.{Ty}
 use Rattle.mir_ty.specs.declared.ty.TyId.{TyId}
 use Rattle.mir_ty.specs.ItemTable.{ItemTable}
 use Rattle.typed_tree.specs.declared.node.Use.{Use}
-use Rattle.typed_tree.specs.Tree.{no_node, no_field, absent, present, Number, Variable, Comparison, Call, Make, Tuple, Print, Ask, Block, Match, Arm, Wildcard, Binding, NumberPattern, VariantPattern, TuplePattern, OrPattern, BodyTree, ProgramTree}
+use Rattle.typed_tree.specs.Tree.{no_node, no_field, absent, present, Number, Variable, Comparison, Call, Make, Tuple, Print, Ask, Block, Match, Arm, Wildcard, NumberPattern, VariantPattern, TuplePattern, OrPattern, BodyTree, ProgramTree}
 use Rattle.src_meaning.specs.Programs.{source}
-use Rattle.src_meaning.proofs.Examples.Words.{i32, unit, bool, n, used, nodes, fields, let_, stmt, body, param, ty_no, variant, enum, head}
+use Rattle.src_meaning.proofs.Examples.Words.{a_name, i32, unit, bool, n, used, nodes, fields, let_, stmt, body, param, ty_no, variant, enum, head}
 use Rattle.src_meaning.proofs.Examples.WithD.{d_ty, d, drop_d, take, with_d}
 
 abbrev tuple_d_d_ty : TyId
@@ -34,7 +34,7 @@ items = with_d (record {
 
 -- fn p((x, _): (D, D), (_, y): (D, D)) {}
 abbrev p : BodyTree
-p = body 2 (param (n 0 tuple_d_d_ty (TuplePattern (nodes ((used 1 d_ty Use.Move Binding) ∷ (n 2 d_ty Wildcard) ∷ [])))) tuple_d_d_ty ∷ param (n 3 tuple_d_d_ty (TuplePattern (nodes ((n 4 d_ty Wildcard) ∷ (used 5 d_ty Use.Move Binding) ∷ [])))) tuple_d_d_ty ∷ []) unit
+p = body 2 (param (n 0 tuple_d_d_ty (TuplePattern (nodes ((used 1 d_ty Use.Move a_name) ∷ (n 2 d_ty Wildcard) ∷ [])))) tuple_d_d_ty ∷ param (n 3 tuple_d_d_ty (TuplePattern (nodes ((n 4 d_ty Wildcard) ∷ (used 5 d_ty Use.Move a_name) ∷ [])))) tuple_d_d_ty ∷ []) unit
     (n 6 unit (Block no_node absent))
 
 abbrev pair : BodyTree
@@ -66,7 +66,7 @@ names_of_parameters_are_entries_after_their_parameter = refl
 abbrev main_let : BodyTree
 main_let = body 4 [] unit
     (n 0 unit (Block (nodes (
-    (let_ 1 (n 2 tuple_d_d_ty (TuplePattern (nodes ((used 3 d_ty Use.Move Binding) ∷ (n 4 d_ty Wildcard) ∷ [])))) (n 5 tuple_d_d_ty (Call 3 no_node)))
+    (let_ 1 (n 2 tuple_d_d_ty (TuplePattern (nodes ((used 3 d_ty Use.Move a_name) ∷ (n 4 d_ty Wildcard) ∷ [])))) (n 5 tuple_d_d_ty (Call 3 no_node)))
     ∷ (stmt 6 (n 7 unit (Print (n 8 i32 (Number (pos 7))))))
     ∷ [])) absent))
 
@@ -85,10 +85,10 @@ what_a_let_does_not_take_is_dropped_with_the_statement = refl
 abbrev main_match : BodyTree
 main_match = body 4 [] unit
     (n 0 unit (Block (nodes (
-    (let_ 1 (used 2 j_ty Use.Move Binding) (n 3 j_ty (Make 1 1 (fields ((0, (d 4 (pos 1))) ∷ (1, (n 6 i32 (Number (pos 4)))) ∷ [])))))
+    (let_ 1 (used 2 j_ty Use.Move a_name) (n 3 j_ty (Make 1 1 (fields ((0, (d 4 (pos 1))) ∷ (1, (n 6 i32 (Number (pos 4)))) ∷ [])))))
     ∷ [])) (present (n 7 unit (Match (used 8 j_ty Use.Borrow (Variable 2)) (nodes (
-    (n 9 unit (Arm (used 10 j_ty Use.Test (VariantPattern 1 true (fields ((0, (used 11 d_ty Use.Move Binding)) ∷ (1, (used 12 i32 Use.Copy Binding)) ∷ [])))) (present (n 13 bool (Comparison Cmp.Eq (used 14 i32 Use.Copy (Variable 12)) (n 15 i32 Ask)))) (n 16 unit (Call 1 (nodes ((used 17 d_ty Use.Move (Variable 11)) ∷ []))))))
-    ∷ (n 18 unit (Arm (used 19 j_ty Use.Test (VariantPattern 1 true (fields ((0, (n 20 d_ty Wildcard)) ∷ (1, (used 21 i32 Use.Copy Binding)) ∷ [])))) absent (n 22 unit (Print (used 23 i32 Use.Copy (Variable 21))))))
+    (n 9 unit (Arm (used 10 j_ty Use.Test (VariantPattern 1 true (fields ((0, (used 11 d_ty Use.Move a_name)) ∷ (1, (used 12 i32 Use.Copy a_name)) ∷ [])))) (present (n 13 bool (Comparison Cmp.Eq (used 14 i32 Use.Copy (Variable 12)) (n 15 i32 Ask)))) (n 16 unit (Call 1 (nodes ((used 17 d_ty Use.Move (Variable 11)) ∷ []))))))
+    ∷ (n 18 unit (Arm (used 19 j_ty Use.Test (VariantPattern 1 true (fields ((0, (n 20 d_ty Wildcard)) ∷ (1, (used 21 i32 Use.Copy a_name)) ∷ [])))) absent (n 22 unit (Print (used 23 i32 Use.Copy (Variable 21))))))
     ∷ (n 24 unit (Arm (used 25 j_ty Use.Test (VariantPattern 0 true no_field)) absent (n 26 unit (Block no_node absent))))
     ∷ [])))))))
 

@@ -8,9 +8,9 @@ use Rattle.mir_ty.specs.declared.ty.Ty.{Ty}
 use Rattle.mir_ty.specs.declared.ty.TyId.{TyId}
 use Rattle.mir_ty.specs.ItemTable.{ItemTable}
 use Rattle.typed_tree.specs.declared.node.Use.{Use}
-use Rattle.typed_tree.specs.Tree.{no_node, no_field, absent, present, Number, Comparison, Call, Make, Print, Borrow, Block, If, IfLet, Match, Arm, Wildcard, Binding, NumberPattern, VariantPattern, BodyTree, ProgramTree}
+use Rattle.typed_tree.specs.Tree.{no_node, no_field, absent, present, Number, Comparison, Call, Make, Print, Borrow, Block, If, IfLet, Match, Arm, Wildcard, NumberPattern, VariantPattern, BodyTree, ProgramTree}
 use Rattle.src_meaning.specs.Programs.{source}
-use Rattle.src_meaning.proofs.Examples.Words.{i32, unit, bool, n, used, nodes, fields, let_, stmt, body, param, ty_no, variant, enum, head}
+use Rattle.src_meaning.proofs.Examples.Words.{a_name, i32, unit, bool, n, used, nodes, fields, let_, stmt, body, param, ty_no, variant, enum, head}
 use Rattle.src_meaning.proofs.Examples.WithD.{d_ty, shared_d_ty, d, drop_d, take, with_d}
 
 abbrev j_ty : TyId
@@ -27,20 +27,20 @@ items = with_d (record {
 })
 
 abbrev g : BodyTree
-g = body 2 (param (used 0 shared_d_ty Use.Copy Binding) shared_d_ty ∷ []) i32
+g = body 2 (param (used 0 shared_d_ty Use.Copy a_name) shared_d_ty ∷ []) i32
     (n 1 i32 (Block no_node (present (n 2 i32 (Number (pos 5))))))
 
 -- fn h() -> i32 { let x = D(1); g(&D(2)) }
 abbrev h : BodyTree
 h = body 3 [] i32
-    (n 0 i32 (Block (nodes ((let_ 1 (used 2 d_ty Use.Move Binding) (d 3 (pos 1))) ∷ [])) (present (n 5 i32 (Call 2 (nodes ((n 6 shared_d_ty (Borrow false (d 7 (pos 2)))) ∷ [])))))))
+    (n 0 i32 (Block (nodes ((let_ 1 (used 2 d_ty Use.Move a_name) (d 3 (pos 1))) ∷ [])) (present (n 5 i32 (Call 2 (nodes ((n 6 shared_d_ty (Borrow false (d 7 (pos 2)))) ∷ [])))))))
 
 abbrev main_h : BodyTree
 main_h = body 4 [] unit (n 0 unit (Block (nodes ((stmt 1 (n 2 unit (Print (n 3 i32 (Call 3 no_node))))) ∷ [])) absent))
 
 -- fn j(r: &D) -> J { J::None }
 abbrev j : BodyTree
-j = body 5 (param (used 0 shared_d_ty Use.Copy Binding) shared_d_ty ∷ []) j_ty
+j = body 5 (param (used 0 shared_d_ty Use.Copy a_name) shared_d_ty ∷ []) j_ty
     (n 1 j_ty (Block no_node (present (n 2 j_ty (Make 1 0 no_field)))))
 
 abbrev tail : ProgramTree
@@ -57,7 +57,7 @@ of_a_tail_before_the_locals = refl
 -- fn main() { if let J::One(b) = j(&D(1)) { print(1); } else { print(2); } }
 abbrev main_if_let : BodyTree
 main_if_let = body 4 [] unit
-    (n 0 unit (Block no_node (present (n 1 unit (IfLet (used 2 j_ty Use.Test (VariantPattern 1 true (fields ((0, (used 3 i32 Use.Copy Binding)) ∷ [])))) (n 4 j_ty (Call 5 (nodes ((n 5 shared_d_ty (Borrow false (d 6 (pos 1)))) ∷ [])))) (n 8 unit (Block (nodes ((stmt 9 (n 10 unit (Print (n 11 i32 (Number (pos 1)))))) ∷ [])) absent)) (present (n 12 unit (Block (nodes ((stmt 13 (n 14 unit (Print (n 15 i32 (Number (pos 2)))))) ∷ [])) absent))))))))
+    (n 0 unit (Block no_node (present (n 1 unit (IfLet (used 2 j_ty Use.Test (VariantPattern 1 true (fields ((0, (used 3 i32 Use.Copy a_name)) ∷ [])))) (n 4 j_ty (Call 5 (nodes ((n 5 shared_d_ty (Borrow false (d 6 (pos 1)))) ∷ [])))) (n 8 unit (Block (nodes ((stmt 9 (n 10 unit (Print (n 11 i32 (Number (pos 1)))))) ∷ [])) absent)) (present (n 12 unit (Block (nodes ((stmt 13 (n 14 unit (Print (n 15 i32 (Number (pos 2)))))) ∷ [])) absent))))))))
 
 abbrev if_let : ProgramTree
 if_let = record { items = items; bodies = drop_d ∷ take ∷ g ∷ h ∷ main_if_let ∷ j ∷ [] }

@@ -9,9 +9,9 @@ use Rattle.mir_ty.specs.declared.ty.Ty.{Ty}
 use Rattle.mir_ty.specs.declared.ty.TyId.{TyId}
 use Rattle.mir_ty.specs.ItemTable.{ItemTable}
 use Rattle.typed_tree.specs.declared.node.Use.{Use}
-use Rattle.typed_tree.specs.Tree.{no_node, absent, present, Number, Variable, Field, Deref, Comparison, Call, VirtualCall, Make, NewBox, Print, Ask, Panic, Borrow, Unsize, Block, If, Binding, BodyTree, ProgramTree}
+use Rattle.typed_tree.specs.Tree.{no_node, absent, present, Number, Variable, Field, Deref, Comparison, Call, VirtualCall, Make, NewBox, Print, Ask, Panic, Borrow, Unsize, Block, If, BodyTree, ProgramTree}
 use Rattle.src_meaning.specs.Programs.{source}
-use Rattle.src_meaning.proofs.Examples.Words.{i32, unit, bool, never, n, used, nodes, fields, stmt, body, param, ty_no, struct, head}
+use Rattle.src_meaning.proofs.Examples.Words.{a_name, i32, unit, bool, never, n, used, nodes, fields, stmt, body, param, ty_no, struct, head}
 use Rattle.src_meaning.proofs.Examples.WithD.{d_ty, shared_d_ty, d, drop_d, take, with_d}
 
 abbrev e_ty : TyId
@@ -49,18 +49,18 @@ items = with_d (record {
 })
 
 abbrev drop_e : BodyTree
-drop_e = body 2 (param (used 0 unique_e_ty Use.Copy Binding) unique_e_ty ∷ []) unit (n 1 unit (Block no_node absent))
+drop_e = body 2 (param (used 0 unique_e_ty Use.Copy a_name) unique_e_ty ∷ []) unit (n 1 unit (Block no_node absent))
 
 -- fn show(&self) { print(self.0); }
 abbrev show_d : BodyTree
-show_d = body 3 (param (used 0 shared_d_ty Use.Copy Binding) shared_d_ty ∷ []) unit
+show_d = body 3 (param (used 0 shared_d_ty Use.Copy a_name) shared_d_ty ∷ []) unit
     (n 1 unit (Block (nodes (
     (stmt 2 (n 3 unit (Print (used 4 i32 Use.Copy (Field (n 5 d_ty (Deref (n 6 shared_d_ty (Variable 0)))) 0)))))
     ∷ [])) absent))
 
 -- fn show(&self) { print(9); }
 abbrev show_e : BodyTree
-show_e = body 4 (param (used 0 shared_e_ty Use.Copy Binding) shared_e_ty ∷ []) unit
+show_e = body 4 (param (used 0 shared_e_ty Use.Copy a_name) shared_e_ty ∷ []) unit
     (n 1 unit (Block (nodes ((stmt 2 (n 3 unit (Print (n 4 i32 (Number (pos 9)))))) ∷ [])) absent))
 
 -- fn pick() -> Box<dyn Show> { if ask() == 0 { Box::new(D(1)) } else { Box::new(E(2)) } }
@@ -70,7 +70,7 @@ pick = body 5 [] boxed_dyn_show_ty
 
 -- fn run(b: Box<dyn Show>) { b.show(); panic!(); }
 abbrev run : BodyTree
-run = body 6 (param (used 0 boxed_dyn_show_ty Use.Move Binding) boxed_dyn_show_ty ∷ []) unit
+run = body 6 (param (used 0 boxed_dyn_show_ty Use.Move a_name) boxed_dyn_show_ty ∷ []) unit
     (n 1 never (Block (nodes (
     (stmt 2 (n 3 unit (VirtualCall 0 0 (n 4 shared_dyn_show_ty (Borrow false (used 5 dyn_show_ty Use.Borrow (Deref (n 6 boxed_dyn_show_ty (Variable 0)))))) no_node)))
     ∷ (stmt 7 (n 8 never Panic))

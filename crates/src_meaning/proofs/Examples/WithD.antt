@@ -7,8 +7,8 @@ use Rattle.mir_ty.specs.declared.ty.Ty.{Ty}
 use Rattle.mir_ty.specs.declared.ty.TyId.{TyId}
 use Rattle.mir_ty.specs.ItemTable.{ItemTable}
 use Rattle.typed_tree.specs.declared.node.Use.{Use}
-use Rattle.typed_tree.specs.Tree.{Node, Number, Make, Block, Binding, no_node, absent, BodyTree}
-use Rattle.src_meaning.proofs.Examples.Words.{i32, unit, scalars, n, used, fields, body, param, ty_no, struct, head}
+use Rattle.typed_tree.specs.Tree.{Node, Number, Make, Block, no_node, absent, BodyTree}
+use Rattle.src_meaning.proofs.Examples.Words.{a_name, i32, unit, scalars, n, used, fields, body, param, ty_no, struct, head}
 
 abbrev pub d_ty : TyId
 d_ty = ty_no 4
@@ -32,7 +32,7 @@ abbrev pub d : ℕ → ℤ → Node
 d id number = n id d_ty (Make 0 0 (fields ((0, n (id + 1) i32 (Number number)) ∷ [])))
 
 abbrev pub drop_d : BodyTree
-drop_d = body 0 (param (used 0 unique_d_ty Use.Copy Binding) unique_d_ty ∷ []) unit (n 1 unit (Block no_node absent))
+drop_d = body 0 (param (used 0 unique_d_ty Use.Copy a_name) unique_d_ty ∷ []) unit (n 1 unit (Block no_node absent))
 
 abbrev pub take : BodyTree
-take = body 1 (param (used 0 d_ty Use.Move Binding) d_ty ∷ []) unit (n 1 unit (Block no_node absent))
+take = body 1 (param (used 0 d_ty Use.Move a_name) d_ty ∷ []) unit (n 1 unit (Block no_node absent))

@@ -8,7 +8,7 @@ use Rattle.mir_base.specs.declared.int_kind.IntKind.{IntKind}
 use Rattle.mir_ty.specs.declared.ty.Ty.{Ty}
 use Rattle.mir_ty.specs.declared.ty.TyId.{TyId}
 use Rattle.typed_tree.specs.declared.node.Use.{Use}
-use Rattle.typed_tree.specs.Tree.{Node, node, Form, Nodes, no_node, a_node, Fields, no_field, a_field, present, Let, Evaluate, ParamTree, BodyTree}
+use Rattle.typed_tree.specs.Tree.{Node, node, Form, Nodes, no_node, a_node, Fields, no_field, a_field, present, Let, Evaluate, Binding, ParamTree, BodyTree}
 
 -- The examples have no text, so all nodes stand at one place.
 abbrev here : Pos
@@ -19,6 +19,10 @@ n id ty form = node id here ty None form
 
 abbrev pub used : ℕ → TyId → Use → Form → Node
 used id ty by form = node id here ty (Some by) form
+
+-- a name as a pattern; the examples print none
+abbrev pub a_name : Form
+a_name = Binding (codes "x")
 
 abbrev pub param : Node → TyId → ParamTree
 param pattern ty = record { pattern = pattern; ty = ty }

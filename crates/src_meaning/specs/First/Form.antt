@@ -106,7 +106,8 @@ abbrev pub later_line : List ℕ
 later_line = line (codes "refused: T20 Later at 1:1")
 
 abbrev pub unknown_line : List ℕ → ℕ → List ℕ
-unknown_line text place = line (codes "refused: T01 UnknownName" ++ at_line_and_column (line_and_column (take place text)))
+unknown_line text place =
+    line (codes "refused: T01 UnknownName" ++ at_line_and_column (line_and_column (take place text)))
 
 abbrev pub status_of : End → ℕ
 status_of End.Returned = 0

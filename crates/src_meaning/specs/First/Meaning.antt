@@ -149,7 +149,8 @@ module _ (p : Program) (enter : Enters) where
 abbrev pub entering : Program → ℕ → Enters
 entering p zero event body block w = Stops w
 entering p (suc n) event body block w =
-    ticking w w.ticks (λ w. and_then (run_block p (entering p n) block (telling event w)) (λ w. Goes (telling (Event.Return body) w)))
+    ticking w w.ticks
+    (λ w. and_then (run_block p (entering p n) block (telling event w)) (λ w. Goes (telling (Event.Return body) w)))
 
 abbrev pub beginning : ℕ → World
 beginning ticks = record { ticks = ticks; serial = 1; trace = [] }
@@ -169,4 +170,5 @@ end_of (Stops w) = End.OutOfTicks
 -- the text that a run prints
 abbrev pub text_of_run : Program → Outcome → List ℕ
 text_of_run p run =
-    text_of (λ n. at_item [] body_name (slice_get p n)) (λ n. at_item [] item_name (slice_get p n)) (trace_of run) (end_of run)
+    text_of (λ n. at_item [] body_name (slice_get p n)) (λ n. at_item [] item_name (slice_get p n)) (trace_of run)
+    (end_of run)

@@ -87,11 +87,13 @@ Writes (Counts number) piece = (number ≡ pos (number_value piece)) × IsTrue (
 abbrev mutual
   pub statement_tokens : Statement → List Token
   statement_tokens (Let variable struct_name number) =
-      Reads Fixed.Let ∷ Gives variable ∷ Reads Fixed.Equals ∷ NamesStruct struct_name ∷ Reads Fixed.OpenParenthesis ∷ Counts number ∷ Reads Fixed.CloseParenthesis ∷ Reads Fixed.Semicolon ∷ []
+      Reads Fixed.Let ∷ Gives variable ∷ Reads Fixed.Equals ∷ NamesStruct struct_name ∷ Reads Fixed.OpenParenthesis
+      ∷ Counts number ∷ Reads Fixed.CloseParenthesis ∷ Reads Fixed.Semicolon ∷ []
   statement_tokens (Call function) =
       NamesFunction function ∷ Reads Fixed.OpenParenthesis ∷ Reads Fixed.CloseParenthesis ∷ Reads Fixed.Semicolon ∷ []
   statement_tokens (Print number) =
-      Reads Fixed.Print ∷ Reads Fixed.OpenParenthesis ∷ Counts number ∷ Reads Fixed.CloseParenthesis ∷ Reads Fixed.Semicolon ∷ []
+      Reads Fixed.Print ∷ Reads Fixed.OpenParenthesis ∷ Counts number ∷ Reads Fixed.CloseParenthesis
+      ∷ Reads Fixed.Semicolon ∷ []
   statement_tokens (Inner block) = Reads Fixed.OpenBrace ∷ (statements_tokens block ++ Reads Fixed.CloseBrace ∷ [])
 
   pub statements_tokens : Block → List Token
@@ -103,12 +105,15 @@ block_tokens b = Reads Fixed.OpenBrace ∷ (statements_tokens b ++ Reads Fixed.C
 
 abbrev pub struct_tokens : List ℕ → List Token
 struct_tokens name =
-    Reads Fixed.Struct ∷ Gives name ∷ Reads Fixed.OpenParenthesis ∷ Reads Fixed.I32 ∷ Reads Fixed.CloseParenthesis ∷ Reads Fixed.Semicolon ∷ []
+    Reads Fixed.Struct ∷ Gives name ∷ Reads Fixed.OpenParenthesis ∷ Reads Fixed.I32 ∷ Reads Fixed.CloseParenthesis
+    ∷ Reads Fixed.Semicolon ∷ []
 
 -- `impl Drop for NAME { fn drop(&mut self)`
 abbrev pub drop_head_tokens : List ℕ → List Token
 drop_head_tokens name =
-    Reads Fixed.Impl ∷ Reads Fixed.DropTrait ∷ Reads Fixed.For ∷ Gives name ∷ Reads Fixed.OpenBrace ∷ Reads Fixed.Fn ∷ Reads Fixed.DropMethod ∷ Reads Fixed.OpenParenthesis ∷ Reads Fixed.Ampersand ∷ Reads Fixed.Mut ∷ Reads Fixed.SelfWord ∷ Reads Fixed.CloseParenthesis ∷ []
+    Reads Fixed.Impl ∷ Reads Fixed.DropTrait ∷ Reads Fixed.For ∷ Gives name ∷ Reads Fixed.OpenBrace ∷ Reads Fixed.Fn
+    ∷ Reads Fixed.DropMethod ∷ Reads Fixed.OpenParenthesis ∷ Reads Fixed.Ampersand ∷ Reads Fixed.Mut
+    ∷ Reads Fixed.SelfWord ∷ Reads Fixed.CloseParenthesis ∷ []
 
 -- `fn NAME()`
 abbrev pub function_head_tokens : List ℕ → List Token

@@ -1,6 +1,6 @@
 use Rattle.std.proofs.Common.{None}
 use Rattle.typed_tree.proofs.ViewLemmas.{let_numbers}
-use Rattle.typed_tree.proofs.tests.statement.Goals as goal
+use Rattle.layer_tests.proofs.trees.statement.Goals as goal
 
 pub returns : goal.returns
 returns c =

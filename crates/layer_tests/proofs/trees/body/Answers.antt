@@ -1,8 +1,8 @@
 use Rattle.std.proofs.Common.{◌≡◌, [], ◌∷◌, map, append-nil}
 use Rattle.typed_tree.specs.Nodes.{number_of, nodes_of, param_nodes}
 use Rattle.typed_tree.specs.View.{tree_of, param_tree}
-use Rattle.typed_tree.proofs.SampleLemmas.{first_seven-distinct, numbers_joined}
-use Rattle.typed_tree.proofs.tests.body.Goals as goal
+use Rattle.layer_tests.proofs.Sample.{first_seven-distinct, numbers_joined}
+use Rattle.layer_tests.proofs.trees.body.Goals as goal
 
 pub returns : goal.returns
 returns c =

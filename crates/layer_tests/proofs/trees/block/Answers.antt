@@ -1,6 +1,6 @@
 use Rattle.std.proofs.Common.{◌≡◌, [], ◌∷◌, None, rules}
 use Rattle.typed_tree.proofs.ViewLemmas.{block_numbers}
-use Rattle.typed_tree.proofs.tests.block.Goals as goal
+use Rattle.layer_tests.proofs.trees.block.Goals as goal
 
 pub returns : goal.returns
 returns c =

@@ -3,8 +3,8 @@ ghost use Rattle.std.specs.Prelude.{◌≡◌, [], ◌∷◌, ◌++◌, IfOk, ma
 ghost use Rattle.typed_tree.specs.View.{tree_of, body_of};
 ghost use Rattle.typed_tree.specs.Nodes.{number_of, nodes_of, HasDistinctNumbers};
 
-use crate::{Form, Node, Param, TBody, Use, law_numbers_in_order, node_at};
-use mir_base::{Key, List, NoMemory, NodeId, Pos};
+use typed_tree::{Form, Node, Param, TBody, Use, law_numbers_in_order, node_at};
+use mir_base::{Key, List, Name, NoMemory, NodeId, Pos};
 use mir_ty::TyId;
 use std::alloc::Global;
 use std::test::Fail;
@@ -15,16 +15,16 @@ const UNIT: TyId = TyId(1);
 
 // The nodes of `fn f(x: i32) -> i32 { let y = g(x); y }`, each with its number and its column.
 
-fn binding(id: u32, col: u32) -> Node
-    ensures { map number_of (nodes_of (tree_of result)) ≡ id ∷ [] }
+fn binding(alloc: Global, id: u32, col: u32, name: &str) -> Result<Node, NoMemory>
+    ensures { IfOk result (λ made. map number_of (nodes_of (tree_of made)) ≡ id ∷ []) }
 {
-    Node {
+    Ok(Node {
         id: NodeId(id),
         at: Pos { line: 1, col },
         ty: I32,
         by: None,
-        form: Form::Binding,
-    }
+        form: Form::Binding(Name::from_str(alloc, name)?),
+    })
 }
 
 fn variable(id: u32, col: u32, entry: u32) -> Node
@@ -101,11 +101,12 @@ fn body(alloc: Global) -> Result<TBody, NoMemory>
 {
     let mut params = List::new(alloc);
     params.push(Param {
-        pattern: binding(0, 6),
+        pattern: binding(alloc, 0, 6, "x")?,
         ty: I32,
     })?;
     let initialiser = call(alloc, 4, 31, variable(5, 33, 0))?;
-    let first = statement(alloc, 2, 23, binding(3, 27), initialiser)?;
+    let name = binding(alloc, 3, 27, "y")?;
+    let first = statement(alloc, 2, 23, name, initialiser)?;
     let block = block(alloc, 1, 21, first, variable(6, 37, 3))?;
     Ok(TBody {
         number: 0,
