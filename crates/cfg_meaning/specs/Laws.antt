@@ -1,9 +1,10 @@
--- The laws of walks. The bounds by which a walk is defined are never met, so it is one equation without them.
-use Rattle.std.specs.Prelude.{◌≡◌, ℕ, suc, ◌<◌, ◌≤◌, Bool, List, length, Option}
+-- The laws of walks and runs. The bounds by which a walk is defined are never met, so it is one equation without them;
+-- and a run does not change what it did by one tick more.
+use Rattle.std.specs.Prelude.{◌≡◌, ℕ, suc, ◌<◌, ◌≤◌, ℤ, Bool, List, length, Option}
 use Rattle.cfg_graph.specs.declared.graph.Body.{Body}
 use Rattle.cfg_graph.specs.declared.graph.Graph.{Graph}
 use Rattle.cfg_graph.specs.Edges.{IsRanked}
-use Rattle.cfg_meaning.specs.Programs.{setting_of, code_of}
+use Rattle.cfg_meaning.specs.Programs.{setting_of, code_of, graph_run, raw_graph_run}
 use Rattle.cfg_meaning.specs.Walk.{entered, walk}
 use Rattle.mir_base.specs.declared.trace.Event.{Event}
 use Rattle.mir_ty.specs.declared.ty.TyId.{TyId}
@@ -11,7 +12,7 @@ use Rattle.mir_ty.specs.ItemTable.{ItemTable}
 use Rattle.store_model.specs.Acting.{on_values}
 use Rattle.store_model.specs.Data.{Datum}
 use Rattle.store_model.specs.Effects.{Effects}
-use Rattle.store_model.specs.Entering.{run_body}
+use Rattle.store_model.specs.Entering.{run_body, GoesOnFrom}
 use Rattle.store_model.specs.Free.{Free, on_presence}
 use Rattle.store_model.specs.World.{World, Bodies}
 
@@ -65,3 +66,13 @@ abbrev pub GraphRunHasNoBound : Type 0
 GraphRunHasNoBound =
     (strict : Bool) (graph : Graph) (n m : ℕ) (event : Event) (body : ℕ) (args : List Datum) (w : World) →
     w.ticks ≤ n → w.ticks ≤ m → bodies_of strict graph n event body args w ≡ bodies_of strict graph m event body args w
+
+-- a run that is not out of ticks is the same with one tick more, and otherwise it goes on from the same events
+abbrev pub GraphRunGoesOn : Type 0
+GraphRunGoesOn =
+    (graph : Graph) (asked : List ℤ) (ticks : ℕ) → GoesOnFrom (graph_run graph asked ticks) (graph_run graph asked (suc ticks))
+
+abbrev pub RawGraphRunGoesOn : Type 0
+RawGraphRunGoesOn =
+    (graph : Graph) (asked : List ℤ) (ticks : ℕ) →
+    GoesOnFrom (raw_graph_run graph asked ticks) (raw_graph_run graph asked (suc ticks))

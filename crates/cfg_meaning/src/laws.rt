@@ -2,7 +2,9 @@
 ghost use Rattle.cfg_meaning.specs.Laws.{
   FreeWalkHasNoBound,
   FreeWalkIsOneEquation,
+  GraphRunGoesOn,
   GraphRunHasNoBound,
+  RawGraphRunGoesOn,
   WalkHasNoBound,
   WalkIsOneEquation,
 };
@@ -16,4 +18,11 @@ pub fn law_of_walks()
     ensures free { FreeWalkIsOneEquation }
     ensures free_bound { FreeWalkHasNoBound }
     ensures nested { GraphRunHasNoBound }
+{}
+
+/// One tick more changes nothing of what was done: a strict or raw run that is not out of ticks is the same, and
+/// otherwise its trace is a prefix of the one with a tick more.
+pub fn law_of_ticks()
+    ensures strict { GraphRunGoesOn }
+    ensures raw { RawGraphRunGoesOn }
 {}

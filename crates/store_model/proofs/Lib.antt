@@ -6,7 +6,9 @@ pub mod Agreement
 pub mod EffectLaws
 pub mod Following
 pub mod FreeEffects
+pub mod MoreTicks
 pub mod NeverStores
+pub mod OneTickMore
 pub mod PartLaws
 pub mod PlaceLaws
 pub mod PlaceSteps

@@ -1,6 +1,6 @@
 -- How a body is entered and left, and the run of a whole program: the same for the source and for a graph, whatever
 -- is done within a body (The Rust Reference, "Functions"; "Destructors").
-use Rattle.std.specs.Prelude.{ℕ, zero, suc, ℤ, List, [], ◌∷◌, position, nat_eq, codes}
+use Rattle.std.specs.Prelude.{◌≡◌, ℕ, zero, suc, ℤ, List, [], ◌∷◌, ◌++◌, position, nat_eq, codes}
 use Rattle.std.specs.Cmp.Lexicographic.{pointwise}
 use Rattle.std.specs.Option.{option_map_or}
 use Rattle.mir_base.specs.declared.trace.End.{End}
@@ -58,6 +58,12 @@ abbrev pub told_by : Answer → Trace × End
 told_by (Returns value w) = (w.trace, End.Returned)
 told_by (Unwinds w) = (w.trace, End.Panicked)
 told_by (HaltsIn halt w) = (w.trace, end_of_halt halt)
+
+-- What a run tells later goes on from what it told before: it is the same, but that a run which was out of ticks may
+-- have told more.
+abbrev pub GoesOnFrom : Trace × End → Trace × End → Type 0
+GoesOnFrom (before, End.OutOfTicks) after = (later : Trace) × (after.0 ≡ before ++ later)
+GoesOnFrom before after = after ≡ before
 
 -- the body with the name `main`
 abbrev pub main_of : ItemTable → ℕ
