@@ -4,3 +4,4 @@ pub mod ProgramsFollow
 pub mod RunLaws
 pub mod RunsFollow
 pub mod TestLaws
+pub mod TickLaws

@@ -4,7 +4,7 @@ use Rattle.std.specs.Option.{option_map_or}
 use Rattle.mir_ty.specs.ItemTable.{ItemTable}
 use Rattle.store_model.proofs.Agreement.{agreement, same_out, no_more, effects_agree, bounds_agree, tied_itself}
 use Rattle.store_model.proofs.EffectLaws.{NoMore, Laws, Tied, weaker}
-use Rattle.store_model.proofs.Following.{Relation, FollowsOut, FollowsEffects, Bounds, one_bound}
+use Rattle.store_model.proofs.Following.{Relation, FollowsOut, FollowsEffects, Bounds, one_bound, FollowsOuts, ends}
 use Rattle.store_model.proofs.FreeEffects.{items_of, free_laws}
 use Rattle.store_model.proofs.ValuesEffects.{ticks_of, KeepsTicks, TiesTicks, bodies_agree}
 use Rattle.store_model.specs.Effects.{NoStep, Out, Halts, Effects}
@@ -71,3 +71,18 @@ program_ties program p q laws m tied turns turns' number h h' w l =
 
 pub run_same : RunHasNoBound
 run_same program = bodies_agree (setting_of program) (code_of program) (program_keeps program) (program_ties program)
+
+-- What is done within a body follows itself, over effects that follow one another, whatever relates them.
+
+if_body_follows : {V : Type 0} (rel : Relation World V) (o : Option BodyTree) (f : BodyTree → World → Out World) (f' : BodyTree → V → Out V) →
+    ((body : BodyTree) → FollowsOuts rel (f body) (f' body)) →
+    FollowsOuts rel (λ w. option_map_or (λ body. f body w) o (Halts NoStep w)) (λ v. option_map_or (λ body. f' body v) o (Halts NoStep v))
+if_body_follows rel None f f' e n w c k = ends rel n NoStep w c k
+if_body_follows rel (Some body) f f' e n w c k = e body n w c k
+
+pub within_follows : (program : ProgramTree) (rel : Relation World World) (p q : Effects World) → FollowsEffects rel p q → (turns number : ℕ) →
+    FollowsOuts rel ((code_of program).within p turns number) ((code_of program).within q turns number)
+within_follows program rel p q follow turns number =
+    if_body_follows rel (slice_get program.bodies number) (within_body program.items p turns) (within_body program.items q turns)
+    (λ body. activation_follow rel program.items (at_locals (local_of program.items body) p) (at_locals (local_of program.items body) q)
+    (located rel (local_of program.items body) p q follow) turns turns (one_bound turns) body)

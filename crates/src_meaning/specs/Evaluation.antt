@@ -94,8 +94,8 @@ module _ {W : Type 0} (items : ItemTable) (p : Effects W) (most_turns : ℕ) whe
   -- an action without an answer gives `()`
   abbrev pub unit_after : Head → Action → Destination → Does W
   unit_after h action to = do
-      forms.acts items p action
-      forms.put_unit items p h to
+    forms.acts items p action
+    forms.put_unit items p h to
 
   abbrev pub gives_unit : Head → Shape → Meaning W → (Operand → Action) → Meaning W
   gives_unit h s m action =

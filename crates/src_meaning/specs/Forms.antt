@@ -103,8 +103,8 @@ module _ {W : Type 0} (items : ItemTable) (p : Effects W) where
   abbrev pub deliver : Head → (Site → Action) → Destination → Does W
   deliver h action (Into key) = acts (action (site_in h.id key))
   deliver h action (Coerced key trait_no to) = do
-      acts (action (site_in h.id key))
-      acts (Unsize (site_in h.id to) trait_no (moved h.id key))
+    acts (action (site_in h.id key))
+    acts (Unsize (site_in h.id to) trait_no (moved h.id key))
 
   abbrev pub put_unit : Head → Destination → Does W
   put_unit h to = deliver h (λ site. Put site UnitValue) to
@@ -133,9 +133,9 @@ module _ {W : Type 0} (items : ItemTable) (p : Effects W) where
   -- an operand is made, and becomes an entry of the innermost scope
   abbrev pub operand : Around → Meaning W → Does W
   operand around m = do
-      pending_if m.shape.in_destination innermost m.head
-      m.evaluate around false (Into m.head.id)
-      complete innermost m.head
+    pending_if m.shape.in_destination innermost m.head
+    m.evaluate around false (Into m.head.id)
+    complete innermost m.head
 
   abbrev pub operands : Around → List (Meaning W) → Does W
   operands around [] = At Value
@@ -148,29 +148,29 @@ module _ {W : Type 0} (items : ItemTable) (p : Effects W) where
   -- a form with operands: they are made in order in its scope, and all taken at once as it acts
   abbrev pub acting : Head → Around → Bool → List (Meaning W) → Does W → Does W
   acting h around own ms act = in_scope items p h.id own do
-      operands around ms
-      take (keys_of ms)
-      act
+    operands around ms
+    take (keys_of ms)
+    act
 
   -- `drop(e)` leaves its operand in the scope, which drops it
   abbrev pub dropping : Head → Around → Bool → Meaning W → Does W → Does W
   dropping h around own m act = in_scope items p h.id own do
-      operand around m
-      act
+    operand around m
+    act
 
   -- Places.
 
   -- a value in the place of a place becomes an entry of the nearest scope for temporaries
   abbrev pub temporary : Head → Shape → (Around → Bool → Destination → Does W) → Around → Does W
   temporary h shape evaluate around = do
-      pending_if shape.in_destination nearest_temporary h
-      evaluate around false (Into h.id)
-      complete nearest_temporary h
+    pending_if shape.in_destination nearest_temporary h
+    evaluate around false (Into h.id)
+    complete nearest_temporary h
 
   abbrev pub use_of_place : Head → Shape → (Around → Does W) → Around → Bool → Destination → Does W
   use_of_place h shape reach around own to = in_own_scope h own do
-      reach around
-      deliver h (λ site. Put site (operand_at h (shape.place around.aliases))) to
+    reach around
+    deliver h (λ site. Put site (operand_at h (shape.place around.aliases))) to
 
   abbrev pub array_around : Place → Place
   array_around place = record place { steps = before_element place.steps }
@@ -178,22 +178,22 @@ module _ {W : Type 0} (items : ItemTable) (p : Effects W) where
   -- the base, then the index, then the whole array is borrowed and the bounds are checked
   abbrev pub reach_element : Head → Shape → Meaning W → Meaning W → ℕ → Around → Does W
   reach_element h shape base index length around = do
-      base.reach around
-      index.evaluate around false (Into index.head.id)
-      acts (Touch (site_at h (array_around (shape.place around.aliases))))
-      acts (Bounds (Copied (site_of_key index.head.id)) length)
+    base.reach around
+    index.evaluate around false (Into index.head.id)
+    acts (Touch (site_at h (array_around (shape.place around.aliases))))
+    acts (Bounds (Copied (site_of_key index.head.id)) length)
 
   abbrev pub borrowing : Head → Bool → Meaning W → Around → Bool → Destination → Does W
   borrowing h unique base around own to = in_own_scope h own do
-      base.reach around
-      deliver h (λ site. Borrow (record site { node = base.head.id }) unique (site_of base around)) to
+    base.reach around
+    deliver h (λ site. Borrow (record site { node = base.head.id }) unique (site_of base around)) to
 
   -- Assignment.
 
   abbrev pub stored : Site → ℕ → Does W
   stored site key = do
-      take (key ∷ [])
-      acts (Put site (moved site.node key))
+    take (key ∷ [])
+    acts (Put site (moved site.node key))
 
   -- the value is stored, also where the drop of what the place held panics
   abbrev pub stored_after : Site → ℕ → Scopes → Out W → Run W
@@ -211,18 +211,18 @@ module _ {W : Type 0} (items : ItemTable) (p : Effects W) where
 
   abbrev pub assigning : Head → Meaning W → Meaning W → Around → Bool → Destination → Does W
   assigning h place value around own to = in_scope items p h.id own do
-      operand around value
-      place.reach around
-      replacing (needs_drop items place.head.ty) (site_of place around) value.head.id
-      put_unit h to
+    operand around value
+    place.reach around
+    replacing (needs_drop items place.head.ty) (site_of place around) value.head.id
+    put_unit h to
 
   -- Conditions and branches.
 
   -- a condition is a scope for its temporaries, which is left before the branch
   abbrev pub condition : Around → Meaning W → Does W → Does W → Does W
   condition around m yes_does no_does = do
-      alone around m (Into m.head.id)
-      choosing (p.choose (IsTrue (moved m.head.id m.head.id))) yes_does no_does
+    alone around m (Into m.head.id)
+    choosing (p.choose (IsTrue (moved m.head.id m.head.id))) yes_does no_does
 
   abbrev pub branch : Around → Destination → Option (Meaning W) → Does W → Does W
   branch around to None without = without
@@ -267,9 +267,9 @@ module _ {W : Type 0} (items : ItemTable) (p : Effects W) where
   abbrev pub bind : ((Scope → Scope) → Scopes → Scopes) → List Bound → Does W
   bind in_that [] = At Value
   bind in_that (b ∷ bounds) = do
-      acts (Put (site_of_key b.key) (operand_of_bound b))
-      changing (in_that (with_entry (bound_entry b)))
-      bind in_that bounds
+    acts (Put (site_of_key b.key) (operand_of_bound b))
+    changing (in_that (with_entry (bound_entry b)))
+    bind in_that bounds
 
   abbrev pub touched : Bool → Site → Does W
   touched true site = acts (Touch site)
@@ -278,8 +278,8 @@ module _ {W : Type 0} (items : ItemTable) (p : Effects W) where
   -- a scrutinee is a place, which is borrowed whole before the first test, or a temporary
   abbrev pub scrutinised : Around → Meaning W → Does W
   scrutinised around m = do
-      m.reach around
-      touched m.shape.is_place (site_of m around)
+    m.reach around
+    touched m.shape.is_place (site_of m around)
 
   -- `if let`, and a turn of `while let`: scrutinee, names and body are in one scope, which is left before what happens
   -- where the pattern does not take the scrutinee
@@ -300,14 +300,14 @@ module _ {W : Type 0} (items : ItemTable) (p : Effects W) where
 
   abbrev pub matching : Head → Meaning W → List (Meaning W) → Around → Bool → Destination → Does W
   matching h scrutinee arms around own to = in_own_scope h own do
-      scrutinised around scrutinee
-      arms_in_order arms (place_of scrutinee around) around to
+    scrutinised around scrutinee
+    arms_in_order arms (place_of scrutinee around) around to
 
   -- an arm that is taken: its names are entries of the arm, and its body is a scope for temporaries
   abbrev pub taken_arm : Head → Around → List Bound → Meaning W → Destination → Does W
   taken_arm h around bounds body to = in_scope items p h.id false do
-      bind innermost bounds
-      alone around body to
+    bind innermost bounds
+    alone around body to
 
   abbrev pub guarded : Around → List Bound → Option (Meaning W) → Does W → Does W → Does W
   guarded around bounds None taken otherwise = taken
@@ -327,8 +327,8 @@ module _ {W : Type 0} (items : ItemTable) (p : Effects W) where
   abbrev pub statements : Around → List (Meaning W) → Does W
   statements around [] = At Value
   statements around (m ∷ ms) = do
-      m.evaluate around false (Into m.head.id)
-      statements around ms
+    m.evaluate around false (Into m.head.id)
+    statements around ms
 
   abbrev pub tail_of : Head → Option (Meaning W) → Around → Destination → Does W
   tail_of h None around to = put_unit_if (is_never items h.ty) h to
@@ -337,30 +337,30 @@ module _ {W : Type 0} (items : ItemTable) (p : Effects W) where
   -- a block is a scope, and its tail one for temporaries
   abbrev pub block : Head → List (Meaning W) → Option (Meaning W) → Around → Bool → Destination → Does W
   block h ms tail around own to = in_scope items p h.id own do
-      statements around ms
-      tail_of h tail around to
+    statements around ms
+    tail_of h tail around to
 
   -- the value of an expression statement is an entry of the statement's scope
   abbrev pub evaluating : Head → Meaning W → Around → Does W
   evaluating h m around = in_scope items p h.id true do
-      pending_if true innermost m.head
-      m.evaluate around false (Into m.head.id)
-      complete innermost m.head
+    pending_if true innermost m.head
+    m.evaluate around false (Into m.head.id)
+    complete innermost m.head
 
   -- `let` of one name: the value is pending in the statement's scope, and then the youngest entry of the block
   abbrev pub let_name : Head → Head → Meaning W → Around → Does W
   let_name h x m around = in_scope items p h.id true do
-      pending_if true innermost x
-      m.evaluate around false (Into x.id)
-      changing (innermost (without_pending (entry_of x)))
-      changing (around_innermost (with_entry (entry_of x)))
+    pending_if true innermost x
+    m.evaluate around false (Into x.id)
+    changing (innermost (without_pending (entry_of x)))
+    changing (around_innermost (with_entry (entry_of x)))
 
   -- `let` of another pattern: from a place, or from a temporary of the statement, which is pending until it is complete
   abbrev pub let_parts : Head → Meaning W → Meaning W → Around → Does W
   let_parts h pattern m around = in_scope items p h.id true do
-      pending_if (not (m.shape.is_place || m.shape.in_destination)) innermost m.head
-      m.reach around
-      bind around_innermost (pattern.shape.bindings (place_of m around))
+    pending_if (not (m.shape.is_place || m.shape.in_destination)) innermost m.head
+    m.reach around
+    bind around_innermost (pattern.shape.bindings (place_of m around))
 
   -- one whose type needs dropping is gone already, since it is new or was dropped with its scope; another may hold the
   -- value of the turn of a loop before
@@ -372,9 +372,9 @@ module _ {W : Type 0} (items : ItemTable) (p : Effects W) where
   abbrev pub declared : List Bound → Does W
   declared [] = At Value
   declared (b ∷ bounds) = do
-      emptied (needs_drop items b.ty) b.key
-      changing (innermost (with_entry (bound_entry b)))
-      declared bounds
+    emptied (needs_drop items b.ty) b.key
+    changing (innermost (with_entry (bound_entry b)))
+    declared bounds
 
   abbrev pub let_value : Bool → Head → Meaning W → Meaning W → Around → Does W
   let_value true h pattern m = let_name h pattern.head m
@@ -407,8 +407,8 @@ module _ {W : Type 0} (items : ItemTable) (p : Effects W) where
   -- the end of a loop with a condition
   abbrev pub ends_loop : Head → Destination → Does W
   ends_loop h to = do
-      put_unit h to
-      At (Breaks h.id)
+    put_unit h to
+    At (Breaks h.id)
 
   abbrev pub value_of_jump : Head → Option (Meaning W) → Around → Destination → Does W
   value_of_jump h None around to = put_unit h to
@@ -416,5 +416,5 @@ module _ {W : Type 0} (items : ItemTable) (p : Effects W) where
 
   abbrev pub jumping : Exit → Head → Option (Meaning W) → Around → Destination → Does W
   jumping exit h m around to = do
-      value_of_jump h m around to
-      At exit
+    value_of_jump h m around to
+    At exit

@@ -1,17 +1,17 @@
 -- The laws of runs of a source. The bounds by which a run is defined are never met, so its meaning is that of the rules
 -- alone (The Rust Reference, "Loop expressions", "Call expressions").
-use Rattle.std.specs.Prelude.{◌≡◌, ℕ, ◌<◌, ◌≤◌, List, length, Option}
+use Rattle.std.specs.Prelude.{◌≡◌, ℕ, suc, ℤ, ◌<◌, ◌≤◌, List, length, Option}
 use Rattle.mir_base.specs.declared.trace.Event.{Event}
 use Rattle.mir_ty.specs.declared.ty.TyId.{TyId}
 use Rattle.mir_ty.specs.ItemTable.{ItemTable}
 use Rattle.store_model.specs.Data.{Datum}
-use Rattle.store_model.specs.Entering.{run_body}
+use Rattle.store_model.specs.Entering.{run_body, GoesOnFrom}
 use Rattle.store_model.specs.Free.{Free, on_presence}
 use Rattle.store_model.specs.World.{World}
 use Rattle.typed_tree.specs.Tree.{BodyTree, ProgramTree}
 use Rattle.src_meaning.specs.AtLocals.{at_locals}
 use Rattle.src_meaning.specs.Locals.{local_of}
-use Rattle.src_meaning.specs.Programs.{activation, setting_of, code_of}
+use Rattle.src_meaning.specs.Programs.{activation, setting_of, code_of, source}
 
 -- two bounds on the turns of loops that are greater than the number of items give the same free run of a body
 abbrev pub FreeRunHasNoBound : Type 0
@@ -27,3 +27,8 @@ RunHasNoBound = (program : ProgramTree) (n m : ℕ) (event : Event) (body : ℕ)
     w.ticks ≤ n → w.ticks ≤ m →
     run_body (setting_of program) (code_of program) n event body args w
     ≡ run_body (setting_of program) (code_of program) m event body args w
+
+-- A run that is not out of ticks is the same with one tick more; otherwise its trace is a prefix of that one's.
+abbrev pub SourceRunGoesOn : Type 0
+SourceRunGoesOn = (program : ProgramTree) (asked : List ℤ) (ticks : ℕ) →
+    GoesOnFrom (source program asked ticks) (source program asked (suc ticks))

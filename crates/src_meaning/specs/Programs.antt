@@ -32,10 +32,10 @@ module _ {W : Type 0} (items : ItemTable) (p : Effects W) (most_turns : ℕ) whe
   abbrev pub params_entered : List ParamTree → Does W
   params_entered [] = At Value
   params_entered (param ∷ params) = do
-      changing (innermost (with_entry (record { key = param_key param; ty = param.ty })))
-      names_of_param (shape items param.pattern).is_binding
+    changing (innermost (with_entry (record { key = param_key param; ty = param.ty })))
+    names_of_param (shape items param.pattern).is_binding
         ((shape items param.pattern).bindings (whole_local (param_key param)))
-      params_entered params
+    params_entered params
 
   -- what is left when a panic has left all scopes is dropped as it unwinds further
   abbrev pub unwinds : List Entry → W → Out W
@@ -61,8 +61,8 @@ module _ {W : Type 0} (items : ItemTable) (p : Effects W) (most_turns : ℕ) whe
   -- the entire function: the parameters, and the block into the result
   abbrev pub entire_function : BodyTree → Does W
   entire_function body = in_scope items p (answer_key body) true do
-      params_entered body.params
-      (meaning items p most_turns body.block).evaluate (around_body body) false (Into (answer_key body))
+    params_entered body.params
+    (meaning items p most_turns body.block).evaluate (around_body body) false (Into (answer_key body))
 
   -- a body within its activation, until all scopes are left
   abbrev pub activation : BodyTree → W → Out W

@@ -1,5 +1,5 @@
 //! The laws of the source's meaning. Each is a clause of a function without parameters.
-ghost use Rattle.src_meaning.specs.Laws.{FreeRunHasNoBound, RunHasNoBound};
+ghost use Rattle.src_meaning.specs.Laws.{FreeRunHasNoBound, RunHasNoBound, SourceRunGoesOn};
 ghost use Rattle.src_meaning.specs.Takes.{TestsHoldWhereTaken};
 
 /// The bounds by which a run is defined are never met: with no more ticks than the bounds on nesting, or
@@ -13,4 +13,10 @@ pub fn law_of_runs()
 /// effects that answer each single test by what stands there.
 pub fn law_of_tests()
     ensures { TestsHoldWhereTaken }
+{}
+
+/// One tick more changes nothing of what was done: a run that is not out of ticks is the same, and otherwise
+/// its trace is a prefix of the one with a tick more.
+pub fn law_of_ticks()
+    ensures { SourceRunGoesOn }
 {}

@@ -9,4 +9,4 @@ mod first;
 mod laws;
 
 pub use first::{First, FirstBlock, FirstItem, FirstStmt, Fixed, RESERVED_WORDS, Token};
-pub use laws::{law_of_runs, law_of_tests};
+pub use laws::{law_of_runs, law_of_tests, law_of_ticks};

@@ -32,7 +32,7 @@ with_presence key change (c ∷ cells) =
 -- copied, moved, borrowed or read as a whole: no place at or below it is gone, and no container of it
 abbrev pub may_use : Watched → Presence → Bool
 may_use w p = elim w.reach [
-  Whole ↦ is_whole_at w.steps p
+  | Whole ↦ is_whole_at w.steps p
   | ThroughReference ↦ is_there_at w.steps p
   | ByElement ↦ is_whole_at w.steps p
 ]
@@ -40,7 +40,7 @@ may_use w p = elim w.reach [
 -- tested: neither the place itself is gone nor a container of it
 abbrev pub may_test : Watched → Presence → Bool
 may_test w p = elim w.reach [
-  Whole ↦ is_there_at w.steps p
+  | Whole ↦ is_there_at w.steps p
   | ThroughReference ↦ is_there_at w.steps p
   | ByElement ↦ is_whole_at w.steps p
 ]
@@ -48,7 +48,7 @@ may_test w p = elim w.reach [
 -- stored into or dropped: no container of the place is gone
 abbrev pub may_store : Watched → Presence → Bool
 may_store w p = elim w.reach [
-  Whole ↦ containers_present w.steps p
+  | Whole ↦ containers_present w.steps p
   | ThroughReference ↦ is_there_at w.steps p
   | ByElement ↦ is_whole_at w.steps p
 ]

@@ -184,5 +184,7 @@ root_of address w = option_map_or (λ a. cell address.key.0 a.cells) (at_depth a
 -- another value stands at an address
 abbrev pub stored_at : Addr → Datum → World → World
 stored_at address value w =
-    record w { activations = with_cell_at address.depth address.key.0
-    (replaced address.path value (root_of address w)) w.activations }
+    record w {
+      activations = with_cell_at address.depth address.key.0
+          (replaced address.path value (root_of address w)) w.activations;
+    }
