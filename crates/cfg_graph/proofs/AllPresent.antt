@@ -5,11 +5,11 @@ use Rattle.std.specs.Cmp.{first_so, second_so}
 use Rattle.std.specs.Cmp.Derive.{both_true}
 use Rattle.std.proofs.lemmas.Bool.{false≢true, or_left, or_right}
 use Rattle.mir_ty.specs.ItemTable.{ItemTable}
-use Rattle.store_model.specs.NamedPlace.{Step, same_step}
-use Rattle.store_model.specs.Presence.{Presence, Parts, known, none_named, named, is_present, is_gone, itself_gone, part_among, presence_at, presence_along, changed_among, after_action, all_present, all_parts_present}
+use Rattle.store_model.specs.Places.Place.{Step, same_step}
+use Rattle.store_model.specs.Abstract.Presence.{Presence, Parts, known, none_named, named, is_present, is_gone, itself_gone, part_among, presence_at, presence_along, changed_among, after_action, all_present, all_parts_present}
 use Rattle.cfg_graph.specs.declared.graph.Body.{Body}
-use Rattle.cfg_graph.specs.Gone.{Action, leaves_gone, below, counts, is_param}
-use Rattle.cfg_graph.specs.Present.{changed_by, present_by, present_from, present_at_start, present_after, WholeIsAllPresent}
+use Rattle.cfg_graph.specs.Moves.Gone.{Action, leaves_gone, below, counts, is_param}
+use Rattle.cfg_graph.specs.Moves.Present.{changed_by, present_by, present_from, present_at_start, present_after, WholeIsAllPresent}
 use Rattle.cfg_graph.proofs.Present.{gone_is_not_present}
 use Rattle.cfg_graph.proofs.WholePlaces.{same_step-sound, same_step-refl, not_gone, gone_not}
 

@@ -12,10 +12,10 @@ use Rattle.mir_ty.specs.declared.def.ClosureDef.{ClosureDef}
 use Rattle.mir_ty.specs.ItemTable.{ItemTable, type_at}
 use Rattle.mir_ty.specs.Parts.{held_by, variants_of, captures_of, Holds, at_once, within}
 use Rattle.cfg_graph.specs.declared.graph.Graph.{Graph}
-use Rattle.cfg_graph.specs.Faults.{at_line, nowhere, of_each, of_items, adts_faults, traits_faults, impls_faults, closures_faults, item_faults, faults_of_body, end_faults, IsWellFormed, ArePartsFirst, WellFormedHoldsNothing}
-use Rattle.cfg_graph.specs.ItemFaults.{adt_tests, adt_faults, adt_has_types, closure_tests, closure_faults, closure_has_types}
-use Rattle.cfg_graph.specs.TypeFaults.{hold, adt_holds_itself, closure_holds_itself}
-use Rattle.store_model.specs.TypeForms.{is_adt, is_closure}
+use Rattle.cfg_graph.specs.WellFormed.Faults.{at_line, nowhere, of_each, of_items, adts_faults, traits_faults, impls_faults, closures_faults, item_faults, faults_of_body, end_faults, IsWellFormed, ArePartsFirst, WellFormedHoldsNothing}
+use Rattle.cfg_graph.specs.WellFormed.ItemFaults.{adt_tests, adt_faults, adt_has_types, closure_tests, closure_faults, closure_has_types}
+use Rattle.cfg_graph.specs.WellFormed.TypeFaults.{hold, adt_holds_itself, closure_holds_itself}
+use Rattle.store_model.specs.Places.TypeForms.{is_adt, is_closure}
 use Rattle.cfg_graph.proofs.InfiniteSize.{adt_holding-tested, closure_holding-tested}
 use Rattle.cfg_graph.proofs.NoFaults.{first_empty, second_empty, map_empty, of_each-empty, broken-holds}
 

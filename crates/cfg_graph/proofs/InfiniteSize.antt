@@ -13,8 +13,8 @@ use Rattle.mir_ty.specs.ItemTable.{ItemTable, type_at}
 use Rattle.mir_ty.specs.Parts.{held_by, Holds, at_once, within}
 use Rattle.mir_ty.proofs.ListLemmas.{Contains-slice_get}
 use Rattle.mir_ty.proofs.FixedPoint.{IsGrowing, by_rule-settled}
-use Rattle.cfg_graph.specs.TypeFaults.{holding, hold, HoldsItself, AdtHoldingIsTested, ClosureHoldingIsTested}
-use Rattle.store_model.specs.TypeForms.{is_adt, is_closure}
+use Rattle.cfg_graph.specs.WellFormed.TypeFaults.{holding, hold, HoldsItself, AdtHoldingIsTested, ClosureHoldingIsTested}
+use Rattle.store_model.specs.Places.TypeForms.{is_adt, is_closure}
 
 -- an element that passes a test, by its place in the list
 passing_place : {X : Type 0} → (p : X → Bool) (xs : List X) → list_any p xs ≡ true → (i : ℕ) × (x : X) × (slice_get xs i ≡ Some x) × (p x ≡ true)

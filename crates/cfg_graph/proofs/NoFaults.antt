@@ -3,8 +3,8 @@ use Rattle.std.proofs.Common.{◌≡◌, ℕ, zero, suc, Bool, true, false, List
 use Rattle.std.specs.Prelude.{◌+◌}
 use Rattle.std.proofs.lemmas.Option.{none-some, same_Some}
 use Rattle.cfg_graph.specs.declared.graph.GraphFault.{GraphFault}
-use Rattle.cfg_graph.specs.Broken.{broken}
-use Rattle.cfg_graph.specs.Faults.{of_each}
+use Rattle.cfg_graph.specs.WellFormed.Broken.{broken}
+use Rattle.cfg_graph.specs.WellFormed.Faults.{of_each}
 
 -- lists without members
 pub first_empty : {X : Type 0} → (xs ys : List X) → xs ++ ys ≡ [] → xs ≡ []

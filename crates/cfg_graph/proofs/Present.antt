@@ -4,11 +4,11 @@ use Rattle.std.specs.Prelude.{◌==◌, unwrap_or}
 use Rattle.std.specs.Option.{option_or}
 use Rattle.std.proofs.lemmas.Bool.{false≢true}
 use Rattle.mir_ty.specs.ItemTable.{ItemTable}
-use Rattle.store_model.specs.NamedPlace.{Step, same_step, Place}
-use Rattle.store_model.specs.Presence.{Presence, Parts, known, none_named, named, is_present, is_gone, itself_gone, part_among, presence_at, presence_along, changed_among, changed_at, after_action}
+use Rattle.store_model.specs.Places.Place.{Step, same_step, Place}
+use Rattle.store_model.specs.Abstract.Presence.{Presence, Parts, known, none_named, named, is_present, is_gone, itself_gone, part_among, presence_at, presence_along, changed_among, changed_at, after_action}
 use Rattle.cfg_graph.specs.declared.graph.Body.{Body}
-use Rattle.cfg_graph.specs.Gone.{Action, leaves_gone, are_first, counts, left_by, last_left, is_param}
-use Rattle.cfg_graph.specs.Present.{changed_by, present_by, present_from, present_at_start, GoneIsNotPresent}
+use Rattle.cfg_graph.specs.Moves.Gone.{Action, leaves_gone, are_first, counts, left_by, last_left, is_param}
+use Rattle.cfg_graph.specs.Moves.Present.{changed_by, present_by, present_from, present_at_start, GoneIsNotPresent}
 use Rattle.cfg_graph.proofs.WholePlaces.{same_step-sound, same_step-refl}
 
 -- The part to which a step leads, after another step's part was changed.

@@ -7,10 +7,10 @@ use Rattle.std.proofs.lemmas.List.Sums.{AllPass-from_list_all}
 use Rattle.cfg_graph.specs.declared.graph.Block.{Block}
 use Rattle.cfg_graph.specs.declared.graph.Body.{Body}
 use Rattle.cfg_graph.specs.declared.graph.Graph.{Graph}
-use Rattle.cfg_graph.specs.Cleanup.{edges_lower}
+use Rattle.cfg_graph.specs.WellFormed.Cleanup.{edges_lower}
 use Rattle.cfg_graph.specs.Edges.{targets, is_turn, lowers}
-use Rattle.cfg_graph.specs.Faults.{at_line, of_each, item_faults, own_faults, locals_faults, stmts_faults, block_faults, faults_of_body, end_faults, WellFormedIsRanked}
-use Rattle.cfg_graph.specs.LineFaults.{term_tests, term_faults}
+use Rattle.cfg_graph.specs.WellFormed.Faults.{at_line, of_each, item_faults, own_faults, locals_faults, stmts_faults, block_faults, faults_of_body, end_faults, WellFormedIsRanked}
+use Rattle.cfg_graph.specs.WellFormed.LineFaults.{term_tests, term_faults}
 use Rattle.cfg_graph.proofs.NoFaults.{first_empty, second_empty, map_empty, of_each-empty, broken-holds}
 
 or_second : (turn lower : Bool) → (turn || lower) ≡ true → turn ≡ false → lower ≡ true

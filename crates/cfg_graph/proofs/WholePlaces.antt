@@ -11,9 +11,9 @@ use Rattle.std.proofs.lemmas.Bool.Decides.{Decides-eqb}
 use Rattle.std.proofs.lemmas.List.{append-nil, append_assoc}
 use Rattle.std.proofs.lemmas.Option.{none-some}
 use Rattle.mir_ty.specs.ItemTable.{ItemTable}
-use Rattle.store_model.specs.NamedPlace.{Step, same_step, ToPart, ToField, ToContent, ToElement, Place}
+use Rattle.store_model.specs.Places.Place.{Step, same_step, ToPart, ToField, ToContent, ToElement, Place}
 use Rattle.cfg_graph.specs.declared.graph.Body.{Body}
-use Rattle.cfg_graph.specs.Gone.{Action, leaves_gone, are_first, is_at_or_above, below, counts, left_by, last_left, is_param, is_gone_after, IsWholeAfter, is_whole_after, WholenessIsTested}
+use Rattle.cfg_graph.specs.Moves.Gone.{Action, leaves_gone, are_first, is_at_or_above, below, counts, left_by, last_left, is_param, is_gone_after, IsWholeAfter, is_whole_after, WholenessIsTested}
 
 -- Steps and places.
 

@@ -5,10 +5,10 @@ use Rattle.std.specs.List.{list_any, list_all}
 use Rattle.std.specs.Option.{option_map_or}
 use Rattle.cfg_graph.specs.declared.graph.Body.{Body}
 use Rattle.cfg_graph.specs.declared.statement.Stmt.{Stmt}
-use Rattle.cfg_graph.specs.Gone.{Action, leaves_gone, are_first}
+use Rattle.cfg_graph.specs.Moves.Gone.{Action, leaves_gone, are_first}
 use Rattle.cfg_graph.specs.Places.{named}
 use Rattle.cfg_graph.specs.Uses.{Use, Stores}
-use Rattle.store_model.specs.NamedPlace.{Step, ToContent, Place, whole_local, before_element}
+use Rattle.store_model.specs.Places.Place.{Step, ToContent, Place, whole_local, before_element}
 
 abbrev pub same_place : Place → Place → Bool
 same_place a b = (a.local == b.local) && are_first a.steps b.steps && are_first b.steps a.steps

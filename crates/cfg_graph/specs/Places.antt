@@ -3,8 +3,8 @@ use Rattle.std.specs.Prelude.{ℕ, List, [], ◌∷◌, map, Option, Some, slice
 use Rattle.mir_ty.specs.declared.ty.Ty.{Ty}
 use Rattle.mir_ty.specs.declared.ty.TyId.{TyId}
 use Rattle.mir_ty.specs.ItemTable.{ItemTable, type_at}
-use Rattle.store_model.specs.NamedPlace as plain
-use Rattle.store_model.specs.NamedPlace.{ToPart, ToField, ToContent, ToElement, place_ty}
+use Rattle.store_model.specs.Places.Place as plain
+use Rattle.store_model.specs.Places.Place.{ToPart, ToField, ToContent, ToElement, place_ty}
 use Rattle.cfg_graph.specs.declared.place.Step.{Step}
 use Rattle.cfg_graph.specs.declared.place.Place.{Place}
 use Rattle.cfg_graph.specs.declared.place.Operand.{Operand}

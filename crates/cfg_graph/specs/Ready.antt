@@ -14,17 +14,17 @@ use Rattle.cfg_graph.specs.declared.place.Place.{Place}
 use Rattle.cfg_graph.specs.declared.statement.Stmt.{Stmt}
 use Rattle.cfg_graph.specs.declared.terminator.Term.{Term}
 use Rattle.cfg_graph.specs.declared.terminator.Unwind.{Unwind}
-use Rattle.cfg_graph.specs.Actions.{actions_on}
-use Rattle.cfg_graph.specs.BadUses.{bad_uses_on}
+use Rattle.cfg_graph.specs.Moves.Actions.{actions_on}
+use Rattle.cfg_graph.specs.Moves.BadUses.{bad_uses_on}
 use Rattle.cfg_graph.specs.Edges.{targets}
-use Rattle.cfg_graph.specs.Faults.{IsWellFormed}
-use Rattle.cfg_graph.specs.Gone.{has_index, is_param}
+use Rattle.cfg_graph.specs.WellFormed.Faults.{IsWellFormed}
+use Rattle.cfg_graph.specs.Moves.Gone.{has_index, is_param}
 use Rattle.cfg_graph.specs.NamedPlaces.{same_place, references_made, keeps_named}
-use Rattle.cfg_graph.specs.Paths.{IsPath}
+use Rattle.cfg_graph.specs.Moves.Paths.{IsPath}
 use Rattle.cfg_graph.specs.Places.{named}
 use Rattle.cfg_graph.specs.Uses.{operands_of_stmt, operands_of_term, stored_by_stmt, stored_by_term}
-use Rattle.store_model.specs.DropAt.{drop_impl}
-use Rattle.store_model.specs.NamedPlace.{Step, stepped_ty, is_reference, whole_local}
+use Rattle.store_model.specs.Concrete.Drops.{drop_impl}
+use Rattle.store_model.specs.Places.Place.{Step, stepped_ty, is_reference, whole_local}
 
 -- a test of all statements of a body, and of all blocks
 abbrev all_stmts : (Stmt → Bool) → Body → Bool

@@ -1,9 +1,9 @@
 //! The laws of graphs and of what is gone on a path. Each is a clause of a function without parameters, and a lemma of `proofs/`
 //! that a proof above this crate cites.
-ghost use Rattle.cfg_graph.specs.Faults.{WellFormedIsRanked, WellFormedHoldsNothing};
-ghost use Rattle.cfg_graph.specs.Present.{GoneIsNotPresent, WholeIsAllPresent};
-ghost use Rattle.cfg_graph.specs.TypeFaults.{AdtHoldingIsTested, ClosureHoldingIsTested};
-ghost use Rattle.cfg_graph.specs.Gone.{WholenessIsTested};
+ghost use Rattle.cfg_graph.specs.WellFormed.Faults.{WellFormedIsRanked, WellFormedHoldsNothing};
+ghost use Rattle.cfg_graph.specs.Moves.Present.{GoneIsNotPresent, WholeIsAllPresent};
+ghost use Rattle.cfg_graph.specs.WellFormed.TypeFaults.{AdtHoldingIsTested, ClosureHoldingIsTested};
+ghost use Rattle.cfg_graph.specs.Moves.Gone.{WholenessIsTested};
 
 /// The test for whole places, which looks at the places of a path's actions alone, tells exactly the places at and
 /// below which no place is gone.

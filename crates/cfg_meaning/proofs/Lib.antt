@@ -1,7 +1,7 @@
 mod Examples
-pub mod FreeLaws
-pub mod TickLaws
-pub mod ValuesLaws
-pub mod WalkFollow
-pub mod WalkLaws
+pub mod FreeWalks
+pub mod Runs
+pub mod Ticks
 pub mod WalkTied
+pub mod Walks
+pub mod WalksFollow

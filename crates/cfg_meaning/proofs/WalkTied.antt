@@ -5,13 +5,13 @@ use Rattle.cfg_graph.specs.declared.graph.Block.{Block}
 use Rattle.cfg_graph.specs.declared.graph.Body.{Body}
 use Rattle.cfg_graph.specs.declared.statement.Stmt.{Stmt}
 use Rattle.cfg_graph.specs.declared.terminator.Term.{Term}
-use Rattle.cfg_meaning.proofs.WalkLaws.{naming_laws, go_same, tick_same, acted, does_same, entering_same, there_same}
+use Rattle.cfg_meaning.proofs.Walks.{naming_laws, go_same, tick_same, acted, does_same, entering_same, there_same}
 use Rattle.cfg_meaning.specs.Actions.{site_of, operand_of, operands_of, action_of, mode_of}
 use Rattle.cfg_meaning.specs.Walk.{Next, stuck_in, ◌>>=◌, branch, renamed, renamed_choice, naming, unwinding, stmts_do, acts, term_does, block_does, rank_at, does_block, blocks, from_rank, turns, walk}
-use Rattle.store_model.proofs.EffectLaws.{Laws, Tied, Same, fewer_tied}
+use Rattle.store_model.proofs.Effects.Laws.{Laws, Tied, Same, fewer_tied}
 use Rattle.store_model.specs.Effects as effects
 use Rattle.store_model.specs.Effects.{Halt, Out, Effects}
-use Rattle.store_model.specs.NamedPlace.{whole_local}
+use Rattle.store_model.specs.Places.Place.{whole_local}
 
 module _ {W : Type 0} (size : W → ℕ) where
   naming_tied : (name : Halt → Halt) (p q : Effects W) (m : ℕ) → Tied p q size m → Tied (naming name p) (naming name q) size m

@@ -9,12 +9,12 @@ use Rattle.cfg_meaning.specs.Walk.{entered, walk}
 use Rattle.mir_base.specs.declared.trace.Event.{Event}
 use Rattle.mir_ty.specs.declared.ty.TyId.{TyId}
 use Rattle.mir_ty.specs.ItemTable.{ItemTable}
-use Rattle.store_model.specs.Acting.{on_values}
-use Rattle.store_model.specs.Data.{Datum}
+use Rattle.store_model.specs.Concrete.Effects.{on_values}
+use Rattle.store_model.specs.Values.Datum.{Datum}
 use Rattle.store_model.specs.Effects.{Effects}
-use Rattle.store_model.specs.Entering.{run_body, GoesOnFrom}
-use Rattle.store_model.specs.Free.{Free, on_presence}
-use Rattle.store_model.specs.World.{World, Bodies}
+use Rattle.store_model.specs.Concrete.Bodies.{run_body, GoesOnFrom}
+use Rattle.store_model.specs.Abstract.Effects.{Free, on_presence}
+use Rattle.store_model.specs.Concrete.State.{World, Bodies}
 
 -- the effects on values, where the bodies that are called are those of a graph, nested no deeper than so much
 abbrev pub on_values_of : Bool → Graph → ℕ → Effects World

@@ -9,12 +9,12 @@ use Rattle.mir_ty.specs.ItemTable.{ItemTable}
 use Rattle.cfg_graph.specs.declared.graph.Body.{Body}
 use Rattle.cfg_graph.specs.declared.graph.Graph.{Graph}
 use Rattle.cfg_meaning.specs.Walk.{walk}
-use Rattle.store_model.specs.Data.{Datum}
+use Rattle.store_model.specs.Values.Datum.{Datum}
 use Rattle.store_model.specs.Effects.{NoStep, Out, Halts}
-use Rattle.store_model.specs.Entering.{Code, main_of, run_of}
-use Rattle.store_model.specs.Free.{Free, at_start, on_presence}
-use Rattle.store_model.specs.Standing.{Setting}
-use Rattle.store_model.specs.World.{Cells}
+use Rattle.store_model.specs.Concrete.Bodies.{Code, main_of, run_of}
+use Rattle.store_model.specs.Abstract.Effects.{Free, at_start, on_presence}
+use Rattle.store_model.specs.Concrete.Location.{Setting}
+use Rattle.store_model.specs.Concrete.State.{Cells}
 
 -- the arguments are the locals from 1 on
 abbrev pub arguments_from : ℕ → List Datum → Cells

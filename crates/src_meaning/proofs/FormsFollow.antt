@@ -4,9 +4,9 @@ use Rattle.mir_base.specs.declared.operator.Cmp.{Cmp}
 use Rattle.mir_base.specs.declared.trace.Why.{Why}
 use Rattle.mir_ty.specs.Facts.{needs_drop}
 use Rattle.mir_ty.specs.ItemTable.{ItemTable}
-use Rattle.store_model.proofs.Following.{Relation, FollowsOut, goes_on, unwinds, halts, lapsed, outlived, refused, FollowsOuts, FollowsChoice, takes, declines, neither, lapsed_choice, outlived_choice, refused_choice, FollowsChoices, FollowsEffects, FollowsTick, Bounds, one_bound, more_turns, great_bounds, choice_after, says_yes, says_no, goes}
+use Rattle.store_model.proofs.Effects.Following.{Relation, FollowsOut, goes_on, unwinds, halts, lapsed, outlived, refused, FollowsOuts, FollowsChoice, takes, declines, neither, lapsed_choice, outlived_choice, refused_choice, FollowsChoices, FollowsEffects, FollowsTick, Bounds, one_bound, more_turns, great_bounds, choice_after, says_yes, says_no, goes}
 use Rattle.store_model.specs.Effects.{Site, Operand, Copied, Number, Truth, UnitValue, Action, Put, Compare, Touch, Bounds as BoundsOf, Borrow, Unsize, IsTrue, HasVariant, Calm, Halt, NoStep, OutOfTicks, Out, Go, Unwind, Halts, Choice, Effects}
-use Rattle.store_model.specs.NamedPlace.{Place, whole_local}
+use Rattle.store_model.specs.Places.Place.{Place, whole_local}
 use Rattle.src_meaning.proofs.RunsFollow.{Follows, is_at, is_over, lapsed_run, outlived_run, refused_run, FollowsDoes, run_after, within_run, stays, stops, then_follow, at_follow, changing_follow, doing_follow, choosing_follow, back_follow, leaving_follow, in_scope_follow, in_scope_with_follow}
 use Rattle.src_meaning.specs.Forms.{Destination, Into, Coerced, Around, aliases_with, Meaning, entry_of, bound_entry, site_in, site_of_key, moved, keys_of, all_moved, is_never, acts, panics, deliver, put_unit, put_unit_if, in_own_scope, alone, pending_if, complete, operand, operands, take, acting, dropping, temporary, use_of_place, array_around, reach_element, borrowing, stored, stored_after, dropped_first, replacing, assigning, condition, branch, tested, equals, tests_after, alternatives_after, holds, all_hold, any_holds, bind, touched, scrutinised, if_taken, arms_in_order, matching, taken_arm, guarded, arm, statements, tail_of, block, evaluating, let_name, let_parts, emptied, declared, let_value, letting, ticked, turned, turns, ends_loop, value_of_jump, jumping}
 use Rattle.src_meaning.specs.Scopes.{Scope, Scopes, innermost, around_innermost, nearest_temporary, with_entry, without_pending, Exit, Value, Breaks, Continues, Returns, Panics, Run, At, Over, Does, choosing}

@@ -3,16 +3,16 @@
 use Rattle.std.proofs.Common.{◌≡◌, ℕ, nat_lt, Bool, true, false, List, [], ◌∷◌, Option, if◌then◌else◌, refl, ap, subst}
 use Rattle.mir_base.specs.declared.trace.Why.{Why}
 use Rattle.mir_ty.specs.ItemTable.{ItemTable}
-use Rattle.store_model.proofs.Following.{Relation, FollowsOut, halts, lapsed, outlived, refused, FollowsOuts, FollowsEffects, Bounds, out_after, panics_on, after_drop}
+use Rattle.store_model.proofs.Effects.Following.{Relation, FollowsOut, halts, lapsed, outlived, refused, FollowsOuts, FollowsEffects, Bounds, out_after, panics_on, after_drop}
 use Rattle.store_model.specs.Effects as effects
 use Rattle.store_model.specs.Effects.{Site, Operand, Action, OfTuple, OfArray, OfVariant, OfClosure, NoStep, Out, Effects, Unwinding}
-use Rattle.store_model.specs.NamedPlace.{whole_local}
+use Rattle.store_model.specs.Places.Place.{whole_local}
 use Rattle.src_meaning.proofs.FormsFollow.{FollowsReach, FollowsInto, FollowsEvaluate, FollowsArm, FollowsMeaning, means, FollowsMeanings, no_meaning, and_means, FollowsIfAny, without, with_one, same_moved, acts_follow, panics_follow, deliver_follow, unit_follow, own_scope_follow, alone_follow, acting_follow, dropping_follow, temporary_follow, use_follow, element_follow, borrowing_follow, assigning_follow, condition_follow, branch_follow, bind_follow, if_taken_follow, matching_follow, arm_follow, block_follow, evaluating_follow, letting_follow, turns_follow, end_follow, jumping_follow}
 use Rattle.src_meaning.proofs.RunsFollow.{Follows, is_at, is_over, lapsed_run, outlived_run, refused_run, FollowsDoes, then_follow, at_follow, changing_follow, in_scope_follow}
 use Rattle.src_meaning.specs.Evaluation.{insert_field, in_number_order, values_of, to_own_key, made_in, no_arm, a_value, a_place, in_scope_of_its_own, a_scope, effect, on_operands, on_one, on_two, on_all, on_fields, gives_unit, drops, a_pattern, shortcut, conjunction, disjunction, otherwise_unit, if_else, if_let, body_in, endless, while_true, while_taken, breaks, returns, coerce, meaning, meaning_of, meanings, fields_of, meaning_if_any}
 use Rattle.src_meaning.specs.Forms as forms
 use Rattle.src_meaning.specs.Forms.{Destination, Into, coerced, Around, in_loop, loop_destination, Meaning, moved, all_moved, is_never, site_of_key}
-use Rattle.src_meaning.specs.Locals.{param_key, answer_key}
+use Rattle.src_meaning.specs.Locals.OfBody.{param_key, answer_key}
 use Rattle.src_meaning.specs.Programs.{names_of_param, params_entered, unwinds as further_unwinds, body_end, around_body, answer_scope, entire_function, activation}
 use Rattle.src_meaning.specs.Scopes.{Entry, Value, Breaks, Continues, Returns, Panics, Run, At, Does, innermost, with_entry, entry_site, all_entries, needing_drop}
 use Rattle.src_meaning.specs.Shape.{Head, head, Shape, Bound, kind_of, shape, shape_of}

@@ -2,19 +2,19 @@
 use Rattle.std.proofs.Common.{◌≡◌, ℕ, ◌≤◌, Option, Some, None, slice_get, refl, arith}
 use Rattle.std.specs.Option.{option_map_or}
 use Rattle.mir_ty.specs.ItemTable.{ItemTable}
-use Rattle.store_model.proofs.Agreement.{agreement, same_out, no_more, effects_agree, bounds_agree, tied_itself}
-use Rattle.store_model.proofs.EffectLaws.{NoMore, Laws, Tied, weaker}
-use Rattle.store_model.proofs.Following.{Relation, FollowsOut, FollowsEffects, Bounds, one_bound, FollowsOuts, ends}
-use Rattle.store_model.proofs.FreeEffects.{items_of, free_laws}
-use Rattle.store_model.proofs.ValuesEffects.{ticks_of, KeepsTicks, TiesTicks, bodies_agree}
+use Rattle.store_model.proofs.Effects.Agreement.{agreement, same_out, no_more, effects_agree, bounds_agree, tied_itself}
+use Rattle.store_model.proofs.Effects.Laws.{NoMore, Laws, Tied, weaker}
+use Rattle.store_model.proofs.Effects.Following.{Relation, FollowsOut, FollowsEffects, Bounds, one_bound, FollowsOuts, ends}
+use Rattle.store_model.proofs.Abstract.Effects.{items_of, free_laws}
+use Rattle.store_model.proofs.Concrete.Effects.{ticks_of, KeepsTicks, TiesTicks, bodies_agree}
 use Rattle.store_model.specs.Effects.{NoStep, Out, Halts, Effects}
-use Rattle.store_model.specs.Free.{on_presence}
-use Rattle.store_model.specs.World.{World}
+use Rattle.store_model.specs.Abstract.Effects.{on_presence}
+use Rattle.store_model.specs.Concrete.State.{World}
 use Rattle.typed_tree.specs.Tree.{BodyTree, ProgramTree}
 use Rattle.src_meaning.proofs.ProgramsFollow.{activation_follow}
-use Rattle.src_meaning.specs.AtLocals.{action_at, test_at, site_at, at_locals}
+use Rattle.src_meaning.specs.Locals.Effects.{action_at, test_at, site_at, at_locals}
 use Rattle.src_meaning.specs.Laws.{FreeRunHasNoBound, RunHasNoBound}
-use Rattle.src_meaning.specs.Locals.{local_of}
+use Rattle.src_meaning.specs.Locals.OfBody.{local_of}
 use Rattle.src_meaning.specs.Programs.{activation, setting_of, code_of, within_body}
 
 -- effects on locals follow one another on keys

@@ -2,7 +2,7 @@
 -- is left, follows where its parts do.
 use Rattle.std.proofs.Common.{◌≡◌, ℕ, Bool, List, [], ◌∷◌, ◌++◌, ap}
 use Rattle.mir_ty.specs.ItemTable.{ItemTable}
-use Rattle.store_model.proofs.Following.{Relation, FollowsOut, goes_on, unwinds, halts, lapsed, outlived, refused, FollowsOuts, FollowsChoice, takes, declines, neither, lapsed_choice, outlived_choice, refused_choice, FollowsChoices, FollowsEffects, Within, along}
+use Rattle.store_model.proofs.Effects.Following.{Relation, FollowsOut, goes_on, unwinds, halts, lapsed, outlived, refused, FollowsOuts, FollowsChoice, takes, declines, neither, lapsed_choice, outlived_choice, refused_choice, FollowsChoices, FollowsEffects, Within, along}
 use Rattle.store_model.specs.Effects.{Calm, Unwinding, Halt, Aborted, Out, Choice, Effects}
 use Rattle.src_meaning.specs.Scopes.{Entry, Scopes, entered, needing_drop, Exit, Value, Breaks, Continues, Returns, Panics, Run, At, Over, Does, on_value, ◌>>◌, in_scopes, doing, changing, chosen, choosing, back_in, entry_site, dropped_unwinding, drop_unwinding, dropped_calmly, drop_calm, leave, leaving, in_scope, then_or_leave, in_scope_with}
 

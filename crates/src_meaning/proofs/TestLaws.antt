@@ -1,10 +1,10 @@
 -- The tests of the rules hold exactly where the pattern takes what stands at its place.
 use Rattle.std.proofs.Common.{◌≡◌, ℕ, suc, Bool, true, false, ◌&&◌, ◌||◌, IsTrue, refl, ap, sym, ◌∙◌, subst}
 use Rattle.mir_ty.specs.ItemTable.{ItemTable}
-use Rattle.store_model.specs.Data.{Number, Truth}
+use Rattle.store_model.specs.Values.Datum.{Number, Truth}
 use Rattle.store_model.specs.Effects.{Choice, Yes, No, Neither, Effects}
-use Rattle.store_model.specs.NamedPlace.{Step, ToPart, ToField, Place}
-use Rattle.store_model.specs.World.{World}
+use Rattle.store_model.specs.Places.Place.{Step, ToPart, ToField, Place}
+use Rattle.store_model.specs.Concrete.State.{World}
 use Rattle.typed_tree.specs.Tree as tree
 use Rattle.typed_tree.specs.Tree.{Node, node, Form, Nodes, no_node, a_node, Fields, no_field, a_field}
 use Rattle.src_meaning.specs.Forms.{holds, all_hold, any_holds, tests_after, alternatives_after}

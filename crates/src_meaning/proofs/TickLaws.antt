@@ -1,10 +1,10 @@
 -- A run of a source with one tick more goes on from the run without it.
 use Rattle.std.proofs.Common.{ℕ, suc, ℤ, List, [], subst, sym, arith}
 use Rattle.mir_base.specs.declared.trace.Event.{Event}
-use Rattle.store_model.proofs.MoreTicks.{OneMore}
-use Rattle.store_model.proofs.OneTickMore.{one_tick_more, FollowsWithin, bodies_more, goes_on_from}
-use Rattle.store_model.specs.Entering.{main_of, run_body, told_by, GoesOnFrom}
-use Rattle.store_model.specs.World.{beginning}
+use Rattle.store_model.proofs.Concrete.MoreTicks.{OneMore}
+use Rattle.store_model.proofs.Concrete.OneTickMore.{one_tick_more, FollowsWithin, bodies_more, goes_on_from}
+use Rattle.store_model.specs.Concrete.Bodies.{main_of, run_body, told_by, GoesOnFrom}
+use Rattle.store_model.specs.Concrete.State.{beginning}
 use Rattle.typed_tree.specs.Tree.{ProgramTree}
 use Rattle.src_meaning.proofs.RunLaws.{run_same, within_follows}
 use Rattle.src_meaning.specs.Laws.{SourceRunGoesOn}

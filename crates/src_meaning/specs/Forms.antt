@@ -9,8 +9,8 @@ use Rattle.mir_ty.specs.declared.ty.TyId.{TyId}
 use Rattle.mir_ty.specs.Facts.{needs_drop}
 use Rattle.mir_ty.specs.ItemTable.{ItemTable, type_at}
 use Rattle.store_model.specs.Effects.{Site, Operand, Moved, Copied, Number, Truth, UnitValue, Action, Put, Compare, Touch, Bounds, Borrow, Unsize, IsTrue, HasVariant, Calm, NoStep, OutOfTicks, Out, Go, Unwind, Halts, Choice, Yes, No, Neither, Effects}
-use Rattle.store_model.specs.NamedPlace.{Place, whole_local, before_element}
-use Rattle.store_model.specs.TypeForms.{is_never as is_never_ty}
+use Rattle.store_model.specs.Places.Place.{Place, whole_local, before_element}
+use Rattle.store_model.specs.Places.TypeForms.{is_never as is_never_ty}
 use Rattle.src_meaning.specs.Scopes.{Entry, Scope, Scopes, innermost, around_innermost, nearest_temporary, with_entry, with_pending, without_pending, becomes_entry, without_operands, Exit, Value, Breaks, Continues, Panics, Run, At, Over, Does, ◌>>◌, doing, changing, choosing, back_in, in_scope, in_scope_with, leaving}
 use Rattle.src_meaning.specs.Shape.{Head, Shape, Aliases, PatternTest, IsVariant, IsNumber, IsTruth, AnyOf, PatternTests, no_test, a_test, Alternatives, no_alternative, an_alternative, Bound, site_at, operand_of_bound, operand_at}
 

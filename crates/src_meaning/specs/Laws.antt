@@ -4,13 +4,13 @@ use Rattle.std.specs.Prelude.{◌≡◌, ℕ, suc, ℤ, ◌<◌, ◌≤◌, List
 use Rattle.mir_base.specs.declared.trace.Event.{Event}
 use Rattle.mir_ty.specs.declared.ty.TyId.{TyId}
 use Rattle.mir_ty.specs.ItemTable.{ItemTable}
-use Rattle.store_model.specs.Data.{Datum}
-use Rattle.store_model.specs.Entering.{run_body, GoesOnFrom}
-use Rattle.store_model.specs.Free.{Free, on_presence}
-use Rattle.store_model.specs.World.{World}
+use Rattle.store_model.specs.Values.Datum.{Datum}
+use Rattle.store_model.specs.Concrete.Bodies.{run_body, GoesOnFrom}
+use Rattle.store_model.specs.Abstract.Effects.{Free, on_presence}
+use Rattle.store_model.specs.Concrete.State.{World}
 use Rattle.typed_tree.specs.Tree.{BodyTree, ProgramTree}
-use Rattle.src_meaning.specs.AtLocals.{at_locals}
-use Rattle.src_meaning.specs.Locals.{local_of}
+use Rattle.src_meaning.specs.Locals.Effects.{at_locals}
+use Rattle.src_meaning.specs.Locals.OfBody.{local_of}
 use Rattle.src_meaning.specs.Programs.{activation, setting_of, code_of, source}
 
 -- two bounds on the turns of loops that are greater than the number of items give the same free run of a body

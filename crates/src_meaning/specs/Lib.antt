@@ -1,4 +1,3 @@
-pub mod AtLocals
 pub mod Evaluation
 pub mod First
 pub mod Forms

@@ -7,18 +7,18 @@ use Rattle.mir_base.specs.declared.trace.End.{End}
 use Rattle.mir_base.specs.Trace.{Trace}
 use Rattle.mir_ty.specs.declared.ty.TyId.{TyId}
 use Rattle.mir_ty.specs.ItemTable.{ItemTable}
-use Rattle.store_model.specs.Data.{Datum}
+use Rattle.store_model.specs.Values.Datum.{Datum}
 use Rattle.store_model.specs.Effects.{Site, Halt, BadUse, BadStore, NoStep, Out, Unwind, Halts, aborting, Effects, Unwinding}
-use Rattle.store_model.specs.Entering.{Code, main_of, run_of}
-use Rattle.store_model.specs.Free.{Free, at_start, on_presence}
-use Rattle.store_model.specs.NamedPlace.{whole_local}
-use Rattle.store_model.specs.Standing.{Setting}
-use Rattle.store_model.specs.World.{Cells, World}
+use Rattle.store_model.specs.Concrete.Bodies.{Code, main_of, run_of}
+use Rattle.store_model.specs.Abstract.Effects.{Free, at_start, on_presence}
+use Rattle.store_model.specs.Places.Place.{whole_local}
+use Rattle.store_model.specs.Concrete.Location.{Setting}
+use Rattle.store_model.specs.Concrete.State.{Cells, World}
 use Rattle.typed_tree.specs.Tree.{ParamTree, BodyTree, ProgramTree}
-use Rattle.src_meaning.specs.AtLocals.{at_locals}
+use Rattle.src_meaning.specs.Locals.Effects.{at_locals}
 use Rattle.src_meaning.specs.Evaluation.{meaning}
 use Rattle.src_meaning.specs.Forms.{Into, Around, bind, site_of_key}
-use Rattle.src_meaning.specs.Locals.{param_key, answer_key, local_of, local_ty, local_tys}
+use Rattle.src_meaning.specs.Locals.OfBody.{param_key, answer_key, local_of, local_ty, local_tys}
 use Rattle.src_meaning.specs.Scopes.{Entry, Scopes, innermost, entered, with_entry, with_pending, all_entries, needing_drop, Value, Breaks, Continues, Returns, Panics, Run, At, Over, Does, ◌>>◌, changing, in_scope, entry_site}
 use Rattle.src_meaning.specs.Shape.{Bound, shape}
 

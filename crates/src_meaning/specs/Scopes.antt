@@ -5,7 +5,7 @@ use Rattle.mir_ty.specs.declared.ty.TyId.{TyId}
 use Rattle.mir_ty.specs.Facts.{needs_drop}
 use Rattle.mir_ty.specs.ItemTable.{ItemTable}
 use Rattle.store_model.specs.Effects.{Site, Calm, Unwinding, Halt, Aborted, Out, Go, Unwind, Halts, Choice, Yes, No, Neither, Effects}
-use Rattle.store_model.specs.NamedPlace.{whole_local}
+use Rattle.store_model.specs.Places.Place.{whole_local}
 
 -- a parameter, variable, operand or temporary, or a destination that is not complete
 pub record Entry : Type 0 where

@@ -5,8 +5,8 @@ use Rattle.mir_base.specs.declared.int_kind.IntKind.{IntKind}
 use Rattle.mir_ty.specs.declared.ty.TyId.{TyId}
 use Rattle.mir_ty.specs.ItemTable.{ItemTable, type_at}
 use Rattle.store_model.specs.Effects.{Site, Operand, Copied, Moved}
-use Rattle.store_model.specs.NamedPlace.{Step, ToPart, ToField, ToContent, ToElement, Place, whole_local}
-use Rattle.store_model.specs.TypeForms.{int_kind}
+use Rattle.store_model.specs.Places.Place.{Step, ToPart, ToField, ToContent, ToElement, Place, whole_local}
+use Rattle.store_model.specs.Places.TypeForms.{int_kind}
 use Rattle.typed_tree.specs.declared.node.Use.{Use}
 use Rattle.typed_tree.specs.Nodes.{number_of}
 use Rattle.typed_tree.specs.Tree as tree

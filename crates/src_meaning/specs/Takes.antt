@@ -3,13 +3,13 @@
 use Rattle.std.specs.Prelude.{◌≡◌, ℕ, suc, ◌==◌, Bool, true, false, not, ◌&&◌, ◌||◌, IsTrue, Option, Some, None, if◌then◌else◌}
 use Rattle.mir_base.specs.declared.operator.Cmp.{Cmp}
 use Rattle.mir_ty.specs.ItemTable.{ItemTable}
-use Rattle.store_model.specs.Acting.{compared}
-use Rattle.store_model.specs.Data.{Datum, Number, Truth, Aggregate}
+use Rattle.store_model.specs.Concrete.Effects.{compared}
+use Rattle.store_model.specs.Values.Datum.{Datum, Number, Truth, Aggregate}
 use Rattle.store_model.specs.declared.address.At.TheVariants.{Part}
 use Rattle.store_model.specs.Effects.{Choice, Yes, No, Effects}
-use Rattle.store_model.specs.NamedPlace.{Step, ToPart, ToField, Place}
-use Rattle.store_model.specs.Places.{part}
-use Rattle.store_model.specs.World.{World}
+use Rattle.store_model.specs.Places.Place.{Step, ToPart, ToField, Place}
+use Rattle.store_model.specs.Values.Access.{part}
+use Rattle.store_model.specs.Concrete.State.{World}
 use Rattle.typed_tree.specs.Tree as tree
 use Rattle.typed_tree.specs.Tree.{Node, node, Form, Nodes, no_node, a_node, Fields, no_field, a_field}
 use Rattle.src_meaning.specs.Forms.{holds, all_hold}

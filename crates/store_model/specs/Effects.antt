@@ -7,7 +7,7 @@ use Rattle.mir_base.specs.declared.int_kind.IntKind.{IntKind}
 use Rattle.mir_base.specs.declared.operator.Cmp.{Cmp}
 use Rattle.mir_base.specs.declared.operator.Math.{Math}
 use Rattle.mir_base.specs.declared.trace.Why.{Why}
-use Rattle.store_model.specs.NamedPlace.{Place}
+use Rattle.store_model.specs.Places.Place.{Place}
 
 -- a place with the number of the node that uses it, which a refused use names
 pub record Site : Type 0 where

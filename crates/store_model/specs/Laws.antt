@@ -6,15 +6,15 @@ use Rattle.std.specs.List.Sorted.{IsPermutation}
 use Rattle.store_model.specs.declared.address.At.{At}
 use Rattle.mir_ty.specs.declared.ty.TyId.{TyId}
 use Rattle.mir_ty.specs.ItemTable.{ItemTable}
-use Rattle.store_model.specs.Acting as values
-use Rattle.store_model.specs.Data.{Datum, Gone}
-use Rattle.store_model.specs.Dropping.{steps_to_parts}
+use Rattle.store_model.specs.Concrete.Effects as values
+use Rattle.store_model.specs.Values.Datum.{Datum, Gone}
+use Rattle.store_model.specs.Values.Parts.{steps_to_parts}
 use Rattle.store_model.specs.Effects.{StoresNoNever}
-use Rattle.store_model.specs.Free as free
-use Rattle.store_model.specs.Places.{part, standing_at, replaced, IsCutOff, AreApart}
-use Rattle.store_model.specs.Standing.{Setting}
-use Rattle.store_model.specs.Wholeness.{IsWhole, is_whole, IsNumbered, serials, serial_before_parts, serial_after_parts}
-use Rattle.store_model.specs.World.{Bodies}
+use Rattle.store_model.specs.Abstract.Effects as free
+use Rattle.store_model.specs.Values.Access.{part, standing_at, replaced, IsCutOff, AreApart}
+use Rattle.store_model.specs.Concrete.Location.{Setting}
+use Rattle.store_model.specs.Values.Wholeness.{IsWhole, is_whole, IsNumbered, serials, serial_before_parts, serial_after_parts}
+use Rattle.store_model.specs.Concrete.State.{Bodies}
 
 -- a path may be walked in two pieces
 abbrev pub StandsAlong : Type 0

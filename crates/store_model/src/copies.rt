@@ -1,5 +1,5 @@
 ghost use Rattle.std.specs.Prelude.{◌≡◌, IfOk, map};
-ghost use Rattle.store_model.specs.Data.{datum_of};
+ghost use Rattle.store_model.specs.Values.Datum.{datum_of};
 
 use crate::{Addr, Value};
 use mir_base::{List, NoMemory};

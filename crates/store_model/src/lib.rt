@@ -1,6 +1,6 @@
 //! The values of the language as a run holds them: whole or with parts that are gone, boxed, or behind an
 //! address. A place in a value is reached by a path of steps; [`read`], [`take`] and [`put`] work at its
-//! end. Contracts see a value as plain data, `Datum` of `specs/Data.antt`.
+//! end. Contracts see a value as plain data, `Datum` of `specs/Values/Datum.antt`.
 #![tactic(auto)]
 
 mod address;
@@ -8,7 +8,7 @@ mod copies;
 mod laws;
 mod parts;
 mod path;
-mod places;
+mod access;
 mod value;
 
 pub use address::{Addr, At, AtPath};
@@ -18,5 +18,5 @@ pub use laws::{
 };
 pub use parts::parts_in_order;
 pub use path::Path;
-pub use places::{put, read, take};
+pub use access::{put, read, take};
 pub use value::Value;

@@ -1,8 +1,8 @@
 ghost use Rattle.std.specs.Prelude.{◌≡◌, IfOk, map};
 ghost use Rattle.std.specs.List.{range_with_len};
 ghost use Rattle.store_model.specs.declared.address.At.TheVariants.{Part};
-ghost use Rattle.store_model.specs.Data.{datum_of};
-ghost use Rattle.store_model.specs.Dropping.{steps_to_parts};
+ghost use Rattle.store_model.specs.Values.Datum.{datum_of};
+ghost use Rattle.store_model.specs.Values.Parts.{steps_to_parts};
 
 use crate::{At, Value};
 use mir_base::{List, NoMemory};

@@ -1,6 +1,6 @@
 ghost use Rattle.std.specs.Prelude.{◌<◌, ◌≤◌, suc, IfSome};
-ghost use Rattle.store_model.specs.Counts.{count_in, count_left, count_waiting, node_count, IsNearerEnd};
-ghost use Rattle.store_model.specs.Data.{datum_of};
+ghost use Rattle.store_model.specs.Values.DropMeasure.{count_in, count_left, count_waiting, node_count, IsNearerEnd};
+ghost use Rattle.store_model.specs.Values.Datum.{datum_of};
 
 use crate::Addr;
 use mir_base::List;

@@ -20,7 +20,7 @@ use Rattle.cfg_graph.specs.declared.graph.Block.{Block}
 use Rattle.cfg_graph.specs.declared.graph.Body.{Body}
 use Rattle.cfg_graph.specs.declared.graph.Graph.{Graph}
 use Rattle.cfg_graph.specs.declared.graph.GraphFault.{GraphFault}
-use Rattle.cfg_graph.specs.Faults.{nowhere}
+use Rattle.cfg_graph.specs.WellFormed.Faults.{nowhere}
 
 abbrev pub id : ℕ → TyId
 id n = record { 0 = n }

@@ -8,7 +8,7 @@ use Rattle.cfg_graph.specs.declared.terminator.Term.{Term}
 use Rattle.cfg_graph.specs.declared.terminator.Unwind.{Unwind}
 use Rattle.cfg_graph.specs.declared.graph.Kind.{Kind}
 use Rattle.cfg_graph.specs.declared.graph.Block.{Block}
-use Rattle.cfg_graph.specs.Paths.{items_of_path, items_of_leaving_path}
+use Rattle.cfg_graph.specs.Moves.Paths.{items_of_path, items_of_leaving_path}
 use Rattle.cfg_graph.proofs.Examples.Graphs.{items, id, var, plain, block, body, last}
 
 -- locals: (), bool, i32, !, D

@@ -7,7 +7,7 @@ use Rattle.cfg_graph.specs.declared.statement.Stmt.{Stmt}
 use Rattle.cfg_graph.specs.declared.terminator.Term.{Term}
 use Rattle.cfg_graph.specs.declared.terminator.Unwind.{Unwind}
 use Rattle.cfg_graph.specs.declared.graph.Kind.{Kind}
-use Rattle.cfg_graph.specs.Faults.{first_fault, nowhere}
+use Rattle.cfg_graph.specs.WellFormed.Faults.{first_fault, nowhere}
 use Rattle.cfg_graph.proofs.Examples.Graphs.{with_block, with_main, with_items, items, head, id, var, make_d, plain, block, last, d, e, show, show_d, fault, item_fault}
 
 a_block_that_leads_to_itself : first_fault (with_main (id 2 ∷ []) (plain 1 [] (Term.Goto 0) ∷ last ∷ [])) ≡ Some (fault 4 1 0 0)

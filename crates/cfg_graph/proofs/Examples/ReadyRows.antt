@@ -11,7 +11,7 @@ use Rattle.cfg_graph.specs.declared.terminator.Term.{Term}
 use Rattle.cfg_graph.specs.declared.terminator.Unwind.{Unwind}
 use Rattle.cfg_graph.specs.declared.graph.Block.{Block}
 use Rattle.cfg_graph.specs.declared.graph.Body.{Body}
-use Rattle.cfg_graph.specs.Actions.{actions_on}
+use Rattle.cfg_graph.specs.Moves.Actions.{actions_on}
 use Rattle.cfg_graph.specs.NamedPlaces.{keeps_named}
 use Rattle.cfg_graph.specs.Ready.{frees_nothing, begins_once, moves_well, refills_dropped, references_in_locals, references_stand_alone}
 use Rattle.cfg_graph.proofs.Examples.Graphs.{items, id, var, along, give_unit, plain, last, body, make_d}

@@ -11,7 +11,7 @@ use Rattle.cfg_graph.specs.declared.statement.Stmt.{Stmt}
 use Rattle.cfg_graph.specs.declared.terminator.Term.{Term}
 use Rattle.cfg_graph.specs.declared.terminator.Unwind.{Unwind}
 use Rattle.cfg_graph.specs.declared.graph.Kind.{Kind}
-use Rattle.cfg_graph.specs.Faults.{faults}
+use Rattle.cfg_graph.specs.WellFormed.Faults.{faults}
 use Rattle.cfg_graph.proofs.Examples.Graphs.{short, with_block, with_main, id, var, along, seven, make_d, plain, block}
 
 short_has_no_fault : faults short ≡ []

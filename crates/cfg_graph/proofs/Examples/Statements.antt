@@ -7,7 +7,7 @@ use Rattle.cfg_graph.specs.declared.place.Step.{Step}
 use Rattle.cfg_graph.specs.declared.place.Operand.{Operand}
 use Rattle.cfg_graph.specs.declared.statement.Stmt.{Stmt}
 use Rattle.cfg_graph.specs.declared.terminator.Term.{Term}
-use Rattle.cfg_graph.specs.Faults.{first_fault}
+use Rattle.cfg_graph.specs.WellFormed.Faults.{first_fault}
 use Rattle.cfg_graph.proofs.Examples.Graphs.{with_main, id, var, along, seven, plain, last, fault}
 
 a_field_of_another_type : first_fault (with_main (id 2 ∷ id 1 ∷ id 0 ∷ id 4 ∷ id 10 ∷ id 11 ∷ id 12 ∷ id 14 ∷ id 6 ∷ id 8 ∷ id 15 ∷ id 5 ∷ []) (plain 1 (Stmt.Make (var 1) 0 0 (Operand.Number (pos 7) IntKind.U32 ∷ []) ∷ []) (Term.Goto 1) ∷ last ∷ [])) ≡ Some (fault 3 1 0 0)

@@ -6,7 +6,7 @@ use Rattle.cfg_graph.specs.declared.place.Operand.{Operand}
 use Rattle.cfg_graph.specs.declared.statement.Stmt.{Stmt}
 use Rattle.cfg_graph.specs.declared.terminator.Term.{Term}
 use Rattle.cfg_graph.specs.declared.terminator.Unwind.{Unwind}
-use Rattle.cfg_graph.specs.Faults.{first_fault, nowhere}
+use Rattle.cfg_graph.specs.WellFormed.Faults.{first_fault, nowhere}
 use Rattle.cfg_graph.proofs.Examples.Graphs.{with_main, with_items, items, head, id, var, along, make_d, plain, body, last, d, e, show, show_d, closure, fault, item_fault}
 
 no_such_block : first_fault (with_main (id 2 ∷ id 1 ∷ []) (plain 1 (make_d 1 ∷ []) (Term.DropAt (var 1) 7 Unwind.Resume) ∷ last ∷ [])) ≡ Some (fault 1 1 0 1)

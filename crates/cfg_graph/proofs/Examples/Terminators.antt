@@ -6,7 +6,7 @@ use Rattle.mir_base.specs.declared.trace.Why.{Why}
 use Rattle.cfg_graph.specs.declared.place.Operand.{Operand}
 use Rattle.cfg_graph.specs.declared.terminator.Term.{Term}
 use Rattle.cfg_graph.specs.declared.terminator.Unwind.{Unwind}
-use Rattle.cfg_graph.specs.Faults.{first_fault, nowhere}
+use Rattle.cfg_graph.specs.WellFormed.Faults.{first_fault, nowhere}
 use Rattle.cfg_graph.proofs.Examples.Graphs.{with_block, with_main, with_items, items, id, var, seven, make_d, plain, last, d, e, show_d, closure, fault, item_fault}
 
 a_condition_that_is_no_bool : first_fault (with_block (id 2 ∷ id 1 ∷ id 0 ∷ id 4 ∷ id 12 ∷ id 17 ∷ id 8 ∷ []) [] (Term.If seven 1 1)) ≡ Some (fault 3 1 0 0)

@@ -10,7 +10,7 @@ use Rattle.cfg_graph.specs.declared.terminator.Term.{Term}
 use Rattle.cfg_graph.specs.declared.terminator.Unwind.{Unwind}
 use Rattle.cfg_graph.specs.declared.graph.Kind.{Kind}
 use Rattle.cfg_graph.specs.declared.graph.Block.{Block}
-use Rattle.cfg_graph.specs.BadUses.{UseRule, U1, U2, BadUse, bad_uses_on}
+use Rattle.cfg_graph.specs.Moves.BadUses.{UseRule, U1, U2, BadUse, bad_uses_on}
 use Rattle.cfg_graph.proofs.Examples.Graphs.{items, id, var, along, plain, block, body}
 
 -- a parameter (D, D), and the locals D, [D; 2], usize, E, Box<D> and &D, which nothing has been stored into

@@ -12,7 +12,7 @@ use Rattle.cfg_graph.specs.declared.place.Step.{Step}
 use Rattle.cfg_graph.specs.declared.statement.Stmt.{Stmt}
 use Rattle.cfg_graph.specs.declared.terminator.Term.{Term}
 use Rattle.cfg_graph.specs.declared.terminator.Unwind.{Unwind}
-use Rattle.cfg_graph.specs.Faults.{IsWellFormed}
+use Rattle.cfg_graph.specs.WellFormed.Faults.{IsWellFormed}
 use Rattle.cfg_meaning.proofs.Examples.Words.{unit, block, body, at, within, ty_no, variant, struct, head}
 use Rattle.cfg_meaning.specs.Programs.{graph_run}
 use Rattle.mir_base.specs.declared.int_kind.IntKind.{IntKind}

@@ -7,7 +7,7 @@ use Rattle.mir_base.specs.declared.trace.Event.TheVariants.{Call as call, Return
 use Rattle.mir_ty.specs.declared.ty.Ty.{Ty}
 use Rattle.mir_ty.specs.ItemTable.{ItemTable}
 use Rattle.typed_tree.specs.Tree.{no_node, absent, present, Number, Print, Block, Match, Arm, Wildcard, NumberPattern, BodyTree, ProgramTree, IsProgram}
-use Rattle.src_meaning.specs.Locals.{local_keys, local_tys}
+use Rattle.src_meaning.specs.Locals.OfBody.{local_keys, local_tys}
 use Rattle.src_meaning.specs.Programs.{source}
 use Rattle.src_meaning.proofs.Examples.Words.{i32, unit, bool, n, nodes, body, scalars, head}
 

@@ -2,7 +2,7 @@
 use Rattle.std.proofs.Common.{◌≡◌, refl, [], ◌∷◌, pos}
 use Rattle.std.specs.Prelude.{ℕ, Option, Some, None, false}
 use Rattle.store_model.specs.Effects.{Site}
-use Rattle.store_model.specs.Free.{Free, on_presence}
+use Rattle.store_model.specs.Abstract.Effects.{Free, on_presence}
 use Rattle.typed_tree.specs.declared.node.Use.{Use}
 use Rattle.typed_tree.specs.Tree.{Node, absent, Number, Variable, Call, Block, BodyTree}
 use Rattle.src_meaning.specs.Evaluation.{meaning}

@@ -1,5 +1,5 @@
 use Rattle.std.proofs.Common.{◌≡◌, map, take}
-use Rattle.store_model.specs.Data.{datum_of}
+use Rattle.store_model.specs.Values.Datum.{datum_of}
 use Rattle.store_model.proofs.+copy.Given as goal
 
 abbrev pub invariant-copies::copy_parts-loop-part : goal.invariant-copies::copy_parts-loop-part

@@ -1,4 +1,4 @@
-use Rattle.cfg_meaning.proofs.TickLaws.{graph_run_goes_on, raw_graph_run_goes_on}
+use Rattle.cfg_meaning.proofs.Ticks.{graph_run_goes_on, raw_graph_run_goes_on}
 use Rattle.cfg_meaning.proofs.laws.law_of_ticks.Goals as goal
 
 pub returns : goal.returns

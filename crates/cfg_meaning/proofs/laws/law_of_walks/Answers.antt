@@ -1,5 +1,5 @@
-use Rattle.cfg_meaning.proofs.FreeLaws.{free_walk_on, free_walk_same}
-use Rattle.cfg_meaning.proofs.ValuesLaws.{values_walk_on, values_walk_same, values_nested}
+use Rattle.cfg_meaning.proofs.FreeWalks.{free_walk_on, free_walk_same}
+use Rattle.cfg_meaning.proofs.Runs.{values_walk_on, values_walk_same, values_nested}
 use Rattle.cfg_meaning.proofs.laws.law_of_walks.Goals as goal
 
 pub returns : goal.returns

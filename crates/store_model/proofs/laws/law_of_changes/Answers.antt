@@ -1,4 +1,4 @@
-use Rattle.store_model.proofs.PlaceLaws.{replaced-replaced, replaced-replaced_below, replaced-standing_at, replaced_back, replaced-append, replaced-swap}
+use Rattle.store_model.proofs.Values.Access.{replaced-replaced, replaced-replaced_below, replaced-standing_at, replaced_back, replaced-append, replaced-swap}
 use Rattle.store_model.proofs.laws.law_of_changes.Goals as goal
 
 pub returns : goal.returns

@@ -1,5 +1,5 @@
-use Rattle.store_model.proofs.PlaceLaws.{standing_at-append, IsCutOff-from_none, none_from-IsCutOff, paths_compare}
-use Rattle.store_model.proofs.SerialLaws.{steps_to_parts-lead}
+use Rattle.store_model.proofs.Values.Access.{standing_at-append, IsCutOff-from_none, none_from-IsCutOff, paths_compare}
+use Rattle.store_model.proofs.Values.Serials.{steps_to_parts-lead}
 use Rattle.store_model.proofs.laws.law_of_paths.Goals as goal
 
 pub returns : goal.returns

@@ -1,4 +1,4 @@
-use Rattle.store_model.proofs.SerialLaws.{IsNumbered-iff_serial, serials-split, serials-exchange, serials-taken, serials-along_steps}
+use Rattle.store_model.proofs.Values.Serials.{IsNumbered-iff_serial, serials-split, serials-exchange, serials-taken, serials-along_steps}
 use Rattle.store_model.proofs.laws.law_of_serials.Goals as goal
 
 pub returns : goal.returns

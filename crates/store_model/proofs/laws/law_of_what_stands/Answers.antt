@@ -1,4 +1,4 @@
-use Rattle.store_model.proofs.PlaceLaws.{replaced-nowhere, standing_at-replaced, standing_at-replaced_above, standing_at-replaced_below, standing_at-replaced_apart, standing_at-below_Gone}
+use Rattle.store_model.proofs.Values.Access.{replaced-nowhere, standing_at-replaced, standing_at-replaced_above, standing_at-replaced_below, standing_at-replaced_apart, standing_at-below_Gone}
 use Rattle.store_model.proofs.laws.law_of_what_stands.Goals as goal
 
 pub returns : goal.returns

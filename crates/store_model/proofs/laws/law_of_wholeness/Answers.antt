@@ -1,4 +1,4 @@
-use Rattle.store_model.proofs.WholenessLaws.{IsWhole-iff_no_gone, is_whole-iff_IsWhole, IsWhole-standing_at, IsWhole-replaced, not_whole-taken}
+use Rattle.store_model.proofs.Values.Wholeness.{IsWhole-iff_no_gone, is_whole-iff_IsWhole, IsWhole-standing_at, IsWhole-replaced, not_whole-taken}
 use Rattle.store_model.proofs.laws.law_of_wholeness.Goals as goal
 
 pub returns : goal.returns

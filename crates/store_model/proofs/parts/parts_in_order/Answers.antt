@@ -1,9 +1,9 @@
 use Rattle.std.proofs.Common.{◌≡◌, IfOk, map, sym, ap, ◌∙◌, subst, rules}
 use Rattle.std.specs.List.{range_with_len}
 use Rattle.store_model.specs.declared.address.At.TheVariants.{Part}
-use Rattle.store_model.specs.Data.{datum_of}
-use Rattle.store_model.specs.Dropping.{steps_to_parts}
-use Rattle.store_model.proofs.DataLemmas.{steps_to_parts-Parts}
+use Rattle.store_model.specs.Values.Datum.{datum_of}
+use Rattle.store_model.specs.Values.Parts.{steps_to_parts}
+use Rattle.store_model.proofs.Values.Datum.{steps_to_parts-Parts}
 use Rattle.store_model.proofs.parts.parts_in_order.Goals as goal
 
 pub returns-in-Ok : goal.returns-in-Ok

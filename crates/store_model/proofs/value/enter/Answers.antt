@@ -1,4 +1,4 @@
-use Rattle.store_model.proofs.CountLemmas.{IsNearerEnd-begun, IsNearerEnd-held}
+use Rattle.store_model.proofs.Values.DropMeasure.{IsNearerEnd-begun, IsNearerEnd-held}
 use Rattle.store_model.proofs.value.enter.Goals as goal
 
 pub returns-in_default : goal.returns-in_default

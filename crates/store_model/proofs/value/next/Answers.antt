@@ -1,7 +1,7 @@
 use Rattle.std.proofs.Common.{◌≡◌, ◌+◌, ap, ◌∙◌, arith}
-use Rattle.store_model.specs.Data.{datum_of}
-use Rattle.store_model.specs.Counts.{node_count, count_in, count_waiting}
-use Rattle.store_model.proofs.CountLemmas.{count_in-push}
+use Rattle.store_model.specs.Values.Datum.{datum_of}
+use Rattle.store_model.specs.Values.DropMeasure.{node_count, count_in, count_waiting}
+use Rattle.store_model.proofs.Values.DropMeasure.{count_in-push}
 use Rattle.store_model.proofs.value.next.Goals as goal
 
 pub returns-clause-left : goal.returns-clause-left

@@ -1,7 +1,7 @@
 use Rattle.std.proofs.Common.{Some, sym, ◌∙◌, ap}
-use Rattle.store_model.specs.Data.{datum_of}
-use Rattle.store_model.specs.Counts.{node_count, IsNearerEnd}
-use Rattle.store_model.proofs.CountLemmas.{IsNearerEnd-Boxed, IsNearerEnd-Parts, IsNearerEnd-other, falls_nearer_end}
+use Rattle.store_model.specs.Values.Datum.{datum_of}
+use Rattle.store_model.specs.Values.DropMeasure.{node_count, IsNearerEnd}
+use Rattle.store_model.proofs.Values.DropMeasure.{IsNearerEnd-Boxed, IsNearerEnd-Parts, IsNearerEnd-other, falls_nearer_end}
 use Rattle.store_model.proofs.value.Value.drop.Goals as goal
 use Rattle.store_model.proofs.value.Value.drop.Goals.{in-Boxed, in-Parts, in-Gone-1}
 

@@ -1,6 +1,6 @@
 use Rattle.std.proofs.Common.{◌+◌, ◌*◌, suc}
-use Rattle.store_model.specs.Data.{datum_of}
-use Rattle.store_model.specs.Counts.{node_count, count_left}
+use Rattle.store_model.specs.Values.Datum.{datum_of}
+use Rattle.store_model.specs.Values.DropMeasure.{node_count, count_left}
 use Rattle.store_model.proofs.value.Value.drop.Given as goal
 
 abbrev pub decreases-loop-self : goal.decreases-loop-self

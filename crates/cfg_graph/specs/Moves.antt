@@ -1,0 +1,5 @@
+pub mod Actions
+pub mod BadUses
+pub mod Gone
+pub mod Paths
+pub mod Present

@@ -1,0 +1,4 @@
+pub mod DropExamples
+pub mod Effects
+pub mod MoreTicks
+pub mod OneTickMore

@@ -1,0 +1,4 @@
+pub mod Agreement
+pub mod Following
+pub mod Laws
+pub mod NeverStores

@@ -1,7 +1,0 @@
-use Rattle.std.proofs.Common.{◌≡◌, drop}
-use Rattle.store_model.specs.Data.{datum_of}
-use Rattle.store_model.specs.Places.{standing_at}
-use Rattle.store_model.proofs.places.read.Given as goal
-
-abbrev pub invariant-loop-step : goal.invariant-loop-step
-invariant-loop-step l = standing_at l.path (datum_of l.root) ≡ standing_at (drop l.step-index l.path) (datum_of l.place)

@@ -1,0 +1,5 @@
+pub mod Bodies
+pub mod Drops
+pub mod Effects
+pub mod Location
+pub mod State
