@@ -24,7 +24,7 @@ use Rattle.cfg_graph.specs.Moves.Paths.{IsPath}
 use Rattle.cfg_graph.specs.Places.{named}
 use Rattle.cfg_graph.specs.Uses.{operands_of_stmt, operands_of_term, stored_by_stmt, stored_by_term}
 use Rattle.store_model.specs.Concrete.Drops.{drop_impl}
-use Rattle.store_model.specs.Places.Place.{Step, stepped_ty, is_reference, whole_local}
+use Rattle.store_model.specs.Places.Place.{Step, step_ty, is_reference, whole_local}
 
 -- a test of all statements of a body, and of all blocks
 abbrev all_stmts : (Stmt → Bool) → Body → Bool
@@ -50,7 +50,7 @@ abbrev container_tys : ItemTable → Option TyId → List Step → List (Option 
 container_tys items id [] = []
 container_tys items id (step ∷ steps) =
     option_and_then (type_at items) id
-    ∷ container_tys items (option_and_then (stepped_ty items step) (option_and_then (type_at items) id)) steps
+    ∷ container_tys items (option_and_then (step_ty items step) (option_and_then (type_at items) id)) steps
 
 -- the places that a statement stores into and those that a terminator does, in a whole body
 abbrev stored_in : Body → List Place

@@ -5,22 +5,22 @@ use Rattle.cfg_graph.specs.declared.graph.Body.{Body}
 use Rattle.cfg_graph.specs.declared.graph.Graph.{Graph}
 use Rattle.cfg_meaning.proofs.Walks.{walk_less, walk_on, walk_same}
 use Rattle.cfg_meaning.proofs.WalkTied.{walk_tied}
-use Rattle.cfg_meaning.specs.Laws.{WalkIsOneEquation, WalkHasNoBound, GraphRunHasNoBound}
+use Rattle.cfg_meaning.specs.Laws.{WalkIsOneEquation, FuelOfWalksIsIrrelevant, FuelOfGraphRunsIsIrrelevant}
 use Rattle.cfg_meaning.specs.Programs.{setting_of, code_of}
 use Rattle.store_model.proofs.Effects.Laws.{NoMore, Laws}
 use Rattle.store_model.proofs.Concrete.Effects.{ticks_of, KeepsTicks, TiesTicks, values_laws, body_thrifty, bodies_agree}
-use Rattle.store_model.specs.Concrete.Effects.{on_values}
-use Rattle.store_model.specs.Effects.{NoStep, Out, Halts}
+use Rattle.store_model.specs.Concrete.Effects.{concrete_effects}
+use Rattle.store_model.specs.Effects.{Stuck, Out, Halts}
 use Rattle.store_model.specs.Concrete.Bodies.{run_body}
-use Rattle.store_model.specs.Concrete.State.{World, Bodies}
+use Rattle.store_model.specs.Concrete.State.{State, Bodies}
 
-if_body_less : (m : ℕ) (o : Option Body) (f : Body → Out World) (w : World) → ((body : Body) → NoMore ticks_of m (f body)) →
-    NoMore ticks_of m (option_map_or f o (Halts NoStep w))
+if_body_less : (m : ℕ) (o : Option Body) (f : Body → Out State) (w : State) → ((body : Body) → NoMore ticks_of m (f body)) →
+    NoMore ticks_of m (option_map_or f o (Halts Stuck w))
 if_body_less m None f w e = tt
 if_body_less m (Some body) f w e = e body
 
-if_body_same : (o : Option Body) (f f' : Body → Out World) (w : World) → ((body : Body) → f body ≡ f' body) →
-    option_map_or f o (Halts NoStep w) ≡ option_map_or f' o (Halts NoStep w)
+if_body_same : (o : Option Body) (f f' : Body → Out State) (w : State) → ((body : Body) → f body ≡ f' body) →
+    option_map_or f o (Halts Stuck w) ≡ option_map_or f' o (Halts Stuck w)
 if_body_same None f f' w e = refl
 if_body_same (Some body) f f' w e = e body
 
@@ -37,16 +37,16 @@ module _ (strict : Bool) (graph : Graph) where
   abbrev bodies : ℕ → Bodies
   bodies n = run_body (setting_of strict graph) (code_of graph) n
 
-  graph_laws : (n : ℕ) → Laws (on_values (setting_of strict graph) (bodies n) (suc n)) ticks_of
+  graph_laws : (n : ℕ) → Laws (concrete_effects (setting_of strict graph) (bodies n) (suc n)) ticks_of
   graph_laws n = values_laws (setting_of strict graph) (bodies n) (body_thrifty (setting_of strict graph) (code_of graph) (graph_keeps graph) n) (suc n)
 
 pub values_walk_on : WalkIsOneEquation
-values_walk_on strict graph n number node body ranked most block w l =
-    walk_on ticks_of (on_values (setting_of strict graph) (bodies strict graph n) (suc n)) (graph_laws strict graph n) number node body ranked most block w l
+values_walk_on strict graph n number node body ranked fuel block w l =
+    walk_on ticks_of (concrete_effects (setting_of strict graph) (bodies strict graph n) (suc n)) (graph_laws strict graph n) number node body ranked fuel block w l
 
-pub values_walk_same : WalkHasNoBound
-values_walk_same strict graph n number node body ranked most other block w l l' =
-    walk_same ticks_of (on_values (setting_of strict graph) (bodies strict graph n) (suc n)) (graph_laws strict graph n) number node body ranked most other block w l l'
+pub values_walk_same : FuelOfWalksIsIrrelevant
+values_walk_same strict graph n number node body ranked fuel other block w l l' =
+    walk_same ticks_of (concrete_effects (setting_of strict graph) (bodies strict graph n) (suc n)) (graph_laws strict graph n) number node body ranked fuel other block w l l'
 
-pub values_nested : GraphRunHasNoBound
+pub values_nested : FuelOfGraphRunsIsIrrelevant
 values_nested strict graph = bodies_agree (setting_of strict graph) (code_of graph) (graph_keeps graph) (graph_ties graph)

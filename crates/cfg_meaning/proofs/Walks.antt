@@ -9,11 +9,11 @@ use Rattle.cfg_graph.specs.declared.terminator.Term.{Term}
 use Rattle.cfg_graph.specs.declared.terminator.Unwind.{Unwind}
 use Rattle.cfg_graph.specs.Edges.{IsRanked, targets, unwind_block, is_turn, is_turn_kind}
 use Rattle.cfg_meaning.specs.Actions.{site_of, operand_of, operands_of, action_of, mode_of}
-use Rattle.cfg_meaning.specs.Walk.{Next, stuck_in, ◌>>=◌, fork, branch, renamed, renamed_choice, naming, unwinding, stmts_do, acts, term_does, block_does, rank_at, does_block, does_turn, by_kind, if_there, entered, blocks, from_rank, turns, walk}
+use Rattle.cfg_meaning.specs.Walk.{Next, stuck_in, ◌>>=◌, fork, branch, renamed, renamed_choice, naming, unwinding, stmts_do, acts, term_does, block_does, rank_at, does_block, does_turn, by_kind, if_there, unfolded, blocks, from_rank, turns, walk}
 use Rattle.mir_base.specs.declared.trace.Why.{Why}
 use Rattle.store_model.proofs.Effects.Laws.{NoMore, NoMoreOf, Ticked, Laws, weaker, weaker_of, Same, Keeps}
 use Rattle.store_model.specs.Effects as effects
-use Rattle.store_model.specs.Effects.{Action, Test, Mode, Site, Halt, Aborted, NoStep, Out, Go, Unwind as Unwinds, Halts, Choice, Yes, No, Neither, Effects}
+use Rattle.store_model.specs.Effects.{Action, Test, Mode, Site, Halt, Aborted, Stuck, Out, Go, Unwind as Unwinds, Halts, Choice, Yes, No, Neither, Effects}
 use Rattle.store_model.specs.Places.Place.{whole_local}
 
 module _ {W : Type 0} (size : W → ℕ) where
@@ -248,8 +248,8 @@ module _ {W : Type 0} (size : W → ℕ) (p : Effects W) (laws : Laws p size) (n
       (does_less m n block (from_rank p number node body (turns p number node body t))
       (λ d. blocks_less (turns p number node body t) m (turns_less m t) (suc (rank_at p number node body d)) d)))
 
-  pub walk_less : (m most n : ℕ) → Keeps size m (walk p number node body most n)
-  walk_less m most n = blocks_less (turns p number node body most) m (turns_less m most) (suc (rank_at p number node body n)) n
+  pub walk_less : (m fuel n : ℕ) → Keeps size m (walk p number node body fuel n)
+  walk_less m fuel n = blocks_less (turns p number node body fuel) m (turns_less m fuel) (suc (rank_at p number node body n)) n
 
   pub there_same : (o : Option Block) (n : ℕ) (does does' : Block → W → Out W) (w : W) → ((block : Block) → does block w ≡ does' block w) →
       if_there p number node body o n does w ≡ if_there p number node body o n does' w
@@ -314,7 +314,7 @@ module _ {W : Type 0} (size : W → ℕ) (p : Effects W) (laws : Laws p size) (n
         (λ d c u j. walk_same t (suc t) d u (omega arith) (omega arith)) v (omega arith))
 
     -- the walk is what its first block does, and then a walk
-    pub walk_on : (t n : ℕ) (w : W) → size w < t → walk p number node body t n w ≡ entered p number node body (walk p number node body t) n w
+    pub walk_on : (t n : ℕ) (w : W) → size w < t → walk p number node body t n w ≡ unfolded p number node body (walk p number node body t) n w
     walk_on t n w l =
         entering_same (block_at n) n (λ block. turns p number node body t) (λ block n. does_turn p number node body n block (walk p number node body t)) _ _ w
         (λ block h. turn_walks t n block h w l)

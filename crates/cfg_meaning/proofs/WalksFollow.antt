@@ -11,14 +11,14 @@ use Rattle.cfg_meaning.specs.Actions.{site_of, operand_of, operands_of, action_o
 use Rattle.cfg_meaning.specs.Walk.{Next, stuck_in, ◌>>=◌, fork, branch, renamed, renamed_choice, naming, unwinding, stmts_do, acts, term_does, block_does, rank_at, does_block, does_turn, by_kind, if_there, blocks, from_rank, turns, walk}
 use Rattle.store_model.proofs.Effects.Following.{Relation, FollowsOut, goes_on, unwinds, halts, lapsed, outlived, refused, FollowsChoice, takes, declines, neither, lapsed_choice, outlived_choice, refused_choice, FollowsOuts, FollowsEffects, out_after, panics_on, ends}
 use Rattle.store_model.specs.Effects as effects
-use Rattle.store_model.specs.Effects.{Halt, Aborted, OutOfTicks, NoStep, StuckAt, Out, Go, Unwind, Halts, Choice, Yes, No, Neither, Effects}
+use Rattle.store_model.specs.Effects.{Halt, Aborted, OutOfTicks, Stuck, StuckAt, Out, Go, Unwind, Halts, Choice, Yes, No, Neither, Effects}
 use Rattle.store_model.specs.Places.Place.{whole_local}
 
 module _ {W V : Type 0} (rel : Relation W V) where
   go_follows : {n : rel.Stage} {o : Out W} {g : rel.Items → Out V} {f : W → Out W} (f' : V → Out V) → FollowsOut rel n o g → FollowsOuts rel f f' →
       FollowsOut rel n (◌>>=◌ o f) (λ t. ◌>>=◌ (g t) f')
   go_follows f' (goes_on n w c l _ k d) e = out_after rel l _ (λ rest. ap (λ o. ◌>>=◌ o f') (d rest)) (e n w c k)
-  go_follows f' (unwinds n w c l _ k d) e = halts n NoStep w c l _ (rel.at_halt n w c k) (λ rest. ap (λ o. ◌>>=◌ o f') (d rest))
+  go_follows f' (unwinds n w c l _ k d) e = halts n Stuck w c l _ (rel.at_halt n w c k) (λ rest. ap (λ o. ◌>>=◌ o f') (d rest))
   go_follows f' (halts n halt w c l _ k d) e = halts n halt w c l _ k (λ rest. ap (λ o. ◌>>=◌ o f') (d rest))
   go_follows f' (lapsed n halt w _ k) e = lapsed n halt w _ k
   go_follows {f = f} f' (outlived n halt w later s _ k d) e = outlived n halt w later (◌>>=◌ s f) _ k (go_follows f' d e)
@@ -151,24 +151,24 @@ module _ {W V : Type 0} (rel : Relation W V) where
     kind_follows Kind.Turn b block turn' plain' t e n w c k = t b n w c k
     kind_follows Kind.Cleanup b block turn' plain' t e n w c k = e b n w c k
 
-    blocks_follow : (turn : Next W) (turn' : Next V) → ((b : ℕ) → FollowsOuts rel (turn b) (turn' b)) → (most b : ℕ) →
-        FollowsOuts rel (blocks p number node body turn most b) (blocks q number node body turn' most b)
+    blocks_follow : (turn : Next W) (turn' : Next V) → ((b : ℕ) → FollowsOuts rel (turn b) (turn' b)) → (fuel b : ℕ) →
+        FollowsOuts rel (blocks p number node body turn fuel b) (blocks q number node body turn' fuel b)
     blocks_follow turn turn' t zero b n w c k =
-        there_follows (slice_get body.blocks b) b (λ block. by_kind q number node body block.kind b block turn' (λ b. Halts NoStep))
-        (λ block. kind_follows block.kind b block turn' (λ b. Halts NoStep) t (λ b n w c k. ends rel n NoStep w c k)) n w c k
-    blocks_follow turn turn' t (suc most) b n w c k =
+        there_follows (slice_get body.blocks b) b (λ block. by_kind q number node body block.kind b block turn' (λ b. Halts Stuck))
+        (λ block. kind_follows block.kind b block turn' (λ b. Halts Stuck) t (λ b n w c k. ends rel n Stuck w c k)) n w c k
+    blocks_follow turn turn' t (suc fuel) b n w c k =
         there_follows (slice_get body.blocks b) b
-        (λ block. by_kind q number node body block.kind b block turn' (λ b. does_block q number node body b block (blocks q number node body turn' most)))
-        (λ block. kind_follows block.kind b block turn' (λ b. does_block q number node body b block (blocks q number node body turn' most)) t
-        (λ b. does_follows b block (blocks p number node body turn most) (blocks q number node body turn' most) (blocks_follow turn turn' t most))) n w c k
+        (λ block. by_kind q number node body block.kind b block turn' (λ b. does_block q number node body b block (blocks q number node body turn' fuel)))
+        (λ block. kind_follows block.kind b block turn' (λ b. does_block q number node body b block (blocks q number node body turn' fuel)) t
+        (λ b. does_follows b block (blocks p number node body turn fuel) (blocks q number node body turn' fuel) (blocks_follow turn turn' t fuel))) n w c k
 
-    turns_follow : (most b : ℕ) → FollowsOuts rel (turns p number node body most b) (turns q number node body most b)
+    turns_follow : (fuel b : ℕ) → FollowsOuts rel (turns p number node body fuel b) (turns q number node body fuel b)
     turns_follow zero b n w c k = ends rel n OutOfTicks w c k
-    turns_follow (suc most) b n w c k =
-        there_follows (slice_get body.blocks b) b (λ block. does_turn q number node body b block (from_rank q number node body (turns q number node body most)))
-        (λ block. turn_follows b block (from_rank p number node body (turns p number node body most)) (from_rank q number node body (turns q number node body most))
-        (λ b. blocks_follow (turns p number node body most) (turns q number node body most) (turns_follow most) (suc (rank_at p number node body b)) b)) n w c k
+    turns_follow (suc fuel) b n w c k =
+        there_follows (slice_get body.blocks b) b (λ block. does_turn q number node body b block (from_rank q number node body (turns q number node body fuel)))
+        (λ block. turn_follows b block (from_rank p number node body (turns p number node body fuel)) (from_rank q number node body (turns q number node body fuel))
+        (λ b. blocks_follow (turns p number node body fuel) (turns q number node body fuel) (turns_follow fuel) (suc (rank_at p number node body b)) b)) n w c k
 
-    pub walk_follows : (most b : ℕ) → FollowsOuts rel (walk p number node body most b) (walk q number node body most b)
-    walk_follows most b =
-        blocks_follow (turns p number node body most) (turns q number node body most) (turns_follow most) (suc (rank_at p number node body b)) b
+    pub walk_follows : (fuel b : ℕ) → FollowsOuts rel (walk p number node body fuel b) (walk q number node body fuel b)
+    walk_follows fuel b =
+        blocks_follow (turns p number node body fuel) (turns q number node body fuel) (turns_follow fuel) (suc (rank_at p number node body b)) b

@@ -7,7 +7,7 @@ use Rattle.cfg_graph.specs.declared.statement.Stmt.{Stmt}
 use Rattle.cfg_graph.specs.declared.terminator.Unwind.{Unwind}
 use Rattle.cfg_graph.specs.Places.{named}
 use Rattle.store_model.specs.Effects as effects
-use Rattle.store_model.specs.Effects.{Site, Action, Mode, Calm, Unwinding}
+use Rattle.store_model.specs.Effects.{Site, Action, Mode, Normal, Unwinding}
 
 module _ (node : ℕ) where
   abbrev pub site_of : Place → Site
@@ -43,6 +43,6 @@ module _ (node : ℕ) where
 
 -- a drop is made while a panic unwinds exactly where a panic out of it aborts
 abbrev pub mode_of : Unwind → Mode
-mode_of (Unwind.Block block) = Calm
-mode_of Unwind.Resume = Calm
+mode_of (Unwind.Block block) = Normal
+mode_of Unwind.Resume = Normal
 mode_of Unwind.Abort = Unwinding

@@ -10,9 +10,9 @@ use Rattle.cfg_graph.specs.declared.graph.Body.{Body}
 use Rattle.cfg_graph.specs.declared.graph.Graph.{Graph}
 use Rattle.cfg_meaning.specs.Walk.{walk}
 use Rattle.store_model.specs.Values.Datum.{Datum}
-use Rattle.store_model.specs.Effects.{NoStep, Out, Halts}
+use Rattle.store_model.specs.Effects.{Stuck, Out, Halts}
 use Rattle.store_model.specs.Concrete.Bodies.{Code, main_of, run_of}
-use Rattle.store_model.specs.Abstract.Effects.{Free, at_start, on_presence}
+use Rattle.store_model.specs.Abstract.Effects.{AbstractState, at_start, abstract_effects}
 use Rattle.store_model.specs.Concrete.Location.{Setting}
 use Rattle.store_model.specs.Concrete.State.{Cells}
 
@@ -36,7 +36,7 @@ code_of graph = record {
   arguments = λ n args. arguments_from 1 args;
   answer = λ n. 0;
   within = λ p turns n w.
-      option_map_or (λ body. walk p n no_node body turns 0 w) (slice_get graph.bodies n) (Halts NoStep w);
+      option_map_or (λ body. walk p n no_node body turns 0 w) (slice_get graph.bodies n) (Halts Stuck w);
 }
 
 -- the trace and the end of a graph, with these numbers to be asked and so many ticks
@@ -48,7 +48,7 @@ abbrev pub raw_graph_run : Graph → List ℤ → ℕ → Trace × End
 raw_graph_run graph asked ticks = run_of (setting_of false graph) (code_of graph) (main_of graph.items) asked ticks
 
 -- the walk of a body that takes these items, where each line stands for a node of the source
-abbrev pub free_walk : ItemTable → (ℕ → ℕ → ℕ) → Body → List Bool → Out Free
+abbrev pub free_walk : ItemTable → (ℕ → ℕ → ℕ) → Body → List Bool → Out AbstractState
 free_walk items node body list =
-    walk (on_presence items (slice_get body.locals)) 0 node body (suc (length list)) 0
+    walk (abstract_effects items (slice_get body.locals)) 0 node body (suc (length list)) 0
     (at_start (range_with_len 1 body.params) list)

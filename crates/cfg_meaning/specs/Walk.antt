@@ -10,7 +10,7 @@ use Rattle.cfg_graph.specs.declared.terminator.Term.{Term}
 use Rattle.cfg_graph.specs.declared.terminator.Unwind.{Unwind}
 use Rattle.cfg_meaning.specs.Actions.{site_of, operand_of, operands_of, action_of, mode_of}
 use Rattle.store_model.specs.Effects as effects
-use Rattle.store_model.specs.Effects.{Action, Test, Mode, Site, Halt, Aborted, OutOfTicks, NoStep, StuckAt, BadUse, BadStore, NoItem, NoRun, PastTheEnd, Out, Go, Unwind as Unwinds, Halts, Choice, Yes, No, Neither, Effects}
+use Rattle.store_model.specs.Effects.{Action, Test, Mode, Site, Halt, Aborted, OutOfTicks, Stuck, StuckAt, BadUse, BadStore, NoChoice, Infeasible, Unreachable, Out, Go, Unwind as Unwinds, Halts, Choice, Yes, No, Neither, Effects}
 use Rattle.store_model.specs.Places.Place.{whole_local}
 
 -- what is done from a block on
@@ -19,14 +19,14 @@ Next W = ℕ → W → Out W
 
 -- A missing step is stuck in its block. What halted in a body that was called has its block already.
 abbrev pub stuck_in : ℕ → ℕ → Halt → Halt
-stuck_in body block NoStep = StuckAt body block
+stuck_in body block Stuck = StuckAt body block
 stuck_in body block halt = halt
 
 module _ {W : Type 0} where
   -- what cannot panic, and what comes next where it goes on: the lines of a `do` block follow one another so
   abbrev pub ◌>>=◌ : Out W → (W → Out W) → Out W
   ◌>>=◌ (Go w) next = next w
-  ◌>>=◌ (Unwinds w) next = Halts NoStep w
+  ◌>>=◌ (Unwinds w) next = Halts Stuck w
   ◌>>=◌ (Halts halt w) next = Halts halt w
 
   abbrev pub fork : Out W → (W → Out W) → (W → Out W) → Out W
@@ -128,8 +128,8 @@ module _ {W : Type 0} (p : Effects W) (number : ℕ) (node : ℕ → ℕ → ℕ
   if_there (Some block) n does w = does block w
 
   -- what the walk does from a block on, in terms of what it does from the next ones on
-  abbrev pub entered : Next W → Next W
-  entered next n w =
+  abbrev pub unfolded : Next W → Next W
+  unfolded next n w =
       if_there (slice_get body.blocks n) n
       (λ block. by_kind block.kind n block (λ n. does_turn n block next) (λ n. does_block n block next)) w
 
@@ -137,10 +137,10 @@ module _ {W : Type 0} (p : Effects W) (number : ℕ) (node : ℕ → ℕ → ℕ
   -- block lowers the rank, so a bound greater than the rank is never met.
   abbrev pub blocks : Next W → ℕ → Next W
   blocks turn zero n w =
-      if_there (slice_get body.blocks n) n (λ block. by_kind block.kind n block turn (λ n. Halts NoStep)) w
-  blocks turn (suc most) n w =
+      if_there (slice_get body.blocks n) n (λ block. by_kind block.kind n block turn (λ n. Halts Stuck)) w
+  blocks turn (suc fuel) n w =
       if_there (slice_get body.blocks n) n
-      (λ block. by_kind block.kind n block turn (λ n. does_block n block (blocks turn most))) w
+      (λ block. by_kind block.kind n block turn (λ n. does_block n block (blocks turn fuel))) w
 
   abbrev pub from_rank : Next W → Next W
   from_rank turn n w = blocks turn (suc (rank_at n)) n w
@@ -149,8 +149,8 @@ module _ {W : Type 0} (p : Effects W) (number : ℕ) (node : ℕ → ℕ → ℕ
   -- never met
   abbrev pub turns : ℕ → Next W
   turns zero n w = Halts OutOfTicks w
-  turns (suc most) n w = if_there (slice_get body.blocks n) n (λ block. does_turn n block (from_rank (turns most))) w
+  turns (suc fuel) n w = if_there (slice_get body.blocks n) n (λ block. does_turn n block (from_rank (turns fuel))) w
 
   -- the walk of a body from a block on, with fewer turns than so many
   abbrev pub walk : ℕ → Next W
-  walk most = from_rank (turns most)
+  walk fuel = from_rank (turns fuel)

@@ -1,11 +1,11 @@
 //! The laws of graphs' meaning. Each is a clause of a function without parameters.
 ghost use Rattle.cfg_meaning.specs.Laws.{
-  FreeWalkHasNoBound,
+  FuelOfFreeWalksIsIrrelevant,
   FreeWalkIsOneEquation,
   GraphRunGoesOn,
-  GraphRunHasNoBound,
+  FuelOfGraphRunsIsIrrelevant,
   RawGraphRunGoesOn,
-  WalkHasNoBound,
+  FuelOfWalksIsIrrelevant,
   WalkIsOneEquation,
 };
 
@@ -14,10 +14,10 @@ ghost use Rattle.cfg_meaning.specs.Laws.{
 /// are the bounds on nesting and on drops: with no more ticks than two bounds, a body of a graph runs the same.
 pub fn law_of_walks()
     ensures values { WalkIsOneEquation }
-    ensures values_bound { WalkHasNoBound }
+    ensures values_fuel { FuelOfWalksIsIrrelevant }
     ensures free { FreeWalkIsOneEquation }
-    ensures free_bound { FreeWalkHasNoBound }
-    ensures nested { GraphRunHasNoBound }
+    ensures free_fuel { FuelOfFreeWalksIsIrrelevant }
+    ensures nested { FuelOfGraphRunsIsIrrelevant }
 {}
 
 /// One tick more changes nothing of what was done: a strict or raw run that is not out of ticks is the same, and

@@ -5,7 +5,7 @@ use Rattle.mir_base.specs.declared.trace.Why.{Why}
 use Rattle.mir_ty.specs.Facts.{needs_drop}
 use Rattle.mir_ty.specs.ItemTable.{ItemTable}
 use Rattle.store_model.proofs.Effects.Following.{Relation, FollowsOut, goes_on, unwinds, halts, lapsed, outlived, refused, FollowsOuts, FollowsChoice, takes, declines, neither, lapsed_choice, outlived_choice, refused_choice, FollowsChoices, FollowsEffects, FollowsTick, Bounds, one_bound, more_turns, great_bounds, choice_after, says_yes, says_no, goes}
-use Rattle.store_model.specs.Effects.{Site, Operand, Copied, Number, Truth, UnitValue, Action, Put, Compare, Touch, Bounds as BoundsOf, Borrow, Unsize, IsTrue, HasVariant, Calm, Halt, NoStep, OutOfTicks, Out, Go, Unwind, Halts, Choice, Effects}
+use Rattle.store_model.specs.Effects.{Site, Operand, Copied, Number, Truth, UnitValue, Action, Put, Compare, Touch, Bounds as BoundsOf, Borrow, Unsize, IsTrue, HasVariant, Normal, Halt, Stuck, OutOfTicks, Out, Go, Unwind, Halts, Choice, Effects}
 use Rattle.store_model.specs.Places.Place.{Place, whole_local}
 use Rattle.src_meaning.proofs.RunsFollow.{Follows, is_at, is_over, lapsed_run, outlived_run, refused_run, FollowsDoes, run_after, within_run, stays, stops, then_follow, at_follow, changing_follow, doing_follow, choosing_follow, back_follow, leaving_follow, in_scope_follow, in_scope_with_follow}
 use Rattle.src_meaning.specs.Forms.{Destination, Into, Coerced, Around, aliases_with, Meaning, entry_of, bound_entry, site_in, site_of_key, moved, keys_of, all_moved, is_never, acts, panics, deliver, put_unit, put_unit_if, in_own_scope, alone, pending_if, complete, operand, operands, take, acting, dropping, temporary, use_of_place, array_around, reach_element, borrowing, stored, stored_after, dropped_first, replacing, assigning, condition, branch, tested, equals, tests_after, alternatives_after, holds, all_hold, any_holds, bind, touched, scrutinised, if_taken, arms_in_order, matching, taken_arm, guarded, arm, statements, tail_of, block, evaluating, let_name, let_parts, emptied, declared, let_value, letting, ticked, turned, turns, ends_loop, value_of_jump, jumping}
@@ -153,7 +153,7 @@ module _ {W V : Type 0} (rel : Relation W V) where
     stored_after_follow site key S (refused m _ halt c l _ k d) = refused_run m _ halt c l _ k (λ rest. ap (stored_after items q site key S) (d rest))
 
     dropped_first_follow : (b : Bool) (site : Site) → FollowsOuts rel (dropped_first items p b site) (dropped_first items q b site)
-    dropped_first_follow true site n w c k = follow.dropping Calm site n w c k
+    dropped_first_follow true site n w c k = follow.dropping Normal site n w c k
     dropped_first_follow false site n w c k = goes rel n w c k
 
     replacing_follow : (b : Bool) (site : Site) (key : ℕ) → FollowsDoes rel (replacing items p b site key) (replacing items q b site key)
@@ -185,7 +185,7 @@ module _ {W V : Type 0} (rel : Relation W V) where
     tested_follow : {n : rel.Stage} {o : Out W} {g : rel.Items → Out V} (operand : Operand) → FollowsOut rel n o g →
         FollowsChoice rel n (tested items p o operand) (λ t. tested items q (g t) operand)
     tested_follow operand (goes_on m w c l _ k d) = choice_after rel l _ (λ rest. ap (λ o. tested items q o operand) (d rest)) (follow.choosing (IsTrue operand) m w c k)
-    tested_follow operand (unwinds m w c l _ k d) = neither m NoStep w c l _ (rel.at_halt m w c k) (λ rest. ap (λ o. tested items q o operand) (d rest))
+    tested_follow operand (unwinds m w c l _ k d) = neither m Stuck w c l _ (rel.at_halt m w c k) (λ rest. ap (λ o. tested items q o operand) (d rest))
     tested_follow operand (halts m halt w c l _ k d) = neither m halt w c l _ k (λ rest. ap (λ o. tested items q o operand) (d rest))
     tested_follow operand (lapsed m halt w _ k) = lapsed_choice m halt w _ k
     tested_follow operand (outlived m halt w later s _ k d) = outlived_choice m halt w later (tested items p s operand) _ k (tested_follow operand d)
@@ -319,7 +319,7 @@ module _ {W V : Type 0} (rel : Relation W V) where
 
     emptied_follow : (b : Bool) (key : ℕ) → FollowsDoes rel (emptied items p b key) (emptied items q b key)
     emptied_follow true key = at_follow rel Value
-    emptied_follow false key = doing_follow rel (p.drop Calm (site_of_key key)) (q.drop Calm (site_of_key key)) (follow.dropping Calm (site_of_key key))
+    emptied_follow false key = doing_follow rel (p.drop Normal (site_of_key key)) (q.drop Normal (site_of_key key)) (follow.dropping Normal (site_of_key key))
 
     declared_follow : (bounds : List Bound) → FollowsDoes rel (declared items p bounds) (declared items q bounds)
     declared_follow [] = at_follow rel Value
@@ -376,7 +376,7 @@ module _ {W V : Type 0} (rel : Relation W V) where
           ((n : rel.Stage) → P n → (w : W) (c : rel.Known) → rel.related n w c → Follows rel n (f w) (λ t. f' (rel.feed t c))) →
           Follows rel n (ticked items p o f) (λ t. ticked items q (g t) f')
       after_tick {n} {o} {g} {f} f' h (goes_on m w c l _ k d) e = run_after rel l _ (λ rest. ap (λ o. ticked items q o f') (d rest)) (e m h w c k)
-      after_tick {n} {o} {g} {f} f' h (unwinds m w c l _ k d) e = is_over m NoStep w c l _ (rel.at_halt m w c k) (λ rest. ap (λ o. ticked items q o f') (d rest))
+      after_tick {n} {o} {g} {f} f' h (unwinds m w c l _ k d) e = is_over m Stuck w c l _ (rel.at_halt m w c k) (λ rest. ap (λ o. ticked items q o f') (d rest))
       after_tick {n} {o} {g} {f} f' h (halts m halt w c l _ k d) e = is_over m halt w c l _ k (λ rest. ap (λ o. ticked items q o f') (d rest))
       after_tick {n} {o} {g} {f} f' h (lapsed m halt w _ k) e = lapsed_run m halt w _ k
       after_tick {n} {o} {g} {f} f' h (outlived m halt w later s _ k d) e =
@@ -386,25 +386,25 @@ module _ {W V : Type 0} (rel : Relation W V) where
     abbrev Any : rel.Stage → Type 0
     Any n = Unit {0}
 
-    turns_of_one : {turn : Does W} {turn' : Does V} (most id : ℕ) → FollowsDoes rel turn turn' → FollowsAt Any (turns items p most id turn) (turns items q most id turn')
+    turns_of_one : {turn : Does W} {turn' : Does V} (fuel id : ℕ) → FollowsDoes rel turn turn' → FollowsAt Any (turns items p fuel id turn) (turns items q fuel id turn')
     turns_of_one zero id d n h S w c k = stops rel n OutOfTicks w c k
-    turns_of_one {turn} {turn'} (suc most) id d n h S w c k =
-        after_tick Any (λ n halt w later h o. tt) (λ v. turned items q id S (turn' S v) (turns items q most id turn')) h (follow.ticking n w c k)
-        (λ m h v z j. after_turn Any (λ n halt w later h o. tt) (turns items q most id turn') id S h (d.run m S v z j) (turns_of_one most id d))
+    turns_of_one {turn} {turn'} (suc fuel) id d n h S w c k =
+        after_tick Any (λ n halt w later h o. tt) (λ v. turned items q id S (turn' S v) (turns items q fuel id turn')) h (follow.ticking n w c k)
+        (λ m h v z j. after_turn Any (λ n halt w later h o. tt) (turns items q fuel id turn') id S h (d.run m S v z j) (turns_of_one fuel id d))
 
-    turns_of_more : {turn : Does W} {turn' : Does V} (most most' id : ℕ) → most ≤ most' →
+    turns_of_more : {turn : Does W} {turn' : Does V} (fuel fuel' id : ℕ) → fuel ≤ fuel' →
         ((n : rel.Stage) (w : W) (c : rel.Known) → rel.related n w c → rel.lapses n OutOfTicks w) → FollowsDoes rel turn turn' →
-        FollowsAt Any (turns items p most id turn) (turns items q most' id turn')
-    turns_of_more zero most' id b o d n h S w c k = lapsed_run n OutOfTicks w _ (o n w c k)
-    turns_of_more (suc most) zero id b o d n h S w c k = absurd (let never : ⊥ = omega arith in never)
-    turns_of_more {turn} {turn'} (suc most) (suc most') id b o d n h S w c k =
-        after_tick Any (λ n halt w later h o. tt) (λ v. turned items q id S (turn' S v) (turns items q most' id turn')) h (follow.ticking n w c k)
-        (λ m h v z j. after_turn Any (λ n halt w later h o. tt) (turns items q most' id turn') id S h (d.run m S v z j) (turns_of_more most most' id (omega arith) o d))
+        FollowsAt Any (turns items p fuel id turn) (turns items q fuel' id turn')
+    turns_of_more zero fuel' id b o d n h S w c k = lapsed_run n OutOfTicks w _ (o n w c k)
+    turns_of_more (suc fuel) zero id b o d n h S w c k = absurd (let never : ⊥ = omega arith in never)
+    turns_of_more {turn} {turn'} (suc fuel) (suc fuel') id b o d n h S w c k =
+        after_tick Any (λ n halt w later h o. tt) (λ v. turned items q id S (turn' S v) (turns items q fuel' id turn')) h (follow.ticking n w c k)
+        (λ m h v z j. after_turn Any (λ n halt w later h o. tt) (turns items q fuel' id turn') id S h (d.run m S v z j) (turns_of_more fuel fuel' id (omega arith) o d))
 
     -- a tick that does not go on
     stopped_follow : {n : rel.Stage} {v : W} {g : rel.Items → Out V} (f : W → Run W) (f' : V → Run V) → FollowsOut rel n (Unwind v) g →
         Follows rel n (ticked items p (Unwind v) f) (λ t. ticked items q (g t) f')
-    stopped_follow f f' (unwinds m w c l _ k d) = is_over m NoStep w c l _ (rel.at_halt m w c k) (λ rest. ap (λ o. ticked items q o f') (d rest))
+    stopped_follow f f' (unwinds m w c l _ k d) = is_over m Stuck w c l _ (rel.at_halt m w c k) (λ rest. ap (λ o. ticked items q o f') (d rest))
     stopped_follow f f' (refused m _ halt c l _ k d) = refused_run m _ halt c l _ k (λ rest. ap (λ o. ticked items q o f') (d rest))
 
     halted_follow : ((n : rel.Stage) (halt : Halt) (w : W) (later : rel.Stage) → rel.outlives n halt w later → ⊥) → {n : rel.Stage} {halt : Halt} {v : W} {g : rel.Items → Out V} (f : W → Run W) (f' : V → Run V) → FollowsOut rel n (Halts halt v) g →
@@ -416,30 +416,30 @@ module _ {W V : Type 0} (rel : Relation W V) where
 
     -- where each turn leaves less, both bounds stay greater than what is left
     module _ (left : rel.Stage → ℕ) (no_shadow : (n : rel.Stage) (halt : Halt) (w : W) (later : rel.Stage) → rel.outlives n halt w later → ⊥) where
-      abbrev Below : (most most' : ℕ) → rel.Stage → Type 0
-      Below most most' n = (left n < most) × (left n < most')
+      abbrev Below : (fuel fuel' : ℕ) → rel.Stage → Type 0
+      Below fuel fuel' n = (left n < fuel) × (left n < fuel')
 
-      after_great : (most most' : ℕ) {n : rel.Stage} (o : Out W) (g : rel.Items → Out V) {f : W → Run W} (f' : V → Run V) → left n < suc most → left n < suc most' →
+      after_great : (fuel fuel' : ℕ) {n : rel.Stage} (o : Out W) (g : rel.Items → Out V) {f : W → Run W} (f' : V → Run V) → left n < suc fuel → left n < suc fuel' →
           FollowsTick rel left n o g →
-          ((n : rel.Stage) → Below most most' n → (w : W) (c : rel.Known) → rel.related n w c → Follows rel n (f w) (λ t. f' (rel.feed t c))) →
+          ((n : rel.Stage) → Below fuel fuel' n → (w : W) (c : rel.Known) → rel.related n w c → Follows rel n (f w) (λ t. f' (rel.feed t c))) →
           Follows rel n (ticked items p o f) (λ t. ticked items q (g t) f')
-      after_great most most' {n} (Go v) g {f} f' h h' (later, b, i, d) e =
-          within_run rel i (after_tick (Below most most') (λ n halt w later h o. absurd (no_shadow n halt w later o)) f' (omega arith, omega arith) d e)
-      after_great most most' {n} (Unwind v) g {f} f' h h' d e = stopped_follow f f' d
-      after_great most most' {n} (Halts halt v) g {f} f' h h' d e = halted_follow no_shadow f f' d
+      after_great fuel fuel' {n} (Go v) g {f} f' h h' (later, b, i, d) e =
+          within_run rel i (after_tick (Below fuel fuel') (λ n halt w later h o. absurd (no_shadow n halt w later o)) f' (omega arith, omega arith) d e)
+      after_great fuel fuel' {n} (Unwind v) g {f} f' h h' d e = stopped_follow f f' d
+      after_great fuel fuel' {n} (Halts halt v) g {f} f' h h' d e = halted_follow no_shadow f f' d
 
-      turns_of_great : {turn : Does W} {turn' : Does V} (most most' id : ℕ) → ((n : rel.Stage) (w : W) (c : rel.Known) → rel.related n w c →
+      turns_of_great : {turn : Does W} {turn' : Does V} (fuel fuel' id : ℕ) → ((n : rel.Stage) (w : W) (c : rel.Known) → rel.related n w c →
           FollowsTick rel left n (p.tick w) (λ t. q.tick (rel.feed t c))) → FollowsDoes rel turn turn' →
-          FollowsAt (Below most most') (turns items p most id turn) (turns items q most' id turn')
-      turns_of_great zero most' id ticks d n h S w c k = absurd (let b : left n < zero = h.0 in let never : ⊥ = omega arith in never)
-      turns_of_great (suc most) zero id ticks d n h S w c k = absurd (let b : left n < zero = h.1 in let never : ⊥ = omega arith in never)
-      turns_of_great {turn} {turn'} (suc most) (suc most') id ticks d n h S w c k =
-          after_great most most' (p.tick w) (λ t. q.tick (rel.feed t c)) (λ v. turned items q id S (turn' S v) (turns items q most' id turn')) h.0 h.1 (ticks n w c k)
-          (λ m h v z j. after_turn (Below most most') (λ n halt w later h o. absurd (no_shadow n halt w later o)) (turns items q most' id turn') id S h
-          (d.run m S v z j) (turns_of_great most most' id ticks d))
+          FollowsAt (Below fuel fuel') (turns items p fuel id turn) (turns items q fuel' id turn')
+      turns_of_great zero fuel' id ticks d n h S w c k = absurd (let b : left n < zero = h.0 in let never : ⊥ = omega arith in never)
+      turns_of_great (suc fuel) zero id ticks d n h S w c k = absurd (let b : left n < zero = h.1 in let never : ⊥ = omega arith in never)
+      turns_of_great {turn} {turn'} (suc fuel) (suc fuel') id ticks d n h S w c k =
+          after_great fuel fuel' (p.tick w) (λ t. q.tick (rel.feed t c)) (λ v. turned items q id S (turn' S v) (turns items q fuel' id turn')) h.0 h.1 (ticks n w c k)
+          (λ m h v z j. after_turn (Below fuel fuel') (λ n halt w later h o. absurd (no_shadow n halt w later o)) (turns items q fuel' id turn') id S h
+          (d.run m S v z j) (turns_of_great fuel fuel' id ticks d))
 
-    pub turns_follow : {most most' : ℕ} {turn : Does W} {turn' : Does V} (id : ℕ) → Bounds rel p.tick q.tick most most' → FollowsDoes rel turn turn' →
-        FollowsDoes rel (turns items p most id turn) (turns items q most' id turn')
+    pub turns_follow : {fuel fuel' : ℕ} {turn : Does W} {turn' : Does V} (id : ℕ) → Bounds rel p.tick q.tick fuel fuel' → FollowsDoes rel turn turn' →
+        FollowsDoes rel (turns items p fuel id turn) (turns items q fuel' id turn')
     turns_follow id (one_bound m) d = record { run = λ n S w c k. turns_of_one m id d n tt S w c k }
     turns_follow id (more_turns m m' b o) d = record { run = λ n S w c k. turns_of_more m m' id b o d n tt S w c k }
     turns_follow id (great_bounds m m' left h h' ticks no_shadow) d =

@@ -5,15 +5,15 @@ use Rattle.mir_ty.specs.ItemTable.{ItemTable}
 use Rattle.store_model.proofs.Effects.Agreement.{agreement, same_out, no_more, effects_agree, bounds_agree, tied_itself}
 use Rattle.store_model.proofs.Effects.Laws.{NoMore, Laws, Tied, weaker}
 use Rattle.store_model.proofs.Effects.Following.{Relation, FollowsOut, FollowsEffects, Bounds, one_bound, FollowsOuts, ends}
-use Rattle.store_model.proofs.Abstract.Effects.{items_of, free_laws}
+use Rattle.store_model.proofs.Abstract.Effects.{choices_of, free_laws}
 use Rattle.store_model.proofs.Concrete.Effects.{ticks_of, KeepsTicks, TiesTicks, bodies_agree}
-use Rattle.store_model.specs.Effects.{NoStep, Out, Halts, Effects}
-use Rattle.store_model.specs.Abstract.Effects.{on_presence}
-use Rattle.store_model.specs.Concrete.State.{World}
+use Rattle.store_model.specs.Effects.{Stuck, Out, Halts, Effects}
+use Rattle.store_model.specs.Abstract.Effects.{abstract_effects}
+use Rattle.store_model.specs.Concrete.State.{State}
 use Rattle.typed_tree.specs.Tree.{BodyTree, ProgramTree}
 use Rattle.src_meaning.proofs.ProgramsFollow.{activation_follow}
 use Rattle.src_meaning.specs.Locals.Effects.{action_at, test_at, site_at, at_locals}
-use Rattle.src_meaning.specs.Laws.{FreeRunHasNoBound, RunHasNoBound}
+use Rattle.src_meaning.specs.Laws.{FuelOfFreeRunsIsIrrelevant, FuelOfRunsIsIrrelevant}
 use Rattle.src_meaning.specs.Locals.OfBody.{local_of}
 use Rattle.src_meaning.specs.Programs.{activation, setting_of, code_of, within_body}
 
@@ -31,27 +31,27 @@ located rel local_of p q follow = record {
 
 -- a run of a body over effects that agree where at most so much is left
 pub body_agrees : {W : Type 0} (size : W → ℕ) (k : ℕ) (items : ItemTable) (local_of : ℕ → ℕ) (p q : Effects W) → Laws p size → Tied p q size k →
-    (most most' : ℕ) → Bounds (agreement size k) p.tick q.tick most most' → (body : BodyTree) (w : W) → size w ≤ k →
-    FollowsOut (agreement size k) (size w) (activation items (at_locals local_of p) most body w) (λ t. activation items (at_locals local_of q) most' body w)
-body_agrees size k items local_of p q laws tied most most' bounds body w l =
+    (fuel fuel' : ℕ) → Bounds (agreement size k) p.tick q.tick fuel fuel' → (body : BodyTree) (w : W) → size w ≤ k →
+    FollowsOut (agreement size k) (size w) (activation items (at_locals local_of p) fuel body w) (λ t. activation items (at_locals local_of q) fuel' body w)
+body_agrees size k items local_of p q laws tied fuel fuel' bounds body w l =
     activation_follow (agreement size k) items (at_locals local_of p) (at_locals local_of q)
-    (located (agreement size k) local_of p q (effects_agree size k p q laws tied)) most most' bounds body (size w) w w (refl, omega arith, l)
+    (located (agreement size k) local_of p q (effects_agree size k p q laws tied)) fuel fuel' bounds body (size w) w w (refl, omega arith, l)
 
-pub free_run_same : FreeRunHasNoBound
-free_run_same items body local_ty most other w l l' =
-    same_out items_of (items_of w)
-    (body_agrees items_of (items_of w) items (local_of items body) (on_presence items local_ty) (on_presence items local_ty) (free_laws items local_ty)
-    (tied_itself items_of (items_of w) (on_presence items local_ty)) most other
-    (bounds_agree items_of (items_of w) (on_presence items local_ty) (on_presence items local_ty) (free_laws items local_ty)
-    (tied_itself items_of (items_of w) (on_presence items local_ty)) most other l l') body w (omega arith))
+pub free_run_same : FuelOfFreeRunsIsIrrelevant
+free_run_same items body local_ty fuel other w l l' =
+    same_out choices_of (choices_of w)
+    (body_agrees choices_of (choices_of w) items (local_of items body) (abstract_effects items local_ty) (abstract_effects items local_ty) (free_laws items local_ty)
+    (tied_itself choices_of (choices_of w) (abstract_effects items local_ty)) fuel other
+    (bounds_agree choices_of (choices_of w) (abstract_effects items local_ty) (abstract_effects items local_ty) (free_laws items local_ty)
+    (tied_itself choices_of (choices_of w) (abstract_effects items local_ty)) fuel other l l') body w (omega arith))
 
-if_body_less : (m : ℕ) (o : Option BodyTree) (f : BodyTree → Out World) (w : World) → ((body : BodyTree) → NoMore ticks_of m (f body)) →
-    NoMore ticks_of m (option_map_or f o (Halts NoStep w))
+if_body_less : (m : ℕ) (o : Option BodyTree) (f : BodyTree → Out State) (w : State) → ((body : BodyTree) → NoMore ticks_of m (f body)) →
+    NoMore ticks_of m (option_map_or f o (Halts Stuck w))
 if_body_less m None f w e = tt
 if_body_less m (Some body) f w e = e body
 
-if_body_same : (o : Option BodyTree) (f f' : BodyTree → Out World) (w : World) → ((body : BodyTree) → f body ≡ f' body) →
-    option_map_or f o (Halts NoStep w) ≡ option_map_or f' o (Halts NoStep w)
+if_body_same : (o : Option BodyTree) (f f' : BodyTree → Out State) (w : State) → ((body : BodyTree) → f body ≡ f' body) →
+    option_map_or f o (Halts Stuck w) ≡ option_map_or f' o (Halts Stuck w)
 if_body_same None f f' w e = refl
 if_body_same (Some body) f f' w e = e body
 
@@ -69,18 +69,18 @@ program_ties program p q laws m tied turns turns' number h h' w l =
     (body_agrees ticks_of m program.items (local_of program.items body) p q laws tied turns turns'
     (bounds_agree ticks_of m p q laws tied turns turns' h h') body w l))
 
-pub run_same : RunHasNoBound
+pub run_same : FuelOfRunsIsIrrelevant
 run_same program = bodies_agree (setting_of program) (code_of program) (program_keeps program) (program_ties program)
 
 -- What is done within a body follows itself, over effects that follow one another, whatever relates them.
 
-if_body_follows : {V : Type 0} (rel : Relation World V) (o : Option BodyTree) (f : BodyTree → World → Out World) (f' : BodyTree → V → Out V) →
+if_body_follows : {V : Type 0} (rel : Relation State V) (o : Option BodyTree) (f : BodyTree → State → Out State) (f' : BodyTree → V → Out V) →
     ((body : BodyTree) → FollowsOuts rel (f body) (f' body)) →
-    FollowsOuts rel (λ w. option_map_or (λ body. f body w) o (Halts NoStep w)) (λ v. option_map_or (λ body. f' body v) o (Halts NoStep v))
-if_body_follows rel None f f' e n w c k = ends rel n NoStep w c k
+    FollowsOuts rel (λ w. option_map_or (λ body. f body w) o (Halts Stuck w)) (λ v. option_map_or (λ body. f' body v) o (Halts Stuck v))
+if_body_follows rel None f f' e n w c k = ends rel n Stuck w c k
 if_body_follows rel (Some body) f f' e n w c k = e body n w c k
 
-pub within_follows : (program : ProgramTree) (rel : Relation World World) (p q : Effects World) → FollowsEffects rel p q → (turns number : ℕ) →
+pub within_follows : (program : ProgramTree) (rel : Relation State State) (p q : Effects State) → FollowsEffects rel p q → (turns number : ℕ) →
     FollowsOuts rel ((code_of program).within p turns number) ((code_of program).within q turns number)
 within_follows program rel p q follow turns number =
     if_body_follows rel (slice_get program.bodies number) (within_body program.items p turns) (within_body program.items q turns)

@@ -3,8 +3,8 @@
 use Rattle.std.proofs.Common.{◌≡◌, ℕ, Bool, List, [], ◌∷◌, ◌++◌, ap}
 use Rattle.mir_ty.specs.ItemTable.{ItemTable}
 use Rattle.store_model.proofs.Effects.Following.{Relation, FollowsOut, goes_on, unwinds, halts, lapsed, outlived, refused, FollowsOuts, FollowsChoice, takes, declines, neither, lapsed_choice, outlived_choice, refused_choice, FollowsChoices, FollowsEffects, Within, along}
-use Rattle.store_model.specs.Effects.{Calm, Unwinding, Halt, Aborted, Out, Choice, Effects}
-use Rattle.src_meaning.specs.Scopes.{Entry, Scopes, entered, needing_drop, Exit, Value, Breaks, Continues, Returns, Panics, Run, At, Over, Does, on_value, ◌>>◌, in_scopes, doing, changing, chosen, choosing, back_in, entry_site, dropped_unwinding, drop_unwinding, dropped_calmly, drop_calm, leave, leaving, in_scope, then_or_leave, in_scope_with}
+use Rattle.store_model.specs.Effects.{Normal, Unwinding, Halt, Aborted, Out, Choice, Effects}
+use Rattle.src_meaning.specs.Scopes.{Entry, Scopes, with_scope, needing_drop, Exit, Value, Breaks, Continues, Returns, Panics, Run, At, Over, Does, on_value, ◌>>◌, in_scopes, doing, changing, chosen, choosing, back_in, entry_site, dropped_unwinding, drop_unwinding, dropped_normally, drop_normally, leave, leaving, in_scope, then_or_leave, in_scope_with}
 
 pub data Follows {W V : Type 0} (rel : Relation W V) : rel.Stage → Run W → (rel.Items → Run V) → Type 0 where
   is_at : (n : rel.Stage) (exit : Exit) (S : Scopes) (w : W) (c : rel.Known) (l : rel.Items) (g : rel.Items → Run V) → rel.related n w c →
@@ -121,21 +121,21 @@ module _ {W V : Type 0} (rel : Relation W V) where
     unwinding_follow (e ∷ es) S n w c k = after_unwinding (drop_unwinding items q es S) (follow.dropping Unwinding (entry_site e) n w c k) (unwinding_follow es S)
 
     after_calm : {n : rel.Stage} {o : Out W} {g : rel.Items → Out V} {f h : W → Run W} (f' h' : V → Run V) → FollowsOut rel n o g →
-        FollowsRuns rel f f' → FollowsRuns rel h h' → Follows rel n (dropped_calmly items p o f h) (λ t. dropped_calmly items q (g t) f' h')
+        FollowsRuns rel f f' → FollowsRuns rel h h' → Follows rel n (dropped_normally items p o f h) (λ t. dropped_normally items q (g t) f' h')
     after_calm {n} {o} {g} {f} {h} f' h' (goes_on m w c l _ k d) e b =
-        run_after l (λ t. dropped_calmly items q (g t) f' h') (λ rest. ap (λ x. dropped_calmly items q x f' h') (d rest)) (e m w c k)
+        run_after l (λ t. dropped_normally items q (g t) f' h') (λ rest. ap (λ x. dropped_normally items q x f' h') (d rest)) (e m w c k)
     after_calm {n} {o} {g} {f} {h} f' h' (unwinds m w c l _ k d) e b =
-        run_after l (λ t. dropped_calmly items q (g t) f' h') (λ rest. ap (λ x. dropped_calmly items q x f' h') (d rest)) (b m w c k)
-    after_calm {n} {o} {g} {f} {h} f' h' (halts m halt w c l _ k d) e b = is_over m halt w c l _ k (λ rest. ap (λ x. dropped_calmly items q x f' h') (d rest))
+        run_after l (λ t. dropped_normally items q (g t) f' h') (λ rest. ap (λ x. dropped_normally items q x f' h') (d rest)) (b m w c k)
+    after_calm {n} {o} {g} {f} {h} f' h' (halts m halt w c l _ k d) e b = is_over m halt w c l _ k (λ rest. ap (λ x. dropped_normally items q x f' h') (d rest))
     after_calm {n} {o} {g} {f} {h} f' h' (lapsed m halt w _ k) e b = lapsed_run m halt w _ k
     after_calm {n} {o} {g} {f} {h} f' h' (outlived m halt w later s _ k d) e b =
-        outlived_run m halt w later (dropped_calmly items p s f h) _ k (after_calm f' h' d e b)
-    after_calm {n} {o} {g} {f} {h} f' h' (refused m _ halt c l _ k d) e b = refused_run m _ halt c l _ k (λ rest. ap (λ x. dropped_calmly items q x f' h') (d rest))
+        outlived_run m halt w later (dropped_normally items p s f h) _ k (after_calm f' h' d e b)
+    after_calm {n} {o} {g} {f} {h} f' h' (refused m _ halt c l _ k d) e b = refused_run m _ halt c l _ k (λ rest. ap (λ x. dropped_normally items q x f' h') (d rest))
 
-    calm_follow : (exit : Exit) (es : List Entry) (S : Scopes) → FollowsRuns rel (drop_calm items p exit es S) (drop_calm items q exit es S)
+    calm_follow : (exit : Exit) (es : List Entry) (S : Scopes) → FollowsRuns rel (drop_normally items p exit es S) (drop_normally items q exit es S)
     calm_follow exit [] S n w c k = stays n exit S w c k
     calm_follow exit (e ∷ es) S n w c k =
-        after_calm (drop_calm items q exit es S) (drop_unwinding items q es S) (follow.dropping Calm (entry_site e) n w c k) (calm_follow exit es S) (unwinding_follow es S)
+        after_calm (drop_normally items q exit es S) (drop_unwinding items q es S) (follow.dropping Normal (entry_site e) n w c k) (calm_follow exit es S) (unwinding_follow es S)
 
     left_follow : (exit : Exit) (S : Scopes) → FollowsRuns rel (λ w. leave items p (At exit S w)) (λ v. leave items q (At exit S v))
     left_follow exit [] n w c k = stays n exit [] w c k
@@ -156,7 +156,7 @@ module _ {W V : Type 0} (rel : Relation W V) where
     leaving_follow e = record { run = λ n S w c k. leave_follow (e.run n S w c k) }
 
     pub in_scope_follow : {f : Does W} {f' : Does V} (node : ℕ) (own : Bool) → FollowsDoes rel f f' → FollowsDoes rel (in_scope items p node own f) (in_scope items q node own f')
-    in_scope_follow node own e = record { run = λ n S w c k. leave_follow (e.run n (entered node own S) w c k) }
+    in_scope_follow node own e = record { run = λ n S w c k. leave_follow (e.run n (with_scope node own S) w c k) }
 
     value_or_leave : {n : rel.Stage} {r : Run W} {g : rel.Items → Run V} {f : Does W} (f' : Does V) → Follows rel n r g → FollowsDoes rel f f' →
         Follows rel n (then_or_leave items p r f) (λ t. then_or_leave items q (g t) f')
@@ -178,4 +178,4 @@ module _ {W V : Type 0} (rel : Relation W V) where
 
     pub in_scope_with_follow : {f h : Does W} {f' h' : Does V} (node : ℕ) (own : Bool) → FollowsDoes rel f f' → FollowsDoes rel h h' →
         FollowsDoes rel (in_scope_with items p node own f h) (in_scope_with items q node own f' h')
-    in_scope_with_follow {f} {h} {f'} {h'} node own e d = record { run = λ n S w c k. value_or_leave h' (e.run n (entered node own S) w c k) d }
+    in_scope_with_follow {f} {h} {f'} {h'} node own e d = record { run = λ n S w c k. value_or_leave h' (e.run n (with_scope node own S) w c k) d }

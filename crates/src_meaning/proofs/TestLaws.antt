@@ -4,7 +4,7 @@ use Rattle.mir_ty.specs.ItemTable.{ItemTable}
 use Rattle.store_model.specs.Values.Datum.{Number, Truth}
 use Rattle.store_model.specs.Effects.{Choice, Yes, No, Neither, Effects}
 use Rattle.store_model.specs.Places.Place.{Step, ToPart, ToField, Place}
-use Rattle.store_model.specs.Concrete.State.{World}
+use Rattle.store_model.specs.Concrete.State.{State}
 use Rattle.typed_tree.specs.Tree as tree
 use Rattle.typed_tree.specs.Tree.{Node, node, Form, Nodes, no_node, a_node, Fields, no_field, a_field}
 use Rattle.src_meaning.specs.Forms.{holds, all_hold, any_holds, tests_after, alternatives_after}
@@ -77,9 +77,9 @@ module _ (items : ItemTable) (view : View) (parts : HasParts view) where
         ap (λ b. b || any_so view (alternatives_at items rest place)) (pattern_so first place) ∙ ap (λ b. takes first (view place) || b) (alternatives_so rest place)
 
 -- of effects: tests that are each answered by a view are answered by it together
-module _ (items : ItemTable) (p : Effects World) (view : View) (good : World → Bool) where
-  after_tests : (one other : Bool) (choice : Choice World) (rest : World → Choice World) → Answers good one choice →
-      ((w : World) → IsTrue (good w) → Answers good other (rest w)) → Answers good (one && other) (tests_after items p choice rest)
+module _ (items : ItemTable) (p : Effects State) (view : View) (good : State → Bool) where
+  after_tests : (one other : Bool) (choice : Choice State) (rest : State → Choice State) → Answers good one choice →
+      ((w : State) → IsTrue (good w) → Answers good other (rest w)) → Answers good (one && other) (tests_after items p choice rest)
   after_tests true other (Yes w) rest a e = e w a
   after_tests true other (No w) rest a e = absurd a
   after_tests true other (Neither halt w) rest a e = absurd a
@@ -87,8 +87,8 @@ module _ (items : ItemTable) (p : Effects World) (view : View) (good : World →
   after_tests false other (Yes w) rest a e = absurd a
   after_tests false other (Neither halt w) rest a e = absurd a
 
-  after_alternatives : (one other : Bool) (choice : Choice World) (rest : World → Choice World) → Answers good one choice →
-      ((w : World) → IsTrue (good w) → Answers good other (rest w)) → Answers good (one || other) (alternatives_after items p choice rest)
+  after_alternatives : (one other : Bool) (choice : Choice State) (rest : State → Choice State) → Answers good one choice →
+      ((w : State) → IsTrue (good w) → Answers good other (rest w)) → Answers good (one || other) (alternatives_after items p choice rest)
   after_alternatives true other (Yes w) rest a e = a
   after_alternatives true other (No w) rest a e = absurd a
   after_alternatives true other (Neither halt w) rest a e = absurd a
@@ -97,18 +97,18 @@ module _ (items : ItemTable) (p : Effects World) (view : View) (good : World →
   after_alternatives false other (Neither halt w) rest a e = absurd a
 
   mutual
-    test_answers : (test : PatternTest) → Truthful items p view good test → (w : World) → IsTrue (good w) → Answers good (is_so view test) (holds items p test w)
+    test_answers : (test : PatternTest) → Truthful items p view good test → (w : State) → IsTrue (good w) → Answers good (is_so view test) (holds items p test w)
     test_answers (IsVariant site variant) t w g = t w g
     test_answers (IsNumber site value kind) t w g = t w g
     test_answers (IsTruth site value) t w g = t w g
     test_answers (AnyOf alternatives) t w g = any_answer alternatives t w g
 
-    all_answer : (tests : PatternTests) → AllTruthful items p view good tests → (w : World) → IsTrue (good w) → Answers good (all_so view tests) (all_hold items p tests w)
+    all_answer : (tests : PatternTests) → AllTruthful items p view good tests → (w : State) → IsTrue (good w) → Answers good (all_so view tests) (all_hold items p tests w)
     all_answer no_test t w g = g
     all_answer (a_test first rest) t w g =
         after_tests (is_so view first) (all_so view rest) (holds items p first w) (all_hold items p rest) (test_answers first t.0 w g) (all_answer rest t.1)
 
-    any_answer : (alternatives : Alternatives) → AnyTruthful items p view good alternatives → (w : World) → IsTrue (good w) →
+    any_answer : (alternatives : Alternatives) → AnyTruthful items p view good alternatives → (w : State) → IsTrue (good w) →
         Answers good (any_so view alternatives) (any_holds items p alternatives w)
     any_answer no_alternative t w g = g
     any_answer (an_alternative tests rest) t w g =

@@ -30,7 +30,7 @@ abbrev pub to_own_key : Bool → ℕ → Destination → Destination
 to_own_key true id to = Into id
 to_own_key false id to = to
 
-module _ {W : Type 0} (items : ItemTable) (p : Effects W) (most_turns : ℕ) where
+module _ {W : Type 0} (items : ItemTable) (p : Effects W) (fuel : ℕ) where
   abbrev pub Evaluates : Type 0
   Evaluates = Around → Bool → Destination → Does W
 
@@ -143,16 +143,16 @@ module _ {W : Type 0} (items : ItemTable) (p : Effects W) (most_turns : ℕ) whe
   body_in body around = forms.alone items p around body (Into body.head.id)
 
   abbrev pub endless : Head → Meaning W → MakesInto
-  endless h body around to = forms.turns items p most_turns h.id (body_in body (in_loop h.id to around))
+  endless h body around to = forms.turns items p fuel h.id (body_in body (in_loop h.id to around))
 
   abbrev pub while_true : Head → Meaning W → Meaning W → MakesInto
-  while_true h c body around to = forms.turns items p most_turns h.id
+  while_true h c body around to = forms.turns items p fuel h.id
       (forms.condition items p (in_loop h.id to around) c
       (body_in body (in_loop h.id to around))
       (forms.ends_loop items p h to))
 
   abbrev pub while_taken : Head → Meaning W → Meaning W → Meaning W → MakesInto
-  while_taken h pattern scrutinee body around to = forms.turns items p most_turns h.id
+  while_taken h pattern scrutinee body around to = forms.turns items p fuel h.id
       (forms.if_taken items p h (in_loop h.id to around) pattern scrutinee
       (body_in body (in_loop h.id to around))
       (forms.ends_loop items p h to))

@@ -8,7 +8,7 @@ use Rattle.mir_base.specs.declared.trace.Why.{Why}
 use Rattle.mir_ty.specs.declared.ty.TyId.{TyId}
 use Rattle.mir_ty.specs.Facts.{needs_drop}
 use Rattle.mir_ty.specs.ItemTable.{ItemTable, type_at}
-use Rattle.store_model.specs.Effects.{Site, Operand, Moved, Copied, Number, Truth, UnitValue, Action, Put, Compare, Touch, Bounds, Borrow, Unsize, IsTrue, HasVariant, Calm, NoStep, OutOfTicks, Out, Go, Unwind, Halts, Choice, Yes, No, Neither, Effects}
+use Rattle.store_model.specs.Effects.{Site, Operand, Moved, Copied, Number, Truth, UnitValue, Action, Put, Compare, Touch, Bounds, Borrow, Unsize, IsTrue, HasVariant, Normal, Stuck, OutOfTicks, Out, Go, Unwind, Halts, Choice, Yes, No, Neither, Effects}
 use Rattle.store_model.specs.Places.Place.{Place, whole_local, before_element}
 use Rattle.store_model.specs.Places.TypeForms.{is_never as is_never_ty}
 use Rattle.src_meaning.specs.Scopes.{Entry, Scope, Scopes, innermost, around_innermost, nearest_temporary, with_entry, with_pending, without_pending, becomes_entry, without_operands, Exit, Value, Breaks, Continues, Panics, Run, At, Over, Does, ◌>>◌, doing, changing, choosing, back_in, in_scope, in_scope_with, leaving}
@@ -202,7 +202,7 @@ module _ {W : Type 0} (items : ItemTable) (p : Effects W) where
   stored_after site key S (Halts halt w) = Over halt w
 
   abbrev pub dropped_first : Bool → Site → W → Out W
-  dropped_first true site w = p.drop Calm site w
+  dropped_first true site w = p.drop Normal site w
   dropped_first false site w = Go w
 
   -- what the place still holds is dropped, and the value is stored
@@ -232,7 +232,7 @@ module _ {W : Type 0} (items : ItemTable) (p : Effects W) where
 
   abbrev pub tested : Out W → Operand → Choice W
   tested (Go w) operand = p.choose (IsTrue operand) w
-  tested (Unwind w) operand = Neither NoStep w
+  tested (Unwind w) operand = Neither Stuck w
   tested (Halts halt w) operand = Neither halt w
 
   abbrev pub equals : Site → Operand → W → Choice W
@@ -366,7 +366,7 @@ module _ {W : Type 0} (items : ItemTable) (p : Effects W) where
   -- value of the turn of a loop before
   abbrev pub emptied : Bool → ℕ → Does W
   emptied true key = At Value
-  emptied false key = doing (p.drop Calm (site_of_key key))
+  emptied false key = doing (p.drop Normal (site_of_key key))
 
   -- `let` without a value: its names are entries that are gone
   abbrev pub declared : List Bound → Does W
@@ -388,7 +388,7 @@ module _ {W : Type 0} (items : ItemTable) (p : Effects W) where
 
   abbrev pub ticked : Out W → (W → Run W) → Run W
   ticked (Go w) next = next w
-  ticked (Unwind w) next = Over NoStep w
+  ticked (Unwind w) next = Over Stuck w
   ticked (Halts halt w) next = Over halt w
 
   -- what follows a turn of a loop, which began in these scopes: the next turn, or the end of the loop

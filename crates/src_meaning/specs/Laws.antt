@@ -6,24 +6,24 @@ use Rattle.mir_ty.specs.declared.ty.TyId.{TyId}
 use Rattle.mir_ty.specs.ItemTable.{ItemTable}
 use Rattle.store_model.specs.Values.Datum.{Datum}
 use Rattle.store_model.specs.Concrete.Bodies.{run_body, GoesOnFrom}
-use Rattle.store_model.specs.Abstract.Effects.{Free, on_presence}
-use Rattle.store_model.specs.Concrete.State.{World}
+use Rattle.store_model.specs.Abstract.Effects.{AbstractState, abstract_effects}
+use Rattle.store_model.specs.Concrete.State.{State}
 use Rattle.typed_tree.specs.Tree.{BodyTree, ProgramTree}
 use Rattle.src_meaning.specs.Locals.Effects.{at_locals}
 use Rattle.src_meaning.specs.Locals.OfBody.{local_of}
 use Rattle.src_meaning.specs.Programs.{activation, setting_of, code_of, source}
 
 -- two bounds on the turns of loops that are greater than the number of items give the same free run of a body
-abbrev pub FreeRunHasNoBound : Type 0
-FreeRunHasNoBound = (items : ItemTable) (body : BodyTree) (local_ty : ℕ → Option TyId) (most other : ℕ) (w : Free) →
-    length w.items < most → length w.items < other →
-    activation items (at_locals (local_of items body) (on_presence items local_ty)) most body w
-    ≡ activation items (at_locals (local_of items body) (on_presence items local_ty)) other body w
+abbrev pub FuelOfFreeRunsIsIrrelevant : Type 0
+FuelOfFreeRunsIsIrrelevant = (items : ItemTable) (body : BodyTree) (local_ty : ℕ → Option TyId) (fuel other : ℕ) (w : AbstractState) →
+    length w.choices < fuel → length w.choices < other →
+    activation items (at_locals (local_of items body) (abstract_effects items local_ty)) fuel body w
+    ≡ activation items (at_locals (local_of items body) (abstract_effects items local_ty)) other body w
 
 -- Two bounds on nesting that are no less than the ticks give the same run of a body: the bounds on turns and on drops,
 -- which go with them, are never met.
-abbrev pub RunHasNoBound : Type 0
-RunHasNoBound = (program : ProgramTree) (n m : ℕ) (event : Event) (body : ℕ) (args : List Datum) (w : World) →
+abbrev pub FuelOfRunsIsIrrelevant : Type 0
+FuelOfRunsIsIrrelevant = (program : ProgramTree) (n m : ℕ) (event : Event) (body : ℕ) (args : List Datum) (w : State) →
     w.ticks ≤ n → w.ticks ≤ m →
     run_body (setting_of program) (code_of program) n event body args w
     ≡ run_body (setting_of program) (code_of program) m event body args w

@@ -8,21 +8,21 @@ use Rattle.mir_base.specs.Trace.{Trace}
 use Rattle.mir_ty.specs.declared.ty.TyId.{TyId}
 use Rattle.mir_ty.specs.ItemTable.{ItemTable}
 use Rattle.store_model.specs.Values.Datum.{Datum}
-use Rattle.store_model.specs.Effects.{Site, Halt, BadUse, BadStore, NoStep, Out, Unwind, Halts, aborting, Effects, Unwinding}
+use Rattle.store_model.specs.Effects.{Site, Halt, BadUse, BadStore, Stuck, Out, Unwind, Halts, aborting, Effects, Unwinding}
 use Rattle.store_model.specs.Concrete.Bodies.{Code, main_of, run_of}
-use Rattle.store_model.specs.Abstract.Effects.{Free, at_start, on_presence}
+use Rattle.store_model.specs.Abstract.Effects.{AbstractState, at_start, abstract_effects}
 use Rattle.store_model.specs.Places.Place.{whole_local}
 use Rattle.store_model.specs.Concrete.Location.{Setting}
-use Rattle.store_model.specs.Concrete.State.{Cells, World}
+use Rattle.store_model.specs.Concrete.State.{Cells, State}
 use Rattle.typed_tree.specs.Tree.{ParamTree, BodyTree, ProgramTree}
 use Rattle.src_meaning.specs.Locals.Effects.{at_locals}
 use Rattle.src_meaning.specs.Evaluation.{meaning}
 use Rattle.src_meaning.specs.Forms.{Into, Around, bind, site_of_key}
 use Rattle.src_meaning.specs.Locals.OfBody.{param_key, answer_key, local_of, local_ty, local_tys}
-use Rattle.src_meaning.specs.Scopes.{Entry, Scopes, innermost, entered, with_entry, with_pending, all_entries, needing_drop, Value, Breaks, Continues, Returns, Panics, Run, At, Over, Does, ◌>>◌, changing, in_scope, entry_site}
+use Rattle.src_meaning.specs.Scopes.{Entry, Scopes, innermost, with_scope, with_entry, with_pending, all_entries, needing_drop, Value, Breaks, Continues, Returns, Panics, Run, At, Over, Does, ◌>>◌, changing, in_scope, entry_site}
 use Rattle.src_meaning.specs.Shape.{Bound, shape}
 
-module _ {W : Type 0} (items : ItemTable) (p : Effects W) (most_turns : ℕ) where
+module _ {W : Type 0} (items : ItemTable) (p : Effects W) (fuel : ℕ) where
   -- the names of a parameter's pattern; a pattern that is one name is the parameter itself
   abbrev pub names_of_param : Bool → List Bound → Does W
   names_of_param true bounds = At Value
@@ -44,8 +44,8 @@ module _ {W : Type 0} (items : ItemTable) (p : Effects W) (most_turns : ℕ) whe
 
   abbrev pub body_end : ℕ → Run W → Out W
   body_end answer (At Value S w) = p.give (site_of_key answer) w
-  body_end answer (At (Breaks loop) S w) = Halts NoStep w
-  body_end answer (At (Continues loop) S w) = Halts NoStep w
+  body_end answer (At (Breaks loop) S w) = Halts Stuck w
+  body_end answer (At (Continues loop) S w) = Halts Stuck w
   body_end answer (At Returns S w) = p.give (site_of_key answer) w
   body_end answer (At Panics S w) = unwinds (needing_drop items (all_entries S)) w
   body_end answer (Over halt w) = Halts halt w
@@ -56,13 +56,13 @@ module _ {W : Type 0} (items : ItemTable) (p : Effects W) (most_turns : ℕ) whe
   -- the result is the oldest entry of an activation, older than the parameters, and pending until the body returns
   abbrev pub answer_scope : BodyTree → Scopes
   answer_scope body =
-      innermost (with_pending (record { key = answer_key body; ty = body.answer })) (entered (answer_key body) false [])
+      innermost (with_pending (record { key = answer_key body; ty = body.answer })) (with_scope (answer_key body) false [])
 
   -- the entire function: the parameters, and the block into the result
   abbrev pub entire_function : BodyTree → Does W
   entire_function body = in_scope items p (answer_key body) true do
     params_entered body.params
-    (meaning items p most_turns body.block).evaluate (around_body body) false (Into (answer_key body))
+    (meaning items p fuel body.block).evaluate (around_body body) false (Into (answer_key body))
 
   -- a body within its activation, until all scopes are left
   abbrev pub activation : BodyTree → W → Out W
@@ -88,14 +88,14 @@ abbrev pub setting_of : ProgramTree → Setting
 setting_of program = setting_with program.items (map (local_tys program.items) program.bodies)
 
 -- the effects of a run are those on the locals of the body
-abbrev pub within_body : ItemTable → Effects World → ℕ → BodyTree → World → Out World
+abbrev pub within_body : ItemTable → Effects State → ℕ → BodyTree → State → Out State
 within_body items p turns body = activation items (at_locals (local_of items body) p) turns body
 
 abbrev pub code_of : ProgramTree → Code
 code_of program = record {
   arguments = λ n args. arguments_from 1 args;
   answer = λ n. 0;
-  within = λ p turns n w. on_body program n (Halts NoStep w) (λ body. within_body program.items p turns body w);
+  within = λ p turns n w. on_body program n (Halts Stuck w) (λ body. within_body program.items p turns body w);
 }
 
 -- the trace and the end of a program, with these numbers to be asked and so many ticks
@@ -104,9 +104,9 @@ source program asked ticks = run_of (setting_of program) (code_of program) (main
 
 -- Free runs of a body.
 
-abbrev pub free_run : ItemTable → BodyTree → List Bool → Out Free
+abbrev pub free_run : ItemTable → BodyTree → List Bool → Out AbstractState
 free_run items body list =
-    activation items (at_locals (local_of items body) (on_presence items (local_ty items body)))
+    activation items (at_locals (local_of items body) (abstract_effects items (local_ty items body)))
     (suc (length list)) body
     (at_start (range_with_len 1 (length body.params)) list)
 
@@ -120,8 +120,8 @@ refused_of_halt (BadUse site) rest = use_if_taken site rest
 refused_of_halt (BadStore site) rest = use_if_taken site rest
 refused_of_halt halt rest = None
 
-abbrev pub refused_of : Out Free → Option Site
-refused_of (Halts halt w) = refused_of_halt halt w.items
+abbrev pub refused_of : Out AbstractState → Option Site
+refused_of (Halts halt w) = refused_of_halt halt w.choices
 refused_of out = None
 
 -- the use that a list of items reaches: the run takes exactly the list, and then meets it

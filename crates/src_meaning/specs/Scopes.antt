@@ -4,7 +4,7 @@ use Rattle.std.specs.Prelude.{ℕ, ◌==◌, Bool, true, false, List, [], ◌∷
 use Rattle.mir_ty.specs.declared.ty.TyId.{TyId}
 use Rattle.mir_ty.specs.Facts.{needs_drop}
 use Rattle.mir_ty.specs.ItemTable.{ItemTable}
-use Rattle.store_model.specs.Effects.{Site, Calm, Unwinding, Halt, Aborted, Out, Go, Unwind, Halts, Choice, Yes, No, Neither, Effects}
+use Rattle.store_model.specs.Effects.{Site, Normal, Unwinding, Halt, Aborted, Out, Go, Unwind, Halts, Choice, Yes, No, Neither, Effects}
 use Rattle.store_model.specs.Places.Place.{whole_local}
 
 -- a parameter, variable, operand or temporary, or a destination that is not complete
@@ -25,8 +25,8 @@ pub record Scope : Type 0 where
 abbrev pub Scopes : Type 0
 Scopes = List Scope
 
-abbrev pub entered : ℕ → Bool → Scopes → Scopes
-entered node for_temporaries S =
+abbrev pub with_scope : ℕ → Bool → Scopes → Scopes
+with_scope node for_temporaries S =
     (record { node = node; for_temporaries = for_temporaries; entries = []; pending = [] }) ∷ S
 
 abbrev pub without_key : ℕ → List Entry → List Entry
@@ -149,21 +149,21 @@ module _ {W : Type 0} (items : ItemTable) (p : Effects W) where
   drop_unwinding [] S w = At Panics S w
   drop_unwinding (e ∷ es) S w = dropped_unwinding (p.drop Unwinding (entry_site e) w) (drop_unwinding es S)
 
-  abbrev pub dropped_calmly : Out W → (W → Run W) → (W → Run W) → Run W
-  dropped_calmly (Go w) next panicked = next w
-  dropped_calmly (Unwind w) next panicked = panicked w
-  dropped_calmly (Halts halt w) next panicked = Over halt w
+  abbrev pub dropped_normally : Out W → (W → Run W) → (W → Run W) → Run W
+  dropped_normally (Go w) next panicked = next w
+  dropped_normally (Unwind w) next panicked = panicked w
+  dropped_normally (Halts halt w) next panicked = Over halt w
 
   -- entries are dropped; after a panic the rest is dropped while it unwinds, and the exit is the panic
-  abbrev pub drop_calm : Exit → List Entry → Does W
-  drop_calm exit [] S w = At exit S w
-  drop_calm exit (e ∷ es) S w =
-      dropped_calmly (p.drop Calm (entry_site e) w) (drop_calm exit es S) (drop_unwinding es S)
+  abbrev pub drop_normally : Exit → List Entry → Does W
+  drop_normally exit [] S w = At exit S w
+  drop_normally exit (e ∷ es) S w =
+      dropped_normally (p.drop Normal (entry_site e) w) (drop_normally exit es S) (drop_unwinding es S)
 
   -- the innermost scope is left: its entries are dropped, the youngest first; a panic drops what is pending before them
   abbrev pub leave_scope : Exit → Scope → Does W
   leave_scope Panics s = drop_unwinding (needing_drop items (s.pending ++ s.entries))
-  leave_scope exit s = drop_calm exit (needing_drop items s.entries)
+  leave_scope exit s = drop_normally exit (needing_drop items s.entries)
 
   abbrev pub leave : Run W → Run W
   leave (At exit [] w) = At exit [] w
@@ -176,7 +176,7 @@ module _ {W : Type 0} (items : ItemTable) (p : Effects W) where
 
   -- what is done in a scope of its own
   abbrev pub in_scope : ℕ → Bool → Does W → Does W
-  in_scope node for_temporaries does S w = leaving does (entered node for_temporaries S) w
+  in_scope node for_temporaries does S w = leaving does (with_scope node for_temporaries S) w
 
   -- what follows a value; by any other exit the innermost scope is left
   abbrev pub then_or_leave : Run W → Does W → Run W
@@ -185,4 +185,4 @@ module _ {W : Type 0} (items : ItemTable) (p : Effects W) where
 
   -- what is done in a scope of its own, which is left by what follows a value
   abbrev pub in_scope_with : ℕ → Bool → Does W → Does W → Does W
-  in_scope_with node for_temporaries does next S w = then_or_leave (does (entered node for_temporaries S) w) next
+  in_scope_with node for_temporaries does next S w = then_or_leave (does (with_scope node for_temporaries S) w) next

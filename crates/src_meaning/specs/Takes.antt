@@ -9,7 +9,7 @@ use Rattle.store_model.specs.declared.address.At.TheVariants.{Part}
 use Rattle.store_model.specs.Effects.{Choice, Yes, No, Effects}
 use Rattle.store_model.specs.Places.Place.{Step, ToPart, ToField, Place}
 use Rattle.store_model.specs.Values.Access.{part}
-use Rattle.store_model.specs.Concrete.State.{World}
+use Rattle.store_model.specs.Concrete.State.{State}
 use Rattle.typed_tree.specs.Tree as tree
 use Rattle.typed_tree.specs.Tree.{Node, node, Form, Nodes, no_node, a_node, Fields, no_field, a_field}
 use Rattle.src_meaning.specs.Forms.{holds, all_hold}
@@ -73,14 +73,14 @@ abbrev pub HasParts : View → Type 0
 HasParts view = (step : Step) (place : Place) → view (extended step place) ≡ part_at step (view place)
 
 -- a test is answered as it should be, and the state stays a good one
-abbrev pub Answers : (World → Bool) → Bool → Choice World → Type 0
+abbrev pub Answers : (State → Bool) → Bool → Choice State → Type 0
 Answers good true (Yes w) = IsTrue (good w)
 Answers good false (No w) = IsTrue (good w)
 Answers good expected choice = ⊥
 
-module _ (items : ItemTable) (p : Effects World) (view : View) (good : World → Bool) where
+module _ (items : ItemTable) (p : Effects State) (view : View) (good : State → Bool) where
   abbrev pub AnswersTest : Bool → PatternTest → Type 0
-  AnswersTest expected test = (w : World) → IsTrue (good w) → Answers good expected (holds items p test w)
+  AnswersTest expected test = (w : State) → IsTrue (good w) → Answers good expected (holds items p test w)
 
   abbrev mutual
     -- the effects answer each single test of some tests by what stands there
@@ -103,6 +103,6 @@ module _ (items : ItemTable) (p : Effects World) (view : View) (good : World →
 -- pattern takes what stands at the place.
 abbrev pub TestsHoldWhereTaken : Type 0
 TestsHoldWhereTaken =
-    (items : ItemTable) (p : Effects World) (view : View) (good : World → Bool) (pattern : Node) (place : Place)
-    (w : World) → HasParts view → AllTruthful items p view good ((shape items pattern).tests place) → IsTrue (good w) →
+    (items : ItemTable) (p : Effects State) (view : View) (good : State → Bool) (pattern : Node) (place : Place)
+    (w : State) → HasParts view → AllTruthful items p view good ((shape items pattern).tests place) → IsTrue (good w) →
     Answers good (takes pattern (view place)) (all_hold items p ((shape items pattern).tests place) w)

@@ -1,12 +1,12 @@
 //! The laws of the source's meaning. Each is a clause of a function without parameters.
-ghost use Rattle.src_meaning.specs.Laws.{FreeRunHasNoBound, RunHasNoBound, SourceRunGoesOn};
+ghost use Rattle.src_meaning.specs.Laws.{FuelOfFreeRunsIsIrrelevant, FuelOfRunsIsIrrelevant, SourceRunGoesOn};
 ghost use Rattle.src_meaning.specs.Takes.{TestsHoldWhereTaken};
 
 /// The bounds by which a run is defined are never met: with no more ticks than the bounds on nesting, or
 /// with fewer items of a free run than the bounds on turns, two bounds give the same run of a body.
 pub fn law_of_runs()
-    ensures values { RunHasNoBound }
-    ensures free { FreeRunHasNoBound }
+    ensures values { FuelOfRunsIsIrrelevant }
+    ensures free { FuelOfFreeRunsIsIrrelevant }
 {}
 
 /// The tests of a pattern hold exactly where it takes the value (The Rust Reference, "Patterns"): of any

@@ -77,7 +77,7 @@ pub data Test : Type 0 where
 
 -- a drop before a panic, and one that is made while a panic unwinds
 pub data Mode : Type 0 where
-  Calm : Mode
+  Normal : Mode
   Unwinding : Mode
 
 -- Why a run halts at once, with no further drops: a second panic while unwinding, no tick, no step that the rules give
@@ -86,13 +86,13 @@ pub data Mode : Type 0 where
 pub data Halt : Type 0 where
   Aborted : Halt
   OutOfTicks : Halt
-  NoStep : Halt
+  Stuck : Halt
   StuckAt : (body block : ℕ) → Halt
   BadUse : (site : Site) → Halt
   BadStore : (site : Site) → Halt
-  NoItem : Halt
-  NoRun : Halt
-  PastTheEnd : Halt
+  NoChoice : Halt
+  Infeasible : Halt
+  Unreachable : Halt
 
 -- an effect goes on, a panic unwinds from it, or the run halts
 pub data Out (W : Type 0) : Type 0 where

@@ -11,7 +11,7 @@ use Rattle.store_model.specs.Values.Datum.{Datum, Gone}
 use Rattle.store_model.specs.Values.Parts.{steps_to_parts}
 use Rattle.store_model.specs.Effects.{StoresNoNever}
 use Rattle.store_model.specs.Abstract.Effects as free
-use Rattle.store_model.specs.Values.Access.{part, standing_at, replaced, IsCutOff, AreApart}
+use Rattle.store_model.specs.Values.Access.{part, value_at, replaced, IsCutOff, AreApart}
 use Rattle.store_model.specs.Concrete.Location.{Setting}
 use Rattle.store_model.specs.Values.Wholeness.{IsWhole, is_whole, IsNumbered, serials, serial_before_parts, serial_after_parts}
 use Rattle.store_model.specs.Concrete.State.{Bodies}
@@ -20,11 +20,11 @@ use Rattle.store_model.specs.Concrete.State.{Bodies}
 abbrev pub StandsAlong : Type 0
 StandsAlong =
     (above below : List At) (root : Datum) →
-    standing_at (above ++ below) root ≡ option_and_then (standing_at below) (standing_at above root)
+    value_at (above ++ below) root ≡ option_and_then (value_at below) (value_at above root)
 
 -- nothing stands at a path exactly where a container on it is gone or has no such part
 abbrev pub StandsUnlessCutOff : Type 0
-StandsUnlessCutOff = (path : List At) (root : Datum) → (standing_at path root ≡ None) ↔ IsCutOff path root
+StandsUnlessCutOff = (path : List At) (root : Datum) → (value_at path root ≡ None) ↔ IsCutOff path root
 
 -- of two paths one goes on from the end of the other, or they are apart
 abbrev pub PathsCompare : Type 0
@@ -33,35 +33,35 @@ PathsCompare = (one other : List At) →
 
 -- what is put where there is no place changes nothing
 abbrev pub KeepsWithoutPlace : Type 0
-KeepsWithoutPlace = (path : List At) (new root : Datum) → standing_at path root ≡ None → replaced path new root ≡ root
+KeepsWithoutPlace = (path : List At) (new root : Datum) → value_at path root ≡ None → replaced path new root ≡ root
 
 -- what was put stands at its place
 abbrev pub StandsAtPlace : Type 0
 StandsAtPlace =
-    (path : List At) (new root old : Datum) → standing_at path root ≡ Some old →
-    standing_at path (replaced path new root) ≡ Some new
+    (path : List At) (new root old : Datum) → value_at path root ≡ Some old →
+    value_at path (replaced path new root) ≡ Some new
 
 -- below the place stand the parts of what was put
 abbrev pub StandsBelow : Type 0
-StandsBelow = (path below : List At) (new root old : Datum) → standing_at path root ≡ Some old →
-    standing_at (path ++ below) (replaced path new root) ≡ standing_at below new
+StandsBelow = (path below : List At) (new root old : Datum) → value_at path root ≡ Some old →
+    value_at (path ++ below) (replaced path new root) ≡ value_at below new
 
 -- above the place stand the containers with what was put in them
 abbrev pub StandsAbove : Type 0
-StandsAbove = (path below : List At) (new root old : Datum) → standing_at path root ≡ Some old →
-    standing_at path (replaced (path ++ below) new root) ≡ Some (replaced below new old)
+StandsAbove = (path below : List At) (new root old : Datum) → value_at path root ≡ Some old →
+    value_at path (replaced (path ++ below) new root) ≡ Some (replaced below new old)
 
 -- apart from the place everything stands as before
 abbrev pub StandsApart : Type 0
 StandsApart =
     (path other : List At) (new root : Datum) → AreApart path other →
-    standing_at other (replaced path new root) ≡ standing_at other root
+    value_at other (replaced path new root) ≡ value_at other root
 
 -- below a place that is gone nothing stands
 abbrev pub NothingBelowGone : Type 0
 NothingBelowGone =
-    (path below : List At) (step : At) (root : Datum) → standing_at path root ≡ Some Gone →
-    standing_at (path ++ step ∷ below) root ≡ None
+    (path below : List At) (step : At) (root : Datum) → value_at path root ≡ Some Gone →
+    value_at (path ++ step ∷ below) root ≡ None
 
 -- of two values put in one place the later stays
 abbrev pub LaterStays : Type 0
@@ -77,17 +77,17 @@ ContainerStays =
 
 -- what stands in a place, put there again, changes nothing
 abbrev pub KeepsWhatStood : Type 0
-KeepsWhatStood = (path : List At) (root old : Datum) → standing_at path root ≡ Some old → replaced path old root ≡ root
+KeepsWhatStood = (path : List At) (root old : Datum) → value_at path root ≡ Some old → replaced path old root ≡ root
 
 -- what was taken or replaced, put back, gives the value as it was
 abbrev pub GivesBack : Type 0
 GivesBack =
-    (path : List At) (new root old : Datum) → standing_at path root ≡ Some old →
+    (path : List At) (new root old : Datum) → value_at path root ≡ Some old →
     replaced path old (replaced path new root) ≡ root
 
 -- to put a value below a place is to change what stands there
 abbrev pub ChangesWithin : Type 0
-ChangesWithin = (path below : List At) (new root old : Datum) → standing_at path root ≡ Some old →
+ChangesWithin = (path below : List At) (new root old : Datum) → value_at path root ≡ Some old →
     replaced (path ++ below) new root ≡ replaced path (replaced below new old) root
 
 -- at places that are apart the order does not matter
@@ -97,7 +97,7 @@ ChangesApart = (path other : List At) (new another root : Datum) → AreApart pa
 
 -- a value is whole exactly where no place of it is gone
 abbrev pub WholeWithoutGone : Type 0
-WholeWithoutGone = (root : Datum) → IsWhole root ↔ ((path : List At) → standing_at path root ≡ Some Gone → ⊥)
+WholeWithoutGone = (root : Datum) → IsWhole root ↔ ((path : List At) → value_at path root ≡ Some Gone → ⊥)
 
 -- the test of wholeness holds exactly of whole values
 abbrev pub WholeByTest : Type 0
@@ -105,7 +105,7 @@ WholeByTest = (root : Datum) → IsTrue (is_whole root) ↔ IsWhole root
 
 -- what stands in a whole value is whole
 abbrev pub WholeBelow : Type 0
-WholeBelow = (path : List At) (root inner : Datum) → IsWhole root → standing_at path root ≡ Some inner → IsWhole inner
+WholeBelow = (path : List At) (root inner : Datum) → IsWhole root → value_at path root ≡ Some inner → IsWhole inner
 
 -- a whole value with a whole value put into it is whole
 abbrev pub WholeWithWhole : Type 0
@@ -114,22 +114,22 @@ WholeWithWhole = (path : List At) (new root : Datum) → IsWhole root → IsWhol
 -- a value from which something was taken is not whole
 abbrev pub NotWholeWhereTaken : Type 0
 NotWholeWhereTaken =
-    (path : List At) (root old : Datum) → standing_at path root ≡ Some old → IsWhole (replaced path Gone root) → ⊥
+    (path : List At) (root old : Datum) → value_at path root ≡ Some old → IsWhole (replaced path Gone root) → ⊥
 
 -- a place keeps its part of the serial numbers in dropping order, whatever is put there
 abbrev pub SerialsSplit : Type 0
-SerialsSplit = (path : List At) (root old : Datum) → standing_at path root ≡ Some old →
+SerialsSplit = (path : List At) (root old : Datum) → value_at path root ≡ Some old →
     (before : List ℕ) × (after : List ℕ) × (serials root ≡ before ++ serials old ++ after) ×
     ((new : Datum) → serials (replaced path new root) ≡ before ++ serials new ++ after)
 
 -- a value that is put in the place of another brings its serial numbers and takes away the other's
 abbrev pub SerialsExchange : Type 0
-SerialsExchange = (path : List At) (new root old : Datum) → standing_at path root ≡ Some old →
+SerialsExchange = (path : List At) (new root old : Datum) → value_at path root ≡ Some old →
     IsPermutation (serials new ++ serials root) (serials old ++ serials (replaced path new root))
 
 -- a value that is taken takes away its serial numbers
 abbrev pub SerialsTaken : Type 0
-SerialsTaken = (path : List At) (root old : Datum) → standing_at path root ≡ Some old →
+SerialsTaken = (path : List At) (root old : Datum) → value_at path root ≡ Some old →
     IsPermutation (serials root) (serials old ++ serials (replaced path Gone root))
 
 -- a value is numbered exactly where it has a serial number of its own, and it has no more than one
@@ -152,9 +152,9 @@ StepsLead = (root : Datum) (step : At) → Contains (steps_to_parts root) step �
 
 -- no run goes on past a store into a place of the type `!`, nor does a free run
 abbrev pub RunsStoreNoNever : Type 0
-RunsStoreNoNever = (setting : Setting) (run : Bodies) (bound : ℕ) →
-    StoresNoNever (values.never_at setting) (values.on_values setting run bound)
+RunsStoreNoNever = (setting : Setting) (run : Bodies) (fuel : ℕ) →
+    StoresNoNever (values.never_at setting) (values.concrete_effects setting run fuel)
 
 abbrev pub FreeRunsStoreNoNever : Type 0
 FreeRunsStoreNoNever = (table : ItemTable) (local_ty : ℕ → Option TyId) →
-    StoresNoNever (λ w. free.never_at table local_ty) (free.on_presence table local_ty)
+    StoresNoNever (λ w. free.never_at table local_ty) (free.abstract_effects table local_ty)

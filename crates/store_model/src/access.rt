@@ -1,6 +1,6 @@
 ghost use Rattle.std.specs.Prelude.{◌≡◌, ◌↔◌, IsNone, IsErr, IsSome, IsTrue, IfOk, IfErr, OnErr, IfNone, Some, None, option_map, option_copied, MatchBool};
 ghost use Rattle.store_model.specs.Values.Datum.{datum_of, Gone};
-ghost use Rattle.store_model.specs.Values.Access.{part, standing_at, replaced, IsCutOff};
+ghost use Rattle.store_model.specs.Values.Access.{part, value_at, replaced, IsCutOff};
 
 use crate::{At, Value};
 use std::mem;
@@ -11,7 +11,7 @@ use std::mem;
 /// `None` comes exactly where a container on the path is gone or has no such part: `At::Part` leads into an
 /// aggregate of more parts than its number, and `At::Inside` into a box. It takes no memory.
 pub fn read<'a>(root: &'a Value, path: &[At]) -> Option<&'a Value>
-    ensures value { option_map datum_of (option_copied result) ≡ standing_at path.now (datum_of root.now) }
+    ensures value { option_map datum_of (option_copied result) ≡ value_at path.now (datum_of root.now) }
     ensures absent { IsNone result ↔ IsCutOff path.now (datum_of root.now) }
 {
     let mut place = root;
@@ -38,8 +38,8 @@ const PIECE: usize = 1024;
 /// long path is walked in pieces: the container at the end of a piece is taken out and put back after. So
 /// the stack holds one frame for each step of a piece and one for each piece.
 fn exchange(root: &mut Value, path: &[At], value: &mut Value) -> bool
-    ensures found { MatchBool result (standing_at path.now (datum_of root.old) ≡ Some (datum_of value.new))
-        ((standing_at path.now (datum_of root.old) ≡ None) × (datum_of value.new ≡ datum_of value.old)) }
+    ensures found { MatchBool result (value_at path.now (datum_of root.old) ≡ Some (datum_of value.new))
+        ((value_at path.now (datum_of root.old) ≡ None) × (datum_of value.new ≡ datum_of value.old)) }
     ensures after { datum_of root.new ≡ replaced path.now (datum_of value.old) (datum_of root.old) }
 {
     if path.len() <= PIECE {
@@ -56,8 +56,8 @@ fn exchange(root: &mut Value, path: &[At], value: &mut Value) -> bool
 }
 
 fn exchange_by_steps(root: &mut Value, path: &[At], value: &mut Value) -> bool
-    ensures found { MatchBool result (standing_at path.now (datum_of root.old) ≡ Some (datum_of value.new))
-        ((standing_at path.now (datum_of root.old) ≡ None) × (datum_of value.new ≡ datum_of value.old)) }
+    ensures found { MatchBool result (value_at path.now (datum_of root.old) ≡ Some (datum_of value.new))
+        ((value_at path.now (datum_of root.old) ≡ None) × (datum_of value.new ≡ datum_of value.old)) }
     ensures after { datum_of root.new ≡ replaced path.now (datum_of value.old) (datum_of root.old) }
 {
     let Some((step, below)) = path.split_first() else {
@@ -82,7 +82,7 @@ fn exchange_by_steps(root: &mut Value, path: &[At], value: &mut Value) -> bool
 /// `None` comes exactly where a container on the path is gone or has no such part; then nothing changes. It
 /// takes no memory.
 pub fn take(root: &mut Value, path: &[At]) -> Option<Value>
-    ensures value { option_map datum_of result ≡ standing_at path.now (datum_of root.old) }
+    ensures value { option_map datum_of result ≡ value_at path.now (datum_of root.old) }
     ensures after { datum_of root.new ≡ replaced path.now Gone (datum_of root.old) }
     ensures absent { IsNone result ↔ IsCutOff path.now (datum_of root.old) }
     ensures unchanged { IfNone result (datum_of root.new ≡ datum_of root.old) }
@@ -100,7 +100,7 @@ pub fn take(root: &mut Value, path: &[At]) -> Option<Value>
 /// `Err`, with the value handed back, comes exactly where a container on the path is gone or has no such
 /// part; then nothing changes. It takes no memory.
 pub fn put(root: &mut Value, path: &[At], value: Value) -> Result<Value, Value>
-    ensures value { IfOk result (λ stood. standing_at path.now (datum_of root.old) ≡ Some (datum_of stood)) }
+    ensures value { IfOk result (λ stood. value_at path.now (datum_of root.old) ≡ Some (datum_of stood)) }
     ensures after { datum_of root.new ≡ replaced path.now (datum_of value) (datum_of root.old) }
     ensures absent { IsErr result ↔ IsCutOff path.now (datum_of root.old) }
     ensures handed_back { IfErr result (λ same. datum_of same ≡ datum_of value) }

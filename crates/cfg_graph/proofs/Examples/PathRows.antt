@@ -8,7 +8,7 @@ use Rattle.cfg_graph.specs.declared.terminator.Term.{Term}
 use Rattle.cfg_graph.specs.declared.terminator.Unwind.{Unwind}
 use Rattle.cfg_graph.specs.declared.graph.Kind.{Kind}
 use Rattle.cfg_graph.specs.declared.graph.Block.{Block}
-use Rattle.cfg_graph.specs.Moves.Paths.{items_of_path, items_of_leaving_path}
+use Rattle.cfg_graph.specs.Moves.Paths.{choices_of_path, choices_of_leaving_path}
 use Rattle.cfg_graph.proofs.Examples.Graphs.{items, id, var, plain, block, body, last}
 
 -- locals: (), bool, i32, !, D
@@ -16,10 +16,10 @@ abbrev locals : List TyId
 locals = id 2 ∷ id 4 ∷ id 0 ∷ id 13 ∷ id 1 ∷ []
 
 abbrev given : List Block → List ℕ → List (List Bool)
-given blocks path = items_of_path items (body 0 locals blocks) path
+given blocks path = choices_of_path items (body 0 locals blocks) path
 
 abbrev given_leaving : List Block → List ℕ → List (List Bool)
-given_leaving blocks path = items_of_leaving_path items (body 0 locals blocks) path
+given_leaving blocks path = choices_of_leaving_path items (body 0 locals blocks) path
 
 abbrev resuming : Block
 resuming = block Kind.Cleanup 0 [] Term.Resume

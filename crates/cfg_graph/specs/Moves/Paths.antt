@@ -70,42 +70,42 @@ module _ (items : ItemTable) (body : Body) where
   ways_from block = option_map_or (λ found. ways found.term) (slice_get body.blocks block) []
 
   -- what the entry to a block gives
-  abbrev entry_items : ℕ → List Bool
-  entry_items block = zero_if (option_map_or is_turn (slice_get body.blocks block) false)
+  abbrev entry_choices : ℕ → List Bool
+  entry_choices block = zero_if (option_map_or is_turn (slice_get body.blocks block) false)
 
   -- the items of a way, if it leads to this block, and if it leads out of the body
-  abbrev items_to : ℕ → Way → List (List Bool)
-  items_to block way = elim way.exit [ ToBlock next ↦ if next == block then way.items ∷ [] else [] | LeavesBody ↦ [] ]
+  abbrev choices_to : ℕ → Way → List (List Bool)
+  choices_to block way = elim way.exit [ ToBlock next ↦ if next == block then way.items ∷ [] else [] | LeavesBody ↦ [] ]
 
-  abbrev items_out : Way → List (List Bool)
-  items_out way = elim way.exit [ ToBlock next ↦ [] | LeavesBody ↦ way.items ∷ [] ]
+  abbrev choices_out : Way → List (List Bool)
+  choices_out way = elim way.exit [ ToBlock next ↦ [] | LeavesBody ↦ way.items ∷ [] ]
 
   -- the lists of items that the ways from one block to the next may give; none where there is no such way
-  abbrev items_between : ℕ → ℕ → List (List Bool)
-  items_between from to = flat_map (items_to to) (ways_from from)
+  abbrev choices_between : ℕ → ℕ → List (List Bool)
+  choices_between from to = flat_map (choices_to to) (ways_from from)
 
   -- the lists of items of a path from a block on, past its entry, through the blocks that follow
-  abbrev items_along : (ℕ → List (List Bool)) → ℕ → List ℕ → List (List Bool)
-  items_along at_last from [] = at_last from
-  items_along at_last from (to ∷ path) =
-      flat_map (λ given. map (λ rest. given ++ entry_items to ++ rest) (items_along at_last to path))
-      (items_between from to)
+  abbrev choices_along : (ℕ → List (List Bool)) → ℕ → List ℕ → List (List Bool)
+  choices_along at_last from [] = at_last from
+  choices_along at_last from (to ∷ path) =
+      flat_map (λ given. map (λ rest. given ++ entry_choices to ++ rest) (choices_along at_last to path))
+      (choices_between from to)
 
   -- a path begins in block 0, with the items of the entry to it
   abbrev from_start : (ℕ → List (List Bool)) → List ℕ → List (List Bool)
   from_start at_last [] = []
-  from_start at_last (zero ∷ path) = map (λ rest. entry_items 0 ++ rest) (items_along at_last 0 path)
+  from_start at_last (zero ∷ path) = map (λ rest. entry_choices 0 ++ rest) (choices_along at_last 0 path)
   from_start at_last (suc n ∷ path) = []
 
   -- The lists of items of a path up to the end of its last block, before a way out of it; there is one, or none where
   -- the blocks are no path, and more only where both ways out of a block lead to the same block.
-  abbrev pub items_of_path : List ℕ → List (List Bool)
-  items_of_path path = from_start (λ last. [] ∷ []) path
+  abbrev pub choices_of_path : List ℕ → List (List Bool)
+  choices_of_path path = from_start (λ last. [] ∷ []) path
 
   -- the lists of items of a path that then leaves the body, by unwinding out of it or by an abort
-  abbrev pub items_of_leaving_path : List ℕ → List (List Bool)
-  items_of_leaving_path path = from_start (λ last. flat_map items_out (ways_from last)) path
+  abbrev pub choices_of_leaving_path : List ℕ → List (List Bool)
+  choices_of_leaving_path path = from_start (λ last. flat_map choices_out (ways_from last)) path
 
   -- a list of blocks is a path that gives these items
   abbrev pub IsPath : List ℕ → List Bool → Type 0
-  IsPath path given = Contains (items_of_path path) given
+  IsPath path given = Contains (choices_of_path path) given

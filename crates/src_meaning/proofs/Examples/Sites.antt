@@ -2,13 +2,13 @@
 use Rattle.std.proofs.Common.{◌≡◌, refl, [], ◌∷◌, pos}
 use Rattle.std.specs.Prelude.{ℕ, Option, Some, None, false}
 use Rattle.store_model.specs.Effects.{Site}
-use Rattle.store_model.specs.Abstract.Effects.{Free, on_presence}
+use Rattle.store_model.specs.Abstract.Effects.{AbstractState, abstract_effects}
 use Rattle.typed_tree.specs.declared.node.Use.{Use}
 use Rattle.typed_tree.specs.Tree.{Node, absent, Number, Variable, Call, Block, BodyTree}
 use Rattle.src_meaning.specs.Evaluation.{meaning}
 use Rattle.src_meaning.specs.Forms.{Into, Around}
 use Rattle.src_meaning.specs.Programs.{reached_by}
-use Rattle.src_meaning.specs.Scopes.{Scopes, Run, At, Over, entered}
+use Rattle.src_meaning.specs.Scopes.{Scopes, Run, At, Over, with_scope}
 use Rattle.src_meaning.proofs.Examples.Conditions.{items}
 use Rattle.src_meaning.proofs.Examples.Words.{a_name, i32, unit, n, used, nodes, let_, stmt, body}
 use Rattle.src_meaning.proofs.Examples.WithD.{d_ty, d}
@@ -43,17 +43,17 @@ the_call_takes_its_operands = refl
 abbrev around : Around
 around = record { answer = Into 0; loops = []; aliases = [] }
 
-abbrev nothing_known : Free
-nothing_known = record { cells = []; items = [] }
+abbrev nothing_known : AbstractState
+nothing_known = record { cells = []; choices = [] }
 
 abbrev scopes_after : Node → Scopes → Scopes
-scopes_after one S = scopes_of ((meaning items (on_presence items (λ local. None)) 1 one).evaluate around false (Into 0) S nothing_known)
+scopes_after one S = scopes_of ((meaning items (abstract_effects items (λ local. None)) 1 one).evaluate around false (Into 0) S nothing_known)
   where
-    scopes_of : Run Free → Scopes
+    scopes_of : Run AbstractState → Scopes
     scopes_of (At exit S w) = S
     scopes_of (Over halt w) = []
 
 -- let x = 1; in the block 0
-a_number_is_an_entry : scopes_after (let_ 1 (used 2 i32 Use.Copy a_name) (n 3 i32 (Number (pos 1)))) (entered 0 false [])
+a_number_is_an_entry : scopes_after (let_ 1 (used 2 i32 Use.Copy a_name) (n 3 i32 (Number (pos 1)))) (with_scope 0 false [])
     ≡ (record { node = 0; for_temporaries = false; entries = (record { key = 2; ty = i32 }) ∷ []; pending = [] }) ∷ []
 a_number_is_an_entry = refl

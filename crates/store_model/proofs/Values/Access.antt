@@ -5,7 +5,7 @@ use Rattle.std.specs.Option.{option_and_then, option_map_or}
 use Rattle.store_model.specs.declared.address.At.{At}
 use Rattle.store_model.specs.declared.address.At.TheVariants.{Part, Inside}
 use Rattle.store_model.specs.Values.Datum.{Datum, Gone}
-use Rattle.store_model.specs.Values.Access.{part, with_part, standing_at, replaced, IsCutOff, AreApart}
+use Rattle.store_model.specs.Values.Access.{part, with_part, value_at, replaced, IsCutOff, AreApart}
 use Rattle.store_model.proofs.Values.OnePart.{part-with_part, with_part-part, with_part-with_part, part-with_part_other, with_part-swap}
 
 -- an option is none or some
@@ -14,11 +14,11 @@ none_or_some None = inl refl
 none_or_some (Some value) = inr (value, refl)
 
 -- a path walked by its first step
-pub standing_at-step : (step : At) (path : List At) (root inner : Datum) → part step root ≡ Some inner → standing_at (step ∷ path) root ≡ standing_at path inner
-standing_at-step step path root inner is_part = ap (option_and_then (standing_at path)) is_part
+pub value_at-step : (step : At) (path : List At) (root inner : Datum) → part step root ≡ Some inner → value_at (step ∷ path) root ≡ value_at path inner
+value_at-step step path root inner is_part = ap (option_and_then (value_at path)) is_part
 
-pub standing_at-no_step : (step : At) (path : List At) (root : Datum) → part step root ≡ None → standing_at (step ∷ path) root ≡ None
-standing_at-no_step step path root is_part = ap (option_and_then (standing_at path)) is_part
+pub value_at-no_step : (step : At) (path : List At) (root : Datum) → part step root ≡ None → value_at (step ∷ path) root ≡ None
+value_at-no_step step path root is_part = ap (option_and_then (value_at path)) is_part
 
 pub replaced-step : (step : At) (path : List At) (new root inner : Datum) → part step root ≡ Some inner → replaced (step ∷ path) new root ≡ with_part step (replaced path new inner) root
 replaced-step step path new root inner is_part = ap (λ o. option_map_or (λ x. with_part step (replaced path new x) root) o root) is_part
@@ -32,24 +32,24 @@ part-replaced step path new root inner is_part =
     ap (part step) (replaced-step step path new root inner is_part) ∙ part-with_part step (replaced path new inner) inner root is_part
 
 -- a path may be walked in two pieces
-pub standing_at-append : (above below : List At) (root : Datum) → standing_at (above ++ below) root ≡ option_and_then (standing_at below) (standing_at above root)
-standing_at-append [] below root = refl
-standing_at-append (step ∷ above) below root =
-    elim (part step root) as (λ o. option_and_then (standing_at (above ++ below)) o ≡ option_and_then (standing_at below) (option_and_then (standing_at above) o))
-    [ None ↦ refl | Some inner ↦ standing_at-append above below inner ]
+pub value_at-append : (above below : List At) (root : Datum) → value_at (above ++ below) root ≡ option_and_then (value_at below) (value_at above root)
+value_at-append [] below root = refl
+value_at-append (step ∷ above) below root =
+    elim (part step root) as (λ o. option_and_then (value_at (above ++ below)) o ≡ option_and_then (value_at below) (option_and_then (value_at above) o))
+    [ None ↦ refl | Some inner ↦ value_at-append above below inner ]
 
 -- from where something stands the path goes on
-pub standing_at-below : (above below : List At) (root inner : Datum) → standing_at above root ≡ Some inner → standing_at (above ++ below) root ≡ standing_at below inner
-standing_at-below above below root inner h = standing_at-append above below root ∙ ap (option_and_then (standing_at below)) h
+pub value_at-below : (above below : List At) (root inner : Datum) → value_at above root ≡ Some inner → value_at (above ++ below) root ≡ value_at below inner
+value_at-below above below root inner h = value_at-append above below root ∙ ap (option_and_then (value_at below)) h
 
 -- where nothing stands, nothing changes
-pub replaced-nowhere : (path : List At) (new root : Datum) → standing_at path root ≡ None → replaced path new root ≡ root
+pub replaced-nowhere : (path : List At) (new root : Datum) → value_at path root ≡ None → replaced path new root ≡ root
 replaced-nowhere [] new root h = absurd (cc)
 replaced-nowhere (step ∷ path) new root h =
     elim (none_or_some (part step root)) [
       | inl none ↦ replaced-no_step step path new root none
       | inr some ↦ (
-          let inner = replaced-nowhere path new some.0 (sym (standing_at-step step path root some.0 some.1) ∙ h) in
+          let inner = replaced-nowhere path new some.0 (sym (value_at-step step path root some.0 some.1) ∙ h) in
           replaced-step step path new root some.0 some.1 ∙ ap (λ x. with_part step x root) inner ∙ with_part-part step some.0 root some.1
           )
     ]
@@ -69,32 +69,32 @@ replaced-replaced (step ∷ path) new later root =
     ]
 
 -- a change below a place is a change of what stands there
-pub replaced-append : (path below : List At) (new root old : Datum) → standing_at path root ≡ Some old → replaced (path ++ below) new root ≡ replaced path (replaced below new old) root
+pub replaced-append : (path below : List At) (new root old : Datum) → value_at path root ≡ Some old → replaced (path ++ below) new root ≡ replaced path (replaced below new old) root
 replaced-append [] below new root old h = ap (replaced below new) (let e : root ≡ old = cc in e)
 replaced-append (step ∷ path) below new root old h =
     elim (none_or_some (part step root)) [
-      | inl none ↦ absurd (let e : Some old ≡ None = sym h ∙ standing_at-no_step step path root none in cc)
+      | inl none ↦ absurd (let e : Some old ≡ None = sym h ∙ value_at-no_step step path root none in cc)
       | inr some ↦ (
-          let inner = replaced-append path below new some.0 old (sym (standing_at-step step path root some.0 some.1) ∙ h) in
+          let inner = replaced-append path below new some.0 old (sym (value_at-step step path root some.0 some.1) ∙ h) in
           replaced-step step (path ++ below) new root some.0 some.1 ∙ ap (λ x. with_part step x root) inner ∙ sym (replaced-step step path (replaced below new old) root some.0 some.1)
           )
     ]
 
 -- what was put stands at its place
-pub standing_at-replaced : (path : List At) (new root old : Datum) → standing_at path root ≡ Some old → standing_at path (replaced path new root) ≡ Some new
-standing_at-replaced [] new root old h = refl
-standing_at-replaced (step ∷ path) new root old h =
+pub value_at-replaced : (path : List At) (new root old : Datum) → value_at path root ≡ Some old → value_at path (replaced path new root) ≡ Some new
+value_at-replaced [] new root old h = refl
+value_at-replaced (step ∷ path) new root old h =
     elim (none_or_some (part step root)) [
-      | inl none ↦ absurd (let e : Some old ≡ None = sym h ∙ standing_at-no_step step path root none in cc)
+      | inl none ↦ absurd (let e : Some old ≡ None = sym h ∙ value_at-no_step step path root none in cc)
       | inr some ↦ (
-          let inner = standing_at-replaced path new some.0 old (sym (standing_at-step step path root some.0 some.1) ∙ h) in
-          standing_at-step step path (replaced (step ∷ path) new root) (replaced path new some.0) (part-replaced step path new root some.0 some.1) ∙ inner
+          let inner = value_at-replaced path new some.0 old (sym (value_at-step step path root some.0 some.1) ∙ h) in
+          value_at-step step path (replaced (step ∷ path) new root) (replaced path new some.0) (part-replaced step path new root some.0 some.1) ∙ inner
           )
     ]
 
 -- below the place stand the parts of what was put
-pub standing_at-replaced_above : (path below : List At) (new root old : Datum) → standing_at path root ≡ Some old → standing_at (path ++ below) (replaced path new root) ≡ standing_at below new
-standing_at-replaced_above path below new root old h = standing_at-below path below (replaced path new root) new (standing_at-replaced path new root old h)
+pub value_at-replaced_above : (path below : List At) (new root old : Datum) → value_at path root ≡ Some old → value_at (path ++ below) (replaced path new root) ≡ value_at below new
+value_at-replaced_above path below new root old h = value_at-below path below (replaced path new root) new (value_at-replaced path new root old h)
 
 -- what is gone has no parts
 pub part-Gone : (step : At) → part step Gone ≡ None
@@ -102,62 +102,62 @@ part-Gone (Part number) = refl
 part-Gone Inside = refl
 
 -- below a place that is gone nothing stands
-pub standing_at-below_Gone : (path below : List At) (step : At) (root : Datum) → standing_at path root ≡ Some Gone → standing_at (path ++ step ∷ below) root ≡ None
-standing_at-below_Gone path below step root h = standing_at-below path (step ∷ below) root Gone h ∙ standing_at-no_step step below Gone (part-Gone step)
+pub value_at-below_Gone : (path below : List At) (step : At) (root : Datum) → value_at path root ≡ Some Gone → value_at (path ++ step ∷ below) root ≡ None
+value_at-below_Gone path below step root h = value_at-below path (step ∷ below) root Gone h ∙ value_at-no_step step below Gone (part-Gone step)
 
 -- above the place stand the containers with what was put in them
-pub standing_at-replaced_below : (path below : List At) (new root old : Datum) → standing_at path root ≡ Some old → standing_at path (replaced (path ++ below) new root) ≡ Some (replaced below new old)
-standing_at-replaced_below path below new root old h =
-    ap (standing_at path) (replaced-append path below new root old h) ∙ standing_at-replaced path (replaced below new old) root old h
+pub value_at-replaced_below : (path below : List At) (new root old : Datum) → value_at path root ≡ Some old → value_at path (replaced (path ++ below) new root) ≡ Some (replaced below new old)
+value_at-replaced_below path below new root old h =
+    ap (value_at path) (replaced-append path below new root old h) ∙ value_at-replaced path (replaced below new old) root old h
 
 -- what stood in a place, put there again, changes nothing
-pub replaced-standing_at : (path : List At) (root old : Datum) → standing_at path root ≡ Some old → replaced path old root ≡ root
-replaced-standing_at [] root old h = let e : old ≡ root = cc in e
-replaced-standing_at (step ∷ path) root old h =
+pub replaced-value_at : (path : List At) (root old : Datum) → value_at path root ≡ Some old → replaced path old root ≡ root
+replaced-value_at [] root old h = let e : old ≡ root = cc in e
+replaced-value_at (step ∷ path) root old h =
     elim (none_or_some (part step root)) [
-      | inl none ↦ absurd (let e : Some old ≡ None = sym h ∙ standing_at-no_step step path root none in cc)
+      | inl none ↦ absurd (let e : Some old ≡ None = sym h ∙ value_at-no_step step path root none in cc)
       | inr some ↦ (
-          let inner = replaced-standing_at path some.0 old (sym (standing_at-step step path root some.0 some.1) ∙ h) in
+          let inner = replaced-value_at path some.0 old (sym (value_at-step step path root some.0 some.1) ∙ h) in
           replaced-step step path old root some.0 some.1 ∙ ap (λ x. with_part step x root) inner ∙ with_part-part step some.0 root some.1
           )
     ]
 
 -- what was taken or replaced, put back, gives the value as it was
-pub replaced_back : (path : List At) (new root old : Datum) → standing_at path root ≡ Some old → replaced path old (replaced path new root) ≡ root
-replaced_back path new root old h = replaced-replaced path new old root ∙ replaced-standing_at path root old h
+pub replaced_back : (path : List At) (new root old : Datum) → value_at path root ≡ Some old → replaced path old (replaced path new root) ≡ root
+replaced_back path new root old h = replaced-replaced path new old root ∙ replaced-value_at path root old h
 
 -- what is put in a container does away with what was put in a part of it
 pub replaced-replaced_below : (path below : List At) (new later root : Datum) → replaced path later (replaced (path ++ below) new root) ≡ replaced path later root
 replaced-replaced_below path below new later root =
-    elim (none_or_some (standing_at path root)) [
-      | inl none ↦ ap (replaced path later) (replaced-nowhere (path ++ below) new root (standing_at-append path below root ∙ ap (option_and_then (standing_at below)) none))
+    elim (none_or_some (value_at path root)) [
+      | inl none ↦ ap (replaced path later) (replaced-nowhere (path ++ below) new root (value_at-append path below root ∙ ap (option_and_then (value_at below)) none))
       | inr some ↦ ap (replaced path later) (replaced-append path below new root some.0 some.1) ∙ replaced-replaced path (replaced below new some.0) later root
     ]
 
 -- two paths that take different steps from the end of a common one
-standing_at-replaced_fork : (above : List At) (step other : At) (below other_below : List At) (new root : Datum) → step ≢ other →
-    standing_at (above ++ other ∷ other_below) (replaced (above ++ step ∷ below) new root) ≡ standing_at (above ++ other ∷ other_below) root
-standing_at-replaced_fork [] step other below other_below new root differ =
+value_at-replaced_fork : (above : List At) (step other : At) (below other_below : List At) (new root : Datum) → step ≢ other →
+    value_at (above ++ other ∷ other_below) (replaced (above ++ step ∷ below) new root) ≡ value_at (above ++ other ∷ other_below) root
+value_at-replaced_fork [] step other below other_below new root differ =
     elim (none_or_some (part step root)) [
-      | inl none ↦ ap (standing_at (other ∷ other_below)) (replaced-no_step step below new root none)
-      | inr some ↦ ap (standing_at (other ∷ other_below)) (replaced-step step below new root some.0 some.1)
-          ∙ ap (option_and_then (standing_at other_below)) (part-with_part_other step other (replaced below new some.0) root differ)
+      | inl none ↦ ap (value_at (other ∷ other_below)) (replaced-no_step step below new root none)
+      | inr some ↦ ap (value_at (other ∷ other_below)) (replaced-step step below new root some.0 some.1)
+          ∙ ap (option_and_then (value_at other_below)) (part-with_part_other step other (replaced below new some.0) root differ)
     ]
-standing_at-replaced_fork (first ∷ above) step other below other_below new root differ =
+value_at-replaced_fork (first ∷ above) step other below other_below new root differ =
     elim (none_or_some (part first root)) [
-      | inl none ↦ ap (standing_at (first ∷ above ++ other ∷ other_below)) (replaced-no_step first (above ++ step ∷ below) new root none)
+      | inl none ↦ ap (value_at (first ∷ above ++ other ∷ other_below)) (replaced-no_step first (above ++ step ∷ below) new root none)
       | inr some ↦ (
           let changed = replaced (first ∷ above ++ step ∷ below) new root in
-          standing_at-step first (above ++ other ∷ other_below) changed (replaced (above ++ step ∷ below) new some.0) (part-replaced first (above ++ step ∷ below) new root some.0 some.1)
-          ∙ standing_at-replaced_fork above step other below other_below new some.0 differ ∙ sym (standing_at-step first (above ++ other ∷ other_below) root some.0 some.1)
+          value_at-step first (above ++ other ∷ other_below) changed (replaced (above ++ step ∷ below) new some.0) (part-replaced first (above ++ step ∷ below) new root some.0 some.1)
+          ∙ value_at-replaced_fork above step other below other_below new some.0 differ ∙ sym (value_at-step first (above ++ other ∷ other_below) root some.0 some.1)
           )
     ]
 
 -- apart from the place everything stands as before
-pub standing_at-replaced_apart : (path other : List At) (new root : Datum) → AreApart path other → standing_at other (replaced path new root) ≡ standing_at other root
-standing_at-replaced_apart path other new root apart =
-    ap (λ p. standing_at other (replaced p new root)) apart.one_is ∙ ap (λ p. standing_at p (replaced (apart.above ++ apart.one_step ∷ apart.one_below) new root)) apart.other_is
-    ∙ standing_at-replaced_fork apart.above apart.one_step apart.other_step apart.one_below apart.other_below new root apart.differ ∙ sym (ap (λ p. standing_at p root) apart.other_is)
+pub value_at-replaced_apart : (path other : List At) (new root : Datum) → AreApart path other → value_at other (replaced path new root) ≡ value_at other root
+value_at-replaced_apart path other new root apart =
+    ap (λ p. value_at other (replaced p new root)) apart.one_is ∙ ap (λ p. value_at p (replaced (apart.above ++ apart.one_step ∷ apart.one_below) new root)) apart.other_is
+    ∙ value_at-replaced_fork apart.above apart.one_step apart.other_step apart.one_below apart.other_below new root apart.differ ∙ sym (ap (λ p. value_at p root) apart.other_is)
 
 replaced_fork-swap : (above : List At) (step other : At) (below other_below : List At) (new another root : Datum) → step ≢ other →
     replaced (above ++ step ∷ below) new (replaced (above ++ other ∷ other_below) another root) ≡ replaced (above ++ other ∷ other_below) another (replaced (above ++ step ∷ below) new root)
@@ -166,14 +166,14 @@ replaced_fork-swap [] step other below other_below new another root differ =
     elim (none_or_some (part step root)) [
       | inl none ↦ (
           let changed = replaced (other ∷ other_below) another root in
-          let stays = standing_at-replaced_fork [] other step other_below [] another root apart in
+          let stays = value_at-replaced_fork [] other step other_below [] another root apart in
           let still_none : part step changed ≡ None = step_none step changed root stays none in
           replaced-no_step step below new changed still_none ∙ sym (ap (replaced (other ∷ other_below) another) (replaced-no_step step below new root none))
           )
       | inr some ↦ elim (none_or_some (part other root)) [
         | inl none ↦ (
             let changed = replaced (step ∷ below) new root in
-            let stays = standing_at-replaced_fork [] step other below [] new root differ in
+            let stays = value_at-replaced_fork [] step other below [] new root differ in
             let still_none : part other changed ≡ None = step_none other changed root stays none in
             ap (replaced (step ∷ below) new) (replaced-no_step other other_below another root none) ∙ sym (replaced-no_step other other_below another changed still_none)
             )
@@ -189,11 +189,11 @@ replaced_fork-swap [] step other below other_below new another root differ =
       ]
     ]
   where
-    step_none : (step : At) (changed root : Datum) → standing_at (step ∷ []) changed ≡ standing_at (step ∷ []) root → part step root ≡ None → part step changed ≡ None
+    step_none : (step : At) (changed root : Datum) → value_at (step ∷ []) changed ≡ value_at (step ∷ []) root → part step root ≡ None → part step changed ≡ None
     step_none step changed root stays none =
         elim (none_or_some (part step changed)) [
           | inl still ↦ still
-          | inr some ↦ absurd (let e : Some some.0 ≡ None = sym (standing_at-step step [] changed some.0 some.1) ∙ stays ∙ standing_at-no_step step [] root none in cc)
+          | inr some ↦ absurd (let e : Some some.0 ≡ None = sym (value_at-step step [] changed some.0 some.1) ∙ stays ∙ value_at-no_step step [] root none in cc)
         ]
 replaced_fork-swap (first ∷ above) step other below other_below new another root differ =
     let one_path = above ++ step ∷ below in
@@ -225,31 +225,31 @@ replaced-swap path other new another root apart =
     ∙ sym (ap (λ p. replaced other another (replaced p new root)) apart.one_is ∙ ap (λ p. replaced p another (replaced (apart.above ++ apart.one_step ∷ apart.one_below) new root)) apart.other_is)
 
 -- nothing stands at a path exactly where a container on it is gone or has no such part
-pub IsCutOff-from_none : (path : List At) (root : Datum) → standing_at path root ≡ None → IsCutOff path root
+pub IsCutOff-from_none : (path : List At) (root : Datum) → value_at path root ≡ None → IsCutOff path root
 IsCutOff-from_none [] root h = absurd (cc)
 IsCutOff-from_none (step ∷ path) root h =
     elim (none_or_some (part step root)) [
       | inl none ↦ record { above = []; step = step; below = path; container = root; path_is = refl; container_is = refl; lacks = none }
       | inr some ↦ (
-          let inner = IsCutOff-from_none path some.0 (sym (standing_at-step step path root some.0 some.1) ∙ h) in
+          let inner = IsCutOff-from_none path some.0 (sym (value_at-step step path root some.0 some.1) ∙ h) in
           record {
             above = step ∷ inner.above;
             step = inner.step;
             below = inner.below;
             container = inner.container;
             path_is = ap (λ p. step ∷ p) inner.path_is;
-            container_is = standing_at-step step inner.above root some.0 some.1 ∙ inner.container_is;
+            container_is = value_at-step step inner.above root some.0 some.1 ∙ inner.container_is;
             lacks = inner.lacks;
           }
           )
     ]
 
-pub none_from-IsCutOff : (path : List At) (root : Datum) → IsCutOff path root → standing_at path root ≡ None
+pub none_from-IsCutOff : (path : List At) (root : Datum) → IsCutOff path root → value_at path root ≡ None
 none_from-IsCutOff path root cut =
-    ap (λ p. standing_at p root) cut.path_is ∙ standing_at-below cut.above (cut.step ∷ cut.below) root cut.container cut.container_is ∙ standing_at-no_step cut.step cut.below cut.container cut.lacks
+    ap (λ p. value_at p root) cut.path_is ∙ value_at-below cut.above (cut.step ∷ cut.below) root cut.container cut.container_is ∙ value_at-no_step cut.step cut.below cut.container cut.lacks
 
 -- where something stands, no container is gone or lacks a part
-pub not_cut_off : (path : List At) (root inner : Datum) → standing_at path root ≡ Some inner → IsCutOff path root → ⊥
+pub not_cut_off : (path : List At) (root inner : Datum) → value_at path root ≡ Some inner → IsCutOff path root → ⊥
 not_cut_off path root inner h cut = let e : Some inner ≡ None = sym h ∙ none_from-IsCutOff path root cut in cc
 
 -- two steps are the same, or they differ

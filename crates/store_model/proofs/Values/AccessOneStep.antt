@@ -9,7 +9,7 @@ use Rattle.store_model.specs.declared.address.At.TheVariants.{Part, Inside}
 use Rattle.store_model.specs.declared.value.Value.{Value, Value-F, out-Value, roll-Value, roll-out-Value, map-Value, fold_out-Value}
 use Rattle.store_model.specs.declared.value.Value.TheVariants.{Parts, Boxed, rolls-Parts, rolls-Boxed}
 use Rattle.store_model.specs.Values.Datum.{Datum, Aggregate, datum_of, datum_of_layer}
-use Rattle.store_model.specs.Values.Access.{part, with_part, standing_at, replaced}
+use Rattle.store_model.specs.Values.Access.{part, with_part, value_at, replaced}
 use Rattle.store_model.proofs.Values.Datum.{datum_of-Parts, datum_of-Boxed, part_at-values, with_part_at-values}
 
 -- a step into an aggregate leads to the element of its list
@@ -56,10 +56,10 @@ part-other step root no_Parts no_Boxed =
 
 -- what stands below a part stands below the root by one step more
 pub found-below : (found : Bool) (path : List At) (step : At) (below : List At) (root inner left given : Datum) → path ≡ step ∷ below → part step root ≡ Some inner →
-    MatchBool found (standing_at below inner ≡ Some left) ((standing_at below inner ≡ None) × (left ≡ given)) →
-    MatchBool found (standing_at path root ≡ Some left) ((standing_at path root ≡ None) × (left ≡ given))
+    MatchBool found (value_at below inner ≡ Some left) ((value_at below inner ≡ None) × (left ≡ given)) →
+    MatchBool found (value_at path root ≡ Some left) ((value_at path root ≡ None) × (left ≡ given))
 found-below found path step below root inner left given is_path is_part h =
-    let stands : standing_at path root ≡ standing_at below inner = ap (λ p. standing_at p root) is_path ∙ ap (option_and_then (standing_at below)) is_part in
+    let stands : value_at path root ≡ value_at below inner = ap (λ p. value_at p root) is_path ∙ ap (option_and_then (value_at below)) is_part in
     subst (λ o. MatchBool found (o ≡ Some left) ((o ≡ None) × (left ≡ given))) (sym stands) h
 
 -- a change below a part is a change below the root by one step more
@@ -89,8 +89,8 @@ replaced-Boxed path step below serial impl_no inside after given is_path is_step
     (part-Boxed Inside (Boxed serial impl_no inside) serial impl_no inside refl refl) h
 
 -- where a step leads to no part, nothing stands and nothing changes
-pub absent-below : (path : List At) (step : At) (below : List At) (root : Datum) → path ≡ step ∷ below → part step root ≡ None → standing_at path root ≡ None
-absent-below path step below root is_path is_part = ap (λ p. standing_at p root) is_path ∙ ap (option_and_then (standing_at below)) is_part
+pub absent-below : (path : List At) (step : At) (below : List At) (root : Datum) → path ≡ step ∷ below → part step root ≡ None → value_at path root ≡ None
+absent-below path step below root is_path is_part = ap (λ p. value_at p root) is_path ∙ ap (option_and_then (value_at below)) is_part
 
 pub same-below : (path : List At) (step : At) (below : List At) (root given : Datum) → path ≡ step ∷ below → part step root ≡ None → root ≡ replaced path given root
 same-below path step below root given is_path is_part =

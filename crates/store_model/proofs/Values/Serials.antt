@@ -10,9 +10,9 @@ use Rattle.store_model.specs.declared.address.At.{At}
 use Rattle.store_model.specs.declared.address.At.TheVariants.{Part, Inside}
 use Rattle.store_model.specs.Values.Datum.{Datum, Data, Gone, Number, Truth, UnitValue, Aggregate, Box, Address, no_part, a_part, data_from}
 use Rattle.store_model.specs.Values.Parts.{count, steps_to_parts}
-use Rattle.store_model.specs.Values.Access.{part, with_part, part_at, with_part_at, standing_at, replaced}
+use Rattle.store_model.specs.Values.Access.{part, with_part, part_at, with_part_at, value_at, replaced}
 use Rattle.store_model.specs.Values.Wholeness.{serials, serials_of_all, serial_before_parts, serial_after_parts, IsNumbered}
-use Rattle.store_model.proofs.Values.Access.{none_or_some, standing_at-step, standing_at-no_step, replaced-step, replaced-standing_at}
+use Rattle.store_model.proofs.Values.Access.{none_or_some, value_at-step, value_at-no_step, replaced-step, replaced-value_at}
 
 -- the serial numbers of a value with another one in a place, as a function of what is put there
 abbrev Surrounds : (Datum → List ℕ) → Type 0
@@ -36,14 +36,14 @@ Surrounds-with_part (Part number) (Aggregate variant serial parts) inner h =
 Surrounds-with_part Inside (Box serial impl_no inside) inner h = ([], serial ∷ [], λ new. refl)
 Surrounds-with_part _ _ inner h = absurd (cc)
 
-Surrounds-replaced : (path : List At) (root old : Datum) → standing_at path root ≡ Some old → Surrounds (λ new. serials (replaced path new root))
+Surrounds-replaced : (path : List At) (root old : Datum) → value_at path root ≡ Some old → Surrounds (λ new. serials (replaced path new root))
 Surrounds-replaced [] root old h = ([], [], λ new. sym (append-nil (serials new)))
 Surrounds-replaced (step ∷ path) root old h =
     elim (none_or_some (part step root)) [
-      | inl none ↦ absurd (let e : Some old ≡ None = sym h ∙ standing_at-no_step step path root none in cc)
+      | inl none ↦ absurd (let e : Some old ≡ None = sym h ∙ value_at-no_step step path root none in cc)
       | inr some ↦ (
           let outer = Surrounds-with_part step root some.0 some.1 in
-          let deeper = Surrounds-replaced path some.0 old (sym (standing_at-step step path root some.0 some.1) ∙ h) in
+          let deeper = Surrounds-replaced path some.0 old (sym (value_at-step step path root some.0 some.1) ∙ h) in
           (outer.0 ++ deeper.0, deeper.1 ++ outer.1, λ new. ap serials (replaced-step step path new root some.0 some.1) ∙ outer.2 (replaced path new some.0) ∙ ap (λ xs. outer.0 ++ xs ++ outer.1) (deeper.2 new) ∙ nest outer.0 deeper.0 (serials new) deeper.1 outer.1)
           )
     ]
@@ -52,11 +52,11 @@ Surrounds-replaced (step ∷ path) root old h =
     nest a b c d e = simp append_assoc
 
 -- a place keeps its part of the serial numbers in dropping order, whatever is put there
-pub serials-split : (path : List At) (root old : Datum) → standing_at path root ≡ Some old →
+pub serials-split : (path : List At) (root old : Datum) → value_at path root ≡ Some old →
     (before : List ℕ) × (after : List ℕ) × (serials root ≡ before ++ serials old ++ after) × ((new : Datum) → serials (replaced path new root) ≡ before ++ serials new ++ after)
 serials-split path root old h =
     let around = Surrounds-replaced path root old h in
-    (around.0, around.1, ap serials (sym (replaced-standing_at path root old h)) ∙ around.2 old, around.2)
+    (around.0, around.1, ap serials (sym (replaced-value_at path root old h)) ∙ around.2 old, around.2)
 
 IsPermutation-exchange : (new before old after : List ℕ) → IsPermutation (new ++ (before ++ old ++ after)) (old ++ (before ++ new ++ after))
 IsPermutation-exchange new before old after =
@@ -70,14 +70,14 @@ IsPermutation-exchange new before old after =
         subst (λ xs. IsPermutation (x ++ (before ++ y ++ after)) xs) (simp append_assoc) moved
 
 -- a value that is put in the place of another brings its serial numbers and takes away the other's
-pub serials-exchange : (path : List At) (new root old : Datum) → standing_at path root ≡ Some old → IsPermutation (serials new ++ serials root) (serials old ++ serials (replaced path new root))
+pub serials-exchange : (path : List At) (new root old : Datum) → value_at path root ≡ Some old → IsPermutation (serials new ++ serials root) (serials old ++ serials (replaced path new root))
 serials-exchange path new root old h =
     let around = serials-split path root old h in
     subst (λ xs. IsPermutation (serials new ++ xs) (serials old ++ serials (replaced path new root))) (sym around.2)
     (subst (λ xs. IsPermutation (serials new ++ (around.0 ++ serials old ++ around.1)) (serials old ++ xs)) (sym (around.3 new)) (IsPermutation-exchange (serials new) around.0 (serials old) around.1))
 
 -- a value that is taken takes away its serial numbers
-pub serials-taken : (path : List At) (root old : Datum) → standing_at path root ≡ Some old → IsPermutation (serials root) (serials old ++ serials (replaced path Gone root))
+pub serials-taken : (path : List At) (root old : Datum) → value_at path root ≡ Some old → IsPermutation (serials root) (serials old ++ serials (replaced path Gone root))
 serials-taken path root old h = serials-exchange path Gone root old h
 
 serials_of_part : Datum → At → List ℕ

@@ -5,9 +5,9 @@ use Rattle.std.proofs.lemmas.List.Elements.{All-nil, All-head, All-tail, All-con
 use Rattle.store_model.specs.declared.address.At.{At}
 use Rattle.store_model.specs.declared.address.At.TheVariants.{Part, Inside}
 use Rattle.store_model.specs.Values.Datum.{Datum, Data, Gone, Number, Truth, UnitValue, Aggregate, Box, Address, no_part, a_part, data_from}
-use Rattle.store_model.specs.Values.Access.{part, with_part, part_at, with_part_at, standing_at, replaced}
+use Rattle.store_model.specs.Values.Access.{part, with_part, part_at, with_part_at, value_at, replaced}
 use Rattle.store_model.specs.Values.Wholeness.{IsWhole, AreWhole, is_whole, are_whole}
-use Rattle.store_model.proofs.Values.Access.{none_or_some, standing_at-step, standing_at-no_step, replaced-step, replaced-no_step, standing_at-replaced}
+use Rattle.store_model.proofs.Values.Access.{none_or_some, value_at-step, value_at-no_step, replaced-step, replaced-no_step, value_at-replaced}
 
 IsWhole-part_at : (number : ℕ) (parts : Data) (inner : Datum) → AreWhole parts → part_at number parts ≡ Some inner → IsWhole inner
 IsWhole-part_at number no_part inner whole h = absurd (cc)
@@ -32,12 +32,12 @@ IsWhole-with_part Inside new (Box serial impl_no inside) whole h = h
 IsWhole-with_part _ new _ whole h = whole
 
 -- what stands in a whole value is whole
-pub IsWhole-standing_at : (path : List At) (root inner : Datum) → IsWhole root → standing_at path root ≡ Some inner → IsWhole inner
-IsWhole-standing_at [] root inner whole h = subst IsWhole (let e : root ≡ inner = cc in e) whole
-IsWhole-standing_at (step ∷ path) root inner whole h =
+pub IsWhole-value_at : (path : List At) (root inner : Datum) → IsWhole root → value_at path root ≡ Some inner → IsWhole inner
+IsWhole-value_at [] root inner whole h = subst IsWhole (let e : root ≡ inner = cc in e) whole
+IsWhole-value_at (step ∷ path) root inner whole h =
     elim (none_or_some (part step root)) [
-      | inl none ↦ absurd (let e : Some inner ≡ None = sym h ∙ standing_at-no_step step path root none in cc)
-      | inr some ↦ IsWhole-standing_at path some.0 inner (IsWhole-part step root some.0 whole some.1) (sym (standing_at-step step path root some.0 some.1) ∙ h)
+      | inl none ↦ absurd (let e : Some inner ≡ None = sym h ∙ value_at-no_step step path root none in cc)
+      | inr some ↦ IsWhole-value_at path some.0 inner (IsWhole-part step root some.0 whole some.1) (sym (value_at-step step path root some.0 some.1) ∙ h)
     ]
 
 -- a whole value with a whole value put into it is whole
@@ -53,7 +53,7 @@ IsWhole-replaced (step ∷ path) new root whole h =
     ]
 
 mutual
-  IsWhole-from_places : (root : Datum) → ((path : List At) → standing_at path root ≡ Some Gone → ⊥) → IsWhole root
+  IsWhole-from_places : (root : Datum) → ((path : List At) → value_at path root ≡ Some Gone → ⊥) → IsWhole root
   IsWhole-from_places Gone none = none [] refl
   IsWhole-from_places (Number number) none = tt
   IsWhole-from_places (Truth truth) none = tt
@@ -62,17 +62,17 @@ mutual
   IsWhole-from_places (Box serial impl_no inside) none = IsWhole-from_places inside (λ path. none (Inside ∷ path))
   IsWhole-from_places (Address address) none = tt
 
-  AreWhole-from_places : (parts : Data) → ((number : ℕ) (path : List At) → option_and_then (standing_at path) (part_at number parts) ≡ Some Gone → ⊥) → AreWhole parts
+  AreWhole-from_places : (parts : Data) → ((number : ℕ) (path : List At) → option_and_then (value_at path) (part_at number parts) ≡ Some Gone → ⊥) → AreWhole parts
   AreWhole-from_places no_part none = tt
   AreWhole-from_places (a_part first rest) none = (IsWhole-from_places first (none 0), AreWhole-from_places rest (λ number. none (suc number)))
 
 -- a value is whole exactly where no place of it is gone
-pub IsWhole-iff_no_gone : (root : Datum) → IsWhole root ↔ ((path : List At) → standing_at path root ≡ Some Gone → ⊥)
-IsWhole-iff_no_gone root = (λ whole path. IsWhole-standing_at path root Gone whole, IsWhole-from_places root)
+pub IsWhole-iff_no_gone : (root : Datum) → IsWhole root ↔ ((path : List At) → value_at path root ≡ Some Gone → ⊥)
+IsWhole-iff_no_gone root = (λ whole path. IsWhole-value_at path root Gone whole, IsWhole-from_places root)
 
 -- a value from which something was taken is not whole
-pub not_whole-taken : (path : List At) (root old : Datum) → standing_at path root ≡ Some old → IsWhole (replaced path Gone root) → ⊥
-not_whole-taken path root old h whole = IsWhole-standing_at path (replaced path Gone root) Gone whole (standing_at-replaced path Gone root old h)
+pub not_whole-taken : (path : List At) (root old : Datum) → value_at path root ≡ Some old → IsWhole (replaced path Gone root) → ⊥
+not_whole-taken path root old h whole = IsWhole-value_at path (replaced path Gone root) Gone whole (value_at-replaced path Gone root old h)
 
 -- parts that a list gives are whole exactly where each of the list is
 pub AreWhole-data_from : (values : List Datum) → AreWhole (data_from values) ↔ All IsWhole values

@@ -7,24 +7,24 @@ use Rattle.mir_base.specs.declared.trace.End.{End}
 use Rattle.mir_base.specs.declared.trace.Event.{Event}
 use Rattle.mir_base.specs.Trace.{Trace}
 use Rattle.mir_ty.specs.ItemTable.{ItemTable}
-use Rattle.store_model.specs.Concrete.Effects.{on_values}
+use Rattle.store_model.specs.Concrete.Effects.{concrete_effects}
 use Rattle.store_model.specs.Values.Datum.{Datum}
-use Rattle.store_model.specs.Effects.{Halt, Aborted, OutOfTicks, NoStep, StuckAt, BadUse, BadStore, NoItem, NoRun, PastTheEnd, Out, Go, Unwind, Halts, Effects}
+use Rattle.store_model.specs.Effects.{Halt, Aborted, OutOfTicks, Stuck, StuckAt, BadUse, BadStore, NoChoice, Infeasible, Unreachable, Out, Go, Unwind, Halts, Effects}
 use Rattle.store_model.specs.Concrete.Location.{Setting}
-use Rattle.store_model.specs.Concrete.State.{Activation, Cells, cell, World, telling, tick, entered, left, Answer, Returns, Unwinds, HaltsIn, Bodies, beginning}
+use Rattle.store_model.specs.Concrete.State.{Activation, Cells, cell, State, with_event, tick, with_activation, without_activation, Answer, Returns, Unwinds, HaltsIn, Bodies, beginning}
 
 abbrev pub cells_of_youngest : List Activation → Cells
 cells_of_youngest [] = []
 cells_of_youngest (a ∷ older) = a.cells
 
 -- a body ends: it returns the value of its result, or it unwinds; its line is the last
-abbrev pub ended : ℕ → ℕ → Out World → Answer
+abbrev pub ended : ℕ → ℕ → Out State → Answer
 ended body answer (Go w) =
-    Returns (cell answer (cells_of_youngest w.activations)) (telling (Event.Return body) (left w))
-ended body answer (Unwind w) = Unwinds (telling (Event.Unwind body) (left w))
+    Returns (cell answer (cells_of_youngest w.activations)) (with_event (Event.Return body) (without_activation w))
+ended body answer (Unwind w) = Unwinds (with_event (Event.Unwind body) (without_activation w))
 ended body answer (Halts halt w) = HaltsIn halt w
 
-abbrev pub after_tick : Out World → (World → Answer) → Answer
+abbrev pub after_tick : Out State → (State → Answer) → Answer
 after_tick (Go w) next = next w
 after_tick (Unwind w) next = Unwinds w
 after_tick (Halts halt w) next = HaltsIn halt w
@@ -34,7 +34,7 @@ after_tick (Halts halt w) next = HaltsIn halt w
 pub record Code : Type 0 where
   pub arguments : ℕ → List Datum → Cells
   pub answer : ℕ → ℕ
-  pub within : Effects World → ℕ → ℕ → World → Out World
+  pub within : Effects State → ℕ → ℕ → State → Out State
 
 -- One tick is spent at each entry, before the line of it. Bodies are nested no deeper than the bound, which is at least
 -- the ticks that are left, so it never ends a run by itself; neither do the bounds on turns and on drops, which are
@@ -43,8 +43,8 @@ abbrev pub run_body : Setting → Code → ℕ → Bodies
 run_body setting code zero event body args w = HaltsIn OutOfTicks w
 run_body setting code (suc n) event body args w =
     after_tick (tick w) (λ w. ended body (code.answer body)
-    (code.within (on_values setting (run_body setting code n) (suc n)) (suc n) body
-    (entered (record { body = body; cells = code.arguments body args }) (telling event w))))
+    (code.within (concrete_effects setting (run_body setting code n) (suc n)) (suc n) body
+    (with_activation (record { body = body; cells = code.arguments body args }) (with_event event w))))
 
 -- how a run ends. A run of a source, and a free run, have no block to be stuck in
 abbrev end_of_halt : Halt → End
@@ -54,10 +54,10 @@ end_of_halt (StuckAt body block) = End.Stuck body block
 end_of_halt halt = End.Stuck 0 0
 
 -- what a run tells: its trace and its end
-abbrev pub told_by : Answer → Trace × End
-told_by (Returns value w) = (w.trace, End.Returned)
-told_by (Unwinds w) = (w.trace, End.Panicked)
-told_by (HaltsIn halt w) = (w.trace, end_of_halt halt)
+abbrev pub outcome_of : Answer → Trace × End
+outcome_of (Returns value w) = (w.trace, End.Returned)
+outcome_of (Unwinds w) = (w.trace, End.Panicked)
+outcome_of (HaltsIn halt w) = (w.trace, end_of_halt halt)
 
 -- What a run tells later goes on from what it told before: it is the same, but that a run which was out of ticks may
 -- have told more.
@@ -72,4 +72,4 @@ main_of items = option_map_or (λ n. n) (position (λ sig. pointwise nat_eq sig.
 -- `main` is called with these numbers to be asked and so many ticks
 abbrev pub run_of : Setting → Code → ℕ → List ℤ → ℕ → Trace × End
 run_of setting code main asked ticks =
-    told_by (run_body setting code (suc ticks) (Event.Call main) main [] (beginning asked ticks))
+    outcome_of (run_body setting code (suc ticks) (Event.Call main) main [] (beginning asked ticks))

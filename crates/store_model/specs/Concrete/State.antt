@@ -16,7 +16,7 @@ pub record Activation : Type 0 where
   pub body : ℕ
   pub cells : Cells
 
-pub record World : Type 0 where
+pub record State : Type 0 where
   pub asked : List ℤ
   pub ticks : ℕ
   pub serial : ℕ
@@ -42,39 +42,39 @@ with_cell_at depth key value (a ∷ older) =
     if depth == length older then (record a { cells = with_cell key value a.cells }) ∷ older else a
     ∷ with_cell_at depth key value older
 
-abbrev pub telling : Event → World → World
-telling event w = record w { trace = w.trace ++ event ∷ [] }
+abbrev pub with_event : Event → State → State
+with_event event w = record w { trace = w.trace ++ event ∷ [] }
 
-abbrev pub numbered_next : World → World
+abbrev pub numbered_next : State → State
 numbered_next w = record w { serial = suc w.serial }
 
 -- one tick is spent, or there is none
-abbrev pub spend : ℕ → World → Out World
+abbrev pub spend : ℕ → State → Out State
 spend zero w = Halts OutOfTicks w
 spend (suc n) w = Go (record w { ticks = n })
 
-abbrev pub tick : World → Out World
+abbrev pub tick : State → Out State
 tick w = spend w.ticks w
 
-abbrev pub entered : Activation → World → World
-entered a w = record w { activations = a ∷ w.activations }
+abbrev pub with_activation : Activation → State → State
+with_activation a w = record w { activations = a ∷ w.activations }
 
 abbrev older_of : List Activation → List Activation
 older_of [] = []
 older_of (a ∷ older) = older
 
-abbrev pub left : World → World
-left w = record w { activations = older_of w.activations }
+abbrev pub without_activation : State → State
+without_activation w = record w { activations = older_of w.activations }
 
 -- how a body that was entered ends
 pub data Answer : Type 0 where
-  Returns : (value : Datum) (w : World) → Answer
-  Unwinds : (w : World) → Answer
-  HaltsIn : (halt : Halt) (w : World) → Answer
+  Returns : (value : Datum) (w : State) → Answer
+  Unwinds : (w : State) → Answer
+  HaltsIn : (halt : Halt) (w : State) → Answer
 
 -- a body is entered with its arguments: the event that tells of it, and its number
 abbrev pub Bodies : Type 0
-Bodies = Event → ℕ → List Datum → World → Answer
+Bodies = Event → ℕ → List Datum → State → Answer
 
-abbrev pub beginning : List ℤ → ℕ → World
+abbrev pub beginning : List ℤ → ℕ → State
 beginning asked ticks = record { asked = asked; ticks = ticks; serial = 1; activations = []; trace = [] }

@@ -54,16 +54,16 @@ element_of (Ty.Array element count) = Some element
 element_of _ = None
 
 -- the type to which a step leads; none where the type has no such part
-abbrev pub stepped_ty : ItemTable → Step → Ty → Option TyId
-stepped_ty items (ToPart n) ty = unless_enum (is_enum items ty) (slice_get (parts_of items ty 0) n)
-stepped_ty items (ToField v n) ty = part_if (is_enum items ty) (slice_get (parts_of items ty v) n)
-stepped_ty items ToContent ty = content_of ty
-stepped_ty items (ToElement i) ty = element_of ty
+abbrev pub step_ty : ItemTable → Step → Ty → Option TyId
+step_ty items (ToPart n) ty = unless_enum (is_enum items ty) (slice_get (parts_of items ty 0) n)
+step_ty items (ToField v n) ty = part_if (is_enum items ty) (slice_get (parts_of items ty v) n)
+step_ty items ToContent ty = content_of ty
+step_ty items (ToElement i) ty = element_of ty
 
 abbrev pub ty_along : ItemTable → List Step → TyId → Option TyId
 ty_along items [] id = Some id
 ty_along items (step ∷ steps) id =
-    option_and_then (ty_along items steps) (option_and_then (stepped_ty items step) (type_at items id))
+    option_and_then (ty_along items steps) (option_and_then (step_ty items step) (type_at items id))
 
 -- the type of a place, by the types of the locals
 abbrev pub place_ty : ItemTable → (ℕ → Option TyId) → Place → Option TyId
@@ -97,10 +97,10 @@ abbrev pub watched : ItemTable → Option TyId → List Step → Watched
 watched items id [] = record { steps = []; reach = Whole }
 watched items id (ToPart n ∷ steps) =
     watched_step (ToPart n)
-    (watched items (option_and_then (stepped_ty items (ToPart n)) (option_and_then (type_at items) id)) steps)
+    (watched items (option_and_then (step_ty items (ToPart n)) (option_and_then (type_at items) id)) steps)
 watched items id (ToField v n ∷ steps) =
     watched_step (ToField v n)
-    (watched items (option_and_then (stepped_ty items (ToField v n)) (option_and_then (type_at items) id)) steps)
+    (watched items (option_and_then (step_ty items (ToField v n)) (option_and_then (type_at items) id)) steps)
 watched items id (ToContent ∷ steps) =
     watched_content (is_reference (option_and_then (type_at items) id))
     (watched items (option_and_then content_of (option_and_then (type_at items) id)) steps)

@@ -30,9 +30,9 @@ with_part Inside new (Box serial impl_no inside) = Box serial impl_no new
 with_part step new datum = datum
 
 -- what stands at the end of a path, if there is such a place; the path without steps ends at the root
-abbrev pub standing_at : List At → Datum → Option Datum
-standing_at [] root = Some root
-standing_at (step ∷ path) root = option_and_then (standing_at path) (part step root)
+abbrev pub value_at : List At → Datum → Option Datum
+value_at [] root = Some root
+value_at (step ∷ path) root = option_and_then (value_at path) (part step root)
 
 -- the root with another value at the end of a path, if there is such a place
 abbrev pub replaced : List At → Datum → Datum → Datum
@@ -47,7 +47,7 @@ pub record IsCutOff (path : List At) (root : Datum) : Type 0 where
   pub below : List At
   pub container : Datum
   pub path_is : path ≡ above ++ step ∷ below
-  pub container_is : standing_at above root ≡ Some container
+  pub container_is : value_at above root ≡ Some container
   pub lacks : part step container ≡ None
 
 -- two paths take different steps from some common container
