@@ -65,7 +65,8 @@ other_uses _ = []
 -- the operands from left to right, what is used otherwise, and last the store
 abbrev pub stmt_uses : Stmt → List (Use × Place)
 stmt_uses stmt =
-    flat_map operand_uses (operands_of_stmt stmt) ++ other_uses stmt ++ map (λ place. (Stores, place)) (stored_by_stmt stmt)
+    flat_map operand_uses (operands_of_stmt stmt) ++ other_uses stmt ++
+    map (λ place. (Stores, place)) (stored_by_stmt stmt)
 
 abbrev pub operands_of_term : Term → List Operand
 operands_of_term (Term.Goto block) = []

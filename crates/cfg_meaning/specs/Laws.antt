@@ -70,7 +70,8 @@ FuelOfGraphRunsIsIrrelevant =
 -- a run that is not out of ticks is the same with one tick more, and otherwise it goes on from the same events
 abbrev pub GraphRunGoesOn : Type 0
 GraphRunGoesOn =
-    (graph : Graph) (asked : List ℤ) (ticks : ℕ) → GoesOnFrom (graph_run graph asked ticks) (graph_run graph asked (suc ticks))
+    (graph : Graph) (asked : List ℤ) (ticks : ℕ) → GoesOnFrom (graph_run graph asked ticks)
+    (graph_run graph asked (suc ticks))
 
 abbrev pub RawGraphRunGoesOn : Type 0
 RawGraphRunGoesOn =

@@ -24,10 +24,15 @@ is_scalar _ = false
 -- a type is Copy where it is a scalar, a struct or enum that derives Copy, or a tuple, an array or a closure all of whose parts are Copy
 pub data IsCopy (items : ItemTable) : TyId → Type 0 where
   scalar : {id : TyId} {ty : Ty} → type_at items id ≡ Some ty → IsTrue (is_scalar ty) → IsCopy items id
-  derives : {id : TyId} {n : ℕ} {adt : Adt} → type_at items id ≡ Some (Ty.Adt n) → slice_get items.adts n ≡ Some adt → IsTrue adt.copy → IsCopy items id
-  tuple : {id : TyId} {parts : List TyId} → type_at items id ≡ Some (Ty.Tuple parts) → ((part : TyId) → Contains parts part → IsCopy items part) → IsCopy items id
-  array : {id element : TyId} {count : ℕ} → type_at items id ≡ Some (Ty.Array element count) → IsCopy items element → IsCopy items id
-  closure : {id : TyId} {n : ℕ} {def : ClosureDef} → type_at items id ≡ Some (Ty.Closure n) → slice_get items.closures n ≡ Some def → ((part : TyId) → Contains def.captures part → IsCopy items part) → IsCopy items id
+  derives : {id : TyId} {n : ℕ} {adt : Adt} → type_at items id ≡ Some (Ty.Adt n) → slice_get items.adts n ≡ Some adt →
+      IsTrue adt.copy → IsCopy items id
+  tuple : {id : TyId} {parts : List TyId} → type_at items id ≡ Some (Ty.Tuple parts) →
+      ((part : TyId) → Contains parts part → IsCopy items part) → IsCopy items id
+  array : {id element : TyId} {count : ℕ} → type_at items id ≡ Some (Ty.Array element count) → IsCopy items element →
+      IsCopy items id
+  closure : {id : TyId} {n : ℕ} {def : ClosureDef} → type_at items id ≡ Some (Ty.Closure n) →
+      slice_get items.closures n ≡ Some def → ((part : TyId) → Contains def.captures part → IsCopy items part) →
+      IsCopy items id
 
 -- whether a struct or an enum has a `Drop` impl
 abbrev pub adt_has_drop_impl : Option Adt → Bool
@@ -46,7 +51,8 @@ pub data NeedsDrop (items : ItemTable) : TyId → Type 0 where
   a_box : {id inside : TyId} → type_at items id ≡ Some (Ty.Boxed inside) → NeedsDrop items id
   a_dyn : {id : TyId} {n : ℕ} → type_at items id ≡ Some (Ty.Dyn n) → NeedsDrop items id
   an_impl : {id : TyId} → IsTrue (has_drop_impl items id) → NeedsDrop items id
-  a_part : {id part : TyId} (variant n : ℕ) → field_ty items id variant n ≡ Some part → NeedsDrop items part → NeedsDrop items id
+  a_part : {id part : TyId} (variant n : ℕ) → field_ty items id variant n ≡ Some part → NeedsDrop items part →
+      NeedsDrop items id
 
 -- what a rule says of a type, given of which types it is known already
 abbrev pub Rule : Type 0
@@ -56,7 +62,8 @@ abbrev pub copy_rule : List Adt → List ClosureDef → Rule
 copy_rule adts closures known (Ty.Adt n) = option_map_or (λ adt. adt.copy) (slice_get adts n) false
 copy_rule adts closures known (Ty.Tuple parts) = list_all known parts
 copy_rule adts closures known (Ty.Array element count) = known element
-copy_rule adts closures known (Ty.Closure n) = option_map_or (λ def. list_all known def.captures) (slice_get closures n) false
+copy_rule adts closures known (Ty.Closure n) =
+    option_map_or (λ def. list_all known def.captures) (slice_get closures n) false
 copy_rule adts closures known ty = is_scalar ty
 
 -- a struct or an enum needs dropping where it has a `Drop` impl, or a field of any variant needs dropping
@@ -69,7 +76,8 @@ drop_rule adts closures known (Ty.Dyn n) = true
 drop_rule adts closures known (Ty.Adt n) = option_map_or (adt_drop_rule known) (slice_get adts n) false
 drop_rule adts closures known (Ty.Tuple parts) = list_any known parts
 drop_rule adts closures known (Ty.Array element count) = nat_lt 0 count && known element
-drop_rule adts closures known (Ty.Closure n) = option_map_or (λ def. list_any known def.captures) (slice_get closures n) false
+drop_rule adts closures known (Ty.Closure n) =
+    option_map_or (λ def. list_any known def.captures) (slice_get closures n) false
 drop_rule adts closures known _ = false
 
 -- what a rule shows of the types of a table in this many rounds, where nothing is known at first

@@ -48,4 +48,5 @@ item_count items = length items.adts + length items.traits + length items.impls 
 -- a type is given the number that it has already, or else the next one
 abbrev pub Interns : ItemTable → Ty → ItemTable → TyId → Type 0
 Interns old ty new id =
-    (type_at new id ≡ Some ty) × ((new ≡ old) ⊎ ((¬ Contains old.types ty) × (id.0 ≡ length old.types) × (new ≡ with_type old ty)))
+    (type_at new id ≡ Some ty)
+    × ((new ≡ old) ⊎ ((¬ Contains old.types ty) × (id.0 ≡ length old.types) × (new ≡ with_type old ty)))

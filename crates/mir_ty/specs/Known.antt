@@ -20,7 +20,8 @@ IsShown types rule known = (id : TyId) → known_by known id ≡ true → by_rul
 
 -- the rule shows nothing of a type that is not known already
 abbrev pub IsSettledAt : List Ty → Rule → List Bool → TyId → Type 0
-IsSettledAt types rule known id = (ty : Ty) → slice_get types id.0 ≡ Some ty → rule (known_by known) ty ≡ true → known_by known id ≡ true
+IsSettledAt types rule known id =
+    (ty : Ty) → slice_get types id.0 ≡ Some ty → rule (known_by known) ty ≡ true → known_by known id ≡ true
 
 -- what is known is what the rule shows
 abbrev pub IsAllShown : List Ty → Rule → List Bool → Type 0
@@ -35,4 +36,5 @@ IsNews types rule known n news =
 pub record IsBehindAt (types : List Ty) (rule : Rule) (known : List Bool) (added : Ty) : Type 0 where
   pub long : length known ≡ length types
   pub shown : IsShown types rule known
-  pub settled : (id : TyId) (ty : Ty) → slice_get types id.0 ≡ Some ty → ty ≢ added → rule (known_by known) ty ≡ true → known_by known id ≡ true
+  pub settled : (id : TyId) (ty : Ty) → slice_get types id.0 ≡ Some ty → ty ≢ added →
+      rule (known_by known) ty ≡ true → known_by known id ≡ true

@@ -15,7 +15,8 @@ use Rattle.src_meaning.specs.Programs.{activation, setting_of, code_of, source}
 
 -- two bounds on the turns of loops that are greater than the number of items give the same free run of a body
 abbrev pub FuelOfFreeRunsIsIrrelevant : Type 0
-FuelOfFreeRunsIsIrrelevant = (items : ItemTable) (body : BodyTree) (local_ty : ℕ → Option TyId) (fuel other : ℕ) (w : AbstractState) →
+FuelOfFreeRunsIsIrrelevant =
+    (items : ItemTable) (body : BodyTree) (local_ty : ℕ → Option TyId) (fuel other : ℕ) (w : AbstractState) →
     length w.choices < fuel → length w.choices < other →
     activation items (at_locals (local_of items body) (abstract_effects items local_ty)) fuel body w
     ≡ activation items (at_locals (local_of items body) (abstract_effects items local_ty)) other body w

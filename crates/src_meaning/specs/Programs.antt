@@ -56,7 +56,8 @@ module _ {W : Type 0} (items : ItemTable) (p : Effects W) (fuel : ℕ) where
   -- the result is the oldest entry of an activation, older than the parameters, and pending until the body returns
   abbrev pub answer_scope : BodyTree → Scopes
   answer_scope body =
-      innermost (with_pending (record { key = answer_key body; ty = body.answer })) (with_scope (answer_key body) false [])
+      innermost (with_pending (record { key = answer_key body; ty = body.answer }))
+      (with_scope (answer_key body) false [])
 
   -- the entire function: the parameters, and the block into the result
   abbrev pub entire_function : BodyTree → Does W

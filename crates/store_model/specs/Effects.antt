@@ -1,6 +1,6 @@
 -- What one statement, operand or terminator does to what a run holds (the rustc development guide, "The MIR"). The
 -- evaluation rules of the source and the steps of a graph are stated over these effects, so that one proof joins them,
--- whatever the effects are: those on values (`Acting`), or those on what is present and gone (`Free`).
+-- whatever the effects are: those on values (`Concrete`), or those on what is present and gone (`Abstract`).
 use Rattle.std.specs.Prelude.{◌≡◌, ℕ, ℤ, Bool, true, false, List, Option, Some, None}
 use Rattle.std.specs.Option.{option_map_or}
 use Rattle.mir_base.specs.declared.int_kind.IntKind.{IntKind}

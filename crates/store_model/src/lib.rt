@@ -3,14 +3,15 @@
 //! end. Contracts see a value as plain data, `Datum` of `specs/Values/Datum.antt`.
 #![tactic(auto)]
 
+mod access;
 mod address;
 mod copies;
 mod laws;
 mod parts;
 mod path;
-mod access;
 mod value;
 
+pub use access::{put, read, take};
 pub use address::{Addr, At, AtPath};
 pub use laws::{
     law_of_changes, law_of_never_stores, law_of_paths, law_of_serials, law_of_what_stands,
@@ -18,5 +19,4 @@ pub use laws::{
 };
 pub use parts::parts_in_order;
 pub use path::Path;
-pub use access::{put, read, take};
 pub use value::Value;

@@ -86,7 +86,8 @@ short = record {
     closures = [];
     bodies = head (codes "D::drop") (id 3 ∷ []) 2 ∷ head (codes "main") [] 2 ∷ [];
   };
-  bodies = drop_of_d ∷ body 0 (id 2 ∷ id 1 ∷ []) (plain 1 (make_d 1 ∷ []) (Term.DropAt (var 1) 1 Unwind.Resume) ∷ last ∷ []) ∷ [];
+  bodies = drop_of_d ∷ body 0 (id 2 ∷ id 1 ∷ []) (plain 1 (make_d 1 ∷ []) (Term.DropAt (var 1) 1 Unwind.Resume) ∷
+      last ∷ []) ∷ [];
 }
 
 -- the types of the larger graph
@@ -131,13 +132,15 @@ heads =
     ∷ head (codes "main::closure#1") (id 14 ∷ []) 0 ∷ head (codes "stop") [] 13 ∷ []
 
 abbrev pub items : ItemTable
-items = record { types = types; adts = d ∷ e ∷ []; traits = show ∷ []; impls = show_d ∷ []; closures = closure ∷ []; bodies = heads }
+items = record { types = types; adts = d ∷ e ∷ []; traits = show ∷ []; impls = show_d ∷ []; closures = closure ∷ [];
+    bodies = heads }
 
 abbrev show_of_d : Body
 show_of_d = body 1 (id 2 ∷ id 15 ∷ []) (last ∷ [])
 
 abbrev closure_body : Body
-closure_body = body 1 (id 0 ∷ id 14 ∷ []) (plain 0 (Stmt.Put (var 0) (Operand.Copied (along 1 (Step.Part 0 ∷ []))) ∷ []) Term.Return ∷ [])
+closure_body = body 1 (id 0 ∷ id 14 ∷ [])
+    (plain 0 (Stmt.Put (var 0) (Operand.Copied (along 1 (Step.Part 0 ∷ []))) ∷ []) Term.Return ∷ [])
 
 -- a body that never returns
 abbrev stop : Body
@@ -145,7 +148,8 @@ stop = body 0 (id 13 ∷ []) (plain 0 [] (Term.Goto 1) ∷ block Kind.Turn 1 [] 
 
 -- the larger graph with these items, and with these locals and blocks of `main`
 abbrev pub graph : ItemTable → List TyId → List Block → Graph
-graph its locals blocks = record { items = its; bodies = drop_of_d ∷ body 0 locals blocks ∷ show_of_d ∷ closure_body ∷ stop ∷ [] }
+graph its locals blocks =
+    record { items = its; bodies = drop_of_d ∷ body 0 locals blocks ∷ show_of_d ∷ closure_body ∷ stop ∷ [] }
 
 abbrev pub with_main : List TyId → List Block → Graph
 with_main locals blocks = graph items locals blocks

@@ -51,7 +51,8 @@ no_edge = refl
 no_edge_from_the_end : given branching (0 ∷ 1 ∷ 2 ∷ []) ≡ []
 no_edge_from_the_end = refl
 
-both_ways_to_one_block : given (before (Term.If (Operand.Truth true) 1 1)) (0 ∷ 1 ∷ []) ≡ (false ∷ []) ∷ (true ∷ []) ∷ []
+both_ways_to_one_block : given (before (Term.If (Operand.Truth true) 1 1)) (0 ∷ 1 ∷ [])
+    ≡ (false ∷ []) ∷ (true ∷ []) ∷ []
 both_ways_to_one_block = refl
 
 one_way_gives_nothing : given (before (Term.Goto 1)) (0 ∷ 1 ∷ []) ≡ [] ∷ []
@@ -75,7 +76,8 @@ a_call_that_panics = refl
 a_call_that_never_returns : given (before (Term.Call (var 3) 4 [] 1 (Unwind.Block 2))) (0 ∷ 1 ∷ []) ≡ []
 a_call_that_never_returns = refl
 
-a_panic_in_a_call_that_never_returns : given (before (Term.Call (var 3) 4 [] 1 (Unwind.Block 2))) (0 ∷ 2 ∷ []) ≡ (true ∷ []) ∷ []
+a_panic_in_a_call_that_never_returns : given (before (Term.Call (var 3) 4 [] 1 (Unwind.Block 2))) (0 ∷ 2 ∷ [])
+    ≡ (true ∷ []) ∷ []
 a_panic_in_a_call_that_never_returns = refl
 
 a_drop : given (before (Term.DropAt (var 4) 1 (Unwind.Block 2))) (0 ∷ 1 ∷ []) ≡ (false ∷ []) ∷ []

@@ -80,7 +80,8 @@ not_refilled_after_a_panic = refl
 an_abort_needs_no_refill : refills_dropped items (refilling Unwind.Abort (refill ∷ give_unit ∷ [])) ≡ true
 an_abort_needs_no_refill = refl
 
-a_whole_local_needs_no_refill : refills_dropped items (of_blocks (plain 1 [] (Term.DropAt (var 2) 1 Unwind.Resume) ∷ last ∷ [])) ≡ true
+a_whole_local_needs_no_refill : refills_dropped items
+    (of_blocks (plain 1 [] (Term.DropAt (var 2) 1 Unwind.Resume) ∷ last ∷ [])) ≡ true
 a_whole_local_needs_no_refill = refl
 
 -- references in locals: the parameter, and the locals 7 and 8
@@ -106,7 +107,8 @@ a_parameter_stored_into = refl
 they_stand_alone : references_stand_alone items ≡ true
 they_stand_alone = refl
 
-a_tuple_of_references : references_stand_alone (record items { types = Ty.Unit ∷ Ty.Shared (id 0) ∷ Ty.Tuple (id 1 ∷ []) ∷ [] }) ≡ false
+a_tuple_of_references : references_stand_alone
+    (record items { types = Ty.Unit ∷ Ty.Shared (id 0) ∷ Ty.Tuple (id 1 ∷ []) ∷ [] }) ≡ false
 a_tuple_of_references = refl
 
 -- what local 7 names between its making and a use of it
@@ -125,7 +127,8 @@ taken_before_a_use = refl
 a_container_taken : keeps (borrow 7 (along 3 (Step.Part 0 ∷ [])) ∷ moved (var 3) ∷ used ∷ []) ≡ false
 a_container_taken = refl
 
-a_part_apart_taken : keeps (borrow 7 (along 3 (Step.Part 0 ∷ [])) ∷ moved (along 3 (Step.Part 1 ∷ [])) ∷ used ∷ []) ≡ true
+a_part_apart_taken : keeps (borrow 7 (along 3 (Step.Part 0 ∷ [])) ∷ moved (along 3 (Step.Part 1 ∷ [])) ∷ used ∷ [])
+    ≡ true
 a_part_apart_taken = refl
 
 taken_after_the_last_use : keeps (borrow 7 (var 2) ∷ used ∷ moved (var 2) ∷ []) ≡ true
@@ -137,8 +140,11 @@ taken_and_made_again = refl
 taken_through_it : keeps (borrow 7 (var 2) ∷ moved (along 7 (Step.Inside ∷ [])) ∷ used ∷ []) ≡ true
 taken_through_it = refl
 
-taken_through_another : keeps (borrow 8 (var 2) ∷ borrow 7 (var 2) ∷ moved (along 8 (Step.Inside ∷ [])) ∷ used ∷ []) ≡ false
+taken_through_another : keeps (borrow 8 (var 2) ∷ borrow 7 (var 2) ∷ moved (along 8 (Step.Inside ∷ [])) ∷ used ∷ [])
+    ≡ false
 taken_through_another = refl
 
-taken_by_an_operand_of_the_use : keeps (borrow 7 (var 2) ∷ Stmt.Tuple (var 3) (Operand.Copied (along 7 (Step.Inside ∷ [])) ∷ Operand.Moved (var 2) ∷ []) ∷ []) ≡ false
+taken_by_an_operand_of_the_use : keeps
+    (borrow 7 (var 2) ∷ Stmt.Tuple (var 3) (Operand.Copied (along 7 (Step.Inside ∷ [])) ∷ Operand.Moved (var 2) ∷
+    []) ∷ []) ≡ false
 taken_by_an_operand_of_the_use = refl

@@ -67,7 +67,8 @@ a_move_out_of_what_is_gone = refl
 a_move_beside_what_is_gone : in_block (moved left ∷ moved right ∷ []) (Term.Return) ≡ []
 a_move_beside_what_is_gone = refl
 
-moved_twice_in_one_statement : in_block (Stmt.Tuple (var 1) (Operand.Moved left ∷ Operand.Moved left ∷ []) ∷ []) (Term.Return) ≡ (U1, 0, 0) ∷ []
+moved_twice_in_one_statement : in_block (Stmt.Tuple (var 1) (Operand.Moved left ∷ Operand.Moved left ∷ []) ∷ [])
+    (Term.Return) ≡ (U1, 0, 0) ∷ []
 moved_twice_in_one_statement = refl
 
 a_borrow_of_what_was_never_made : in_block (Stmt.Borrow (var 7) false (var 2) ∷ []) (Term.Return) ≡ (U1, 0, 0) ∷ []
@@ -85,7 +86,8 @@ a_touch_where_the_part_is_there_again = refl
 a_test_of_what_is_gone : in_block ([]) (Term.Case (var 5) 0 0 0) ≡ (U1, 0, 0) ∷ []
 a_test_of_what_is_gone = refl
 
-a_test_with_a_part_gone : in_block (Stmt.Make (var 5) 1 0 (Operand.Moved left ∷ []) ∷ moved (along 5 (Step.Field 0 0 ∷ [])) ∷ []) (Term.Case (var 5) 0 0 0) ≡ []
+a_test_with_a_part_gone : in_block (Stmt.Make (var 5) 1 0 (Operand.Moved left ∷ []) ∷
+    moved (along 5 (Step.Field 0 0 ∷ [])) ∷ []) (Term.Case (var 5) 0 0 0) ≡ []
 a_test_with_a_part_gone = refl
 
 a_store_into_what_is_gone : in_block (moved (var 1) ∷ made left ∷ []) (Term.Return) ≡ (U2, 0, 1) ∷ []
@@ -106,31 +108,38 @@ a_drop_where_only_the_place_is_gone = refl
 a_drop_of_a_whole_local : in_block ([]) (Term.DropAt (var 2) 0 Unwind.Resume) ≡ []
 a_drop_of_a_whole_local = refl
 
-a_move_by_an_index_with_an_element_gone : in_block (make_array (var 3) ∷ moved first_element ∷ moved element ∷ []) (Term.Return) ≡ (U1, 0, 2) ∷ []
+a_move_by_an_index_with_an_element_gone : in_block (make_array (var 3) ∷ moved first_element ∷ moved element ∷ [])
+    (Term.Return) ≡ (U1, 0, 2) ∷ []
 a_move_by_an_index_with_an_element_gone = refl
 
-a_move_by_an_index_counts_for_no_place : in_block (make_array (var 3) ∷ moved element ∷ moved element ∷ []) (Term.Return) ≡ []
+a_move_by_an_index_counts_for_no_place : in_block (make_array (var 3) ∷ moved element ∷ moved element ∷ [])
+    (Term.Return) ≡ []
 a_move_by_an_index_counts_for_no_place = refl
 
-a_store_by_an_index_with_an_element_gone : in_block (make_array (var 3) ∷ moved first_element ∷ made element ∷ []) (Term.Return) ≡ (U2, 0, 2) ∷ []
+a_store_by_an_index_with_an_element_gone : in_block (make_array (var 3) ∷ moved first_element ∷ made element ∷ [])
+    (Term.Return) ≡ (U2, 0, 2) ∷ []
 a_store_by_an_index_with_an_element_gone = refl
 
 a_store_by_an_index : in_block (make_array (var 3) ∷ made element ∷ []) (Term.Return) ≡ []
 a_store_by_an_index = refl
 
-a_drop_by_an_index_with_an_element_gone : in_block (make_array (var 3) ∷ moved first_element ∷ []) (Term.DropAt element 0 Unwind.Resume) ≡ (U2, 0, 2) ∷ []
+a_drop_by_an_index_with_an_element_gone : in_block (make_array (var 3) ∷ moved first_element ∷ [])
+    (Term.DropAt element 0 Unwind.Resume) ≡ (U2, 0, 2) ∷ []
 a_drop_by_an_index_with_an_element_gone = refl
 
 a_drop_by_an_index : in_block (make_array (var 3) ∷ []) (Term.DropAt element 0 Unwind.Resume) ≡ []
 a_drop_by_an_index = refl
 
-a_move_behind_a_reference_counts_for_no_place : in_block (Stmt.Borrow (var 7) false left ∷ moved behind ∷ moved behind ∷ []) (Term.Return) ≡ []
+a_move_behind_a_reference_counts_for_no_place : in_block (Stmt.Borrow (var 7) false left ∷ moved behind ∷
+    moved behind ∷ []) (Term.Return) ≡ []
 a_move_behind_a_reference_counts_for_no_place = refl
 
-behind_a_reference_that_is_gone : in_block (moved (var 7) ∷ copied behind ∷ []) (Term.Return) ≡ (U1, 0, 0) ∷ (U1, 0, 1) ∷ []
+behind_a_reference_that_is_gone : in_block (moved (var 7) ∷ copied behind ∷ []) (Term.Return)
+    ≡ (U1, 0, 0) ∷ (U1, 0, 1) ∷ []
 behind_a_reference_that_is_gone = refl
 
-a_freed_box_is_gone : in_block (Stmt.NewBox (var 6) (Operand.Moved left) ∷ Stmt.Free (var 6) ∷ Stmt.Touch (var 6) ∷ []) (Term.Return) ≡ (U1, 0, 2) ∷ []
+a_freed_box_is_gone : in_block (Stmt.NewBox (var 6) (Operand.Moved left) ∷ Stmt.Free (var 6) ∷ Stmt.Touch (var 6) ∷
+    []) (Term.Return) ≡ (U1, 0, 2) ∷ []
 a_freed_box_is_gone = refl
 
 to_free_is_never_bad : in_block (Stmt.Free (var 6) ∷ []) (Term.Return) ≡ []
@@ -139,10 +148,12 @@ to_free_is_never_bad = refl
 -- the result of a call is stored on the way on, and not where it panics; a drop takes on both ways
 
 abbrev calling : List Block
-calling = plain 1 [] (Term.Call (var 2) 1 [] 1 (Unwind.Block 2)) ∷ plain 0 (Stmt.Touch (var 2) ∷ []) Term.Return ∷ block Kind.Cleanup 0 (Stmt.Touch (var 2) ∷ []) Term.Resume ∷ []
+calling = plain 1 [] (Term.Call (var 2) 1 [] 1 (Unwind.Block 2)) ∷ plain 0 (Stmt.Touch (var 2) ∷ []) Term.Return ∷
+    block Kind.Cleanup 0 (Stmt.Touch (var 2) ∷ []) Term.Resume ∷ []
 
 abbrev dropping : List Block
-dropping = plain 1 (made (var 2) ∷ []) (Term.DropAt (var 2) 1 (Unwind.Block 2)) ∷ plain 0 (Stmt.Touch (var 2) ∷ []) Term.Return ∷ block Kind.Cleanup 0 (Stmt.Touch (var 2) ∷ []) Term.Resume ∷ []
+dropping = plain 1 (made (var 2) ∷ []) (Term.DropAt (var 2) 1 (Unwind.Block 2)) ∷
+    plain 0 (Stmt.Touch (var 2) ∷ []) Term.Return ∷ block Kind.Cleanup 0 (Stmt.Touch (var 2) ∷ []) Term.Resume ∷ []
 
 a_result_is_there : on_path (0 ∷ 1 ∷ []) calling ≡ []
 a_result_is_there = refl

@@ -53,11 +53,13 @@ boxed_e_ty = ty_no 12
 
 abbrev items : ItemTable
 items = record {
-  types = Ty.Int IntKind.I32 ∷ Ty.Unit ∷ Ty.Adt 0 ∷ Ty.Unique d_ty ∷ Ty.Adt 1 ∷ Ty.Unique e_ty ∷ Ty.Shared d_ty ∷ Ty.Shared e_ty
+  types = Ty.Int IntKind.I32 ∷ Ty.Unit ∷ Ty.Adt 0 ∷ Ty.Unique d_ty ∷ Ty.Adt 1 ∷ Ty.Unique e_ty ∷ Ty.Shared d_ty ∷
+      Ty.Shared e_ty
       ∷ Ty.Dyn 0 ∷ Ty.Boxed dyn_show_ty ∷ Ty.Shared dyn_show_ty ∷ Ty.Boxed d_ty ∷ Ty.Boxed e_ty ∷ [];
   adts = struct (codes "D") (i32 ∷ []) (Some 0) ∷ struct (codes "E") (i32 ∷ []) (Some 1) ∷ [];
   traits = (record { name = codes "Show"; methods = head (codes "show") (shared_show_ty ∷ []) unit ∷ [] }) ∷ [];
-  impls = (record { trait_no = 0; adt = 0; bodies = 2 ∷ [] }) ∷ (record { trait_no = 0; adt = 1; bodies = 3 ∷ [] }) ∷ [];
+  impls =
+      (record { trait_no = 0; adt = 0; bodies = 2 ∷ [] }) ∷ (record { trait_no = 0; adt = 1; bodies = 3 ∷ [] }) ∷ [];
   closures = [];
   bodies =
       head (codes "D::drop") (unique_d_ty ∷ []) unit
@@ -71,7 +73,8 @@ items = record {
 -- prints its number
 abbrev shows : TyId → Body
 shows self = body 1 (unit ∷ self ∷ [])
-    (block Kind.Plain 0 (Stmt.Print (Operand.Copied (within 1 (Step.Inside ∷ Step.Part 0 ∷ []))) ∷ Stmt.Put (at 0) Operand.Unit ∷ []) Term.Return ∷ [])
+    (block Kind.Plain 0 (Stmt.Print (Operand.Copied (within 1 (Step.Inside ∷ Step.Part 0 ∷ []))) ∷
+    Stmt.Put (at 0) Operand.Unit ∷ []) Term.Return ∷ [])
 
 -- boxes a value of the struct with this number, shows it as a trait object, and drops the box
 abbrev main : ℕ → TyId → TyId → Body
@@ -88,12 +91,15 @@ main number adt boxed = body 0 (unit ∷ adt ∷ boxed ∷ object_ty ∷ shared_
     ∷ block Kind.Cleanup 0 [] Term.Resume ∷ [])
 
 abbrev of : ℕ → TyId → TyId → Graph
-of number adt boxed = record { items = items; bodies = gives_unit unique_d_ty ∷ gives_unit unique_e_ty ∷ shows shared_d_ty ∷ shows shared_e_ty ∷ main number adt boxed ∷ [] }
+of number adt boxed = record { items = items; bodies = gives_unit unique_d_ty ∷ gives_unit unique_e_ty ∷
+    shows shared_d_ty ∷ shows shared_e_ty ∷ main number adt boxed ∷ [] }
 
 by_the_first_impl : graph_run (of 0 d_ty boxed_d_ty) [] 100
-    ≡ (call 4 ∷ make 0 1 ∷ box 2 ∷ call 2 ∷ printed (pos 5) ∷ return 2 ∷ drop 0 1 ∷ return 0 ∷ free 2 ∷ return 4 ∷ [], End.Returned)
+    ≡ (call 4 ∷ make 0 1 ∷ box 2 ∷ call 2 ∷ printed (pos 5) ∷ return 2 ∷ drop 0 1 ∷ return 0 ∷ free 2 ∷ return 4 ∷ [],
+    End.Returned)
 by_the_first_impl = refl
 
 by_the_second_impl : graph_run (of 1 e_ty boxed_e_ty) [] 100
-    ≡ (call 4 ∷ make 1 1 ∷ box 2 ∷ call 3 ∷ printed (pos 5) ∷ return 3 ∷ drop 1 1 ∷ return 1 ∷ free 2 ∷ return 4 ∷ [], End.Returned)
+    ≡ (call 4 ∷ make 1 1 ∷ box 2 ∷ call 3 ∷ printed (pos 5) ∷ return 3 ∷ drop 1 1 ∷ return 1 ∷ free 2 ∷ return 4 ∷ [],
+    End.Returned)
 by_the_second_impl = refl

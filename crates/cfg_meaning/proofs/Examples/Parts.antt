@@ -50,7 +50,8 @@ one = Operand.Number (pos 1) IntKind.I32
 abbrev main : Body
 main = body 0 (unit ∷ d_ty ∷ d_ty ∷ pair_ty ∷ [])
     (block Kind.Plain 1
-    (Stmt.Make (at 1) 0 0 (one ∷ []) ∷ Stmt.Make (at 2) 0 0 (one ∷ []) ∷ Stmt.Tuple (at 3) (Operand.Moved (at 1) ∷ Operand.Moved (at 2) ∷ [])
+    (Stmt.Make (at 1) 0 0 (one ∷ []) ∷ Stmt.Make (at 2) 0 0 (one ∷ []) ∷
+    Stmt.Tuple (at 3) (Operand.Moved (at 1) ∷ Operand.Moved (at 2) ∷ [])
     ∷ Stmt.Put (at 1) (Operand.Moved (within 3 (Step.Part 0 ∷ []))) ∷ [])
     (Term.DropAt (at 3) 1 Unwind.Resume)
     ∷ block Kind.Plain 0 (Stmt.Put (at 0) Operand.Unit ∷ []) Term.Return ∷ [])
@@ -69,10 +70,12 @@ a_strict_drop_is_stuck = refl
 abbrev lost : Body
 lost = body 0 (unit ∷ d_ty ∷ d_ty ∷ unique_i32_ty ∷ [])
     (block Kind.Plain 1
-    (Stmt.Make (at 1) 0 0 (one ∷ []) ∷ Stmt.Borrow (at 3) true (within 1 (Step.Part 0 ∷ [])) ∷ Stmt.Put (at 2) (Operand.Moved (at 1))
+    (Stmt.Make (at 1) 0 0 (one ∷ []) ∷ Stmt.Borrow (at 3) true (within 1 (Step.Part 0 ∷ [])) ∷
+    Stmt.Put (at 2) (Operand.Moved (at 1))
     ∷ Stmt.Print (Operand.Copied (within 3 (Step.Inside ∷ []))) ∷ [])
     (Term.Goto 1)
     ∷ block Kind.Plain 0 (Stmt.Put (at 0) Operand.Unit ∷ []) Term.Return ∷ [])
 
-a_reference_that_has_lost_its_place : raw_graph_run (record { items = items; bodies = drop_d ∷ lost ∷ [] }) [] 100 ≡ (call 1 ∷ make 0 1 ∷ [], End.Stuck 1 0)
+a_reference_that_has_lost_its_place : raw_graph_run (record { items = items; bodies = drop_d ∷ lost ∷ [] }) [] 100
+    ≡ (call 1 ∷ make 0 1 ∷ [], End.Stuck 1 0)
 a_reference_that_has_lost_its_place = refl

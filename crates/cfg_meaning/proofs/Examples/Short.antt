@@ -38,7 +38,8 @@ drop_d = gives_unit unique_d_ty
 
 abbrev main : Body
 main = body 0 (unit ∷ d_ty ∷ [])
-    (block Kind.Plain 1 (Stmt.Make (at 1) 0 0 (Operand.Number (pos 7) IntKind.I32 ∷ []) ∷ []) (Term.DropAt (at 1) 1 Unwind.Resume)
+    (block Kind.Plain 1 (Stmt.Make (at 1) 0 0 (Operand.Number (pos 7) IntKind.I32 ∷ []) ∷ [])
+    (Term.DropAt (at 1) 1 Unwind.Resume)
     ∷ block Kind.Plain 0 (Stmt.Put (at 0) Operand.Unit ∷ []) Term.Return ∷ [])
 
 abbrev short : Graph
@@ -59,7 +60,8 @@ as_a_raw_graph = refl
 -- without the statement that makes the value
 abbrev nothing_made : Body
 nothing_made = body 0 (unit ∷ d_ty ∷ [])
-    (block Kind.Plain 1 [] (Term.DropAt (at 1) 1 Unwind.Resume) ∷ block Kind.Plain 0 (Stmt.Put (at 0) Operand.Unit ∷ []) Term.Return ∷ [])
+    (block Kind.Plain 1 [] (Term.DropAt (at 1) 1 Unwind.Resume) ∷
+    block Kind.Plain 0 (Stmt.Put (at 0) Operand.Unit ∷ []) Term.Return ∷ [])
 
 abbrev unmade : Graph
 unmade = record { items = items; bodies = drop_d ∷ nothing_made ∷ [] }
@@ -74,19 +76,23 @@ a_raw_drop_does_nothing = refl
 abbrev without_result : Body
 without_result = body 0 (unit ∷ []) (block Kind.Plain 0 [] Term.Return ∷ [])
 
-a_result_that_is_gone : graph_run (record { items = items; bodies = drop_d ∷ without_result ∷ [] }) [] 100 ≡ (call 1 ∷ [], End.Stuck 1 0)
+a_result_that_is_gone : graph_run (record { items = items; bodies = drop_d ∷ without_result ∷ [] }) [] 100
+    ≡ (call 1 ∷ [], End.Stuck 1 0)
 a_result_that_is_gone = refl
 
 -- a loop that never ends
 abbrev endless : Body
 endless = body 0 (unit ∷ []) (block Kind.Plain 1 [] (Term.Goto 1) ∷ block Kind.Turn 0 [] (Term.Goto 1) ∷ [])
 
-turns_spend_ticks : graph_run (record { items = items; bodies = drop_d ∷ endless ∷ [] }) [] 1000 ≡ (call 1 ∷ [], End.OutOfTicks)
+turns_spend_ticks : graph_run (record { items = items; bodies = drop_d ∷ endless ∷ [] }) [] 1000
+    ≡ (call 1 ∷ [], End.OutOfTicks)
 turns_spend_ticks = refl
 
 -- a loop whose turn block follows a block of the least rank
 abbrev endless_from_the_least : Body
-endless_from_the_least = body 0 (unit ∷ []) (block Kind.Plain 0 [] (Term.Goto 1) ∷ block Kind.Turn 0 [] (Term.Goto 1) ∷ [])
+endless_from_the_least =
+    body 0 (unit ∷ []) (block Kind.Plain 0 [] (Term.Goto 1) ∷ block Kind.Turn 0 [] (Term.Goto 1) ∷ [])
 
-a_turn_block_needs_no_lower_rank : graph_run (record { items = items; bodies = drop_d ∷ endless_from_the_least ∷ [] }) [] 3 ≡ (call 1 ∷ [], End.OutOfTicks)
+a_turn_block_needs_no_lower_rank : graph_run (record { items = items; bodies = drop_d ∷ endless_from_the_least ∷ [] })
+    [] 3 ≡ (call 1 ∷ [], End.OutOfTicks)
 a_turn_block_needs_no_lower_rank = refl

@@ -42,7 +42,8 @@ items = record {
 -- a negative number panics as it is dropped
 abbrev drop_n : Body
 drop_n = body 1 (unit ∷ unique_n_ty ∷ bool ∷ [])
-    (block Kind.Plain 1 (Stmt.Compare (at 2) Cmp.Lt (Operand.Copied (within 1 (Step.Inside ∷ Step.Part 0 ∷ []))) (Operand.Number (pos 0) IntKind.I32) ∷ [])
+    (block Kind.Plain 1 (Stmt.Compare (at 2) Cmp.Lt (Operand.Copied (within 1 (Step.Inside ∷ Step.Part 0 ∷ [])))
+    (Operand.Number (pos 0) IntKind.I32) ∷ [])
     (Term.If (Operand.Moved (at 2)) 1 2)
     ∷ block Kind.Plain 0 [] (Term.Panic Why.Explicit Unwind.Resume)
     ∷ block Kind.Plain 0 (Stmt.Put (at 0) Operand.Unit ∷ []) Term.Return ∷ [])
@@ -50,7 +51,8 @@ drop_n = body 1 (unit ∷ unique_n_ty ∷ bool ∷ [])
 -- two values, of which the second is dropped first
 abbrev main : Operand → Operand → Body
 main first second = body 0 (unit ∷ n_ty ∷ n_ty ∷ [])
-    (block Kind.Plain 2 (Stmt.Make (at 1) 0 0 (first ∷ []) ∷ Stmt.Make (at 2) 0 0 (second ∷ []) ∷ []) (Term.DropAt (at 2) 1 (Unwind.Block 3))
+    (block Kind.Plain 2 (Stmt.Make (at 1) 0 0 (first ∷ []) ∷ Stmt.Make (at 2) 0 0 (second ∷ []) ∷ [])
+    (Term.DropAt (at 2) 1 (Unwind.Block 3))
     ∷ block Kind.Plain 1 [] (Term.DropAt (at 1) 2 Unwind.Resume)
     ∷ block Kind.Plain 0 (Stmt.Put (at 0) Operand.Unit ∷ []) Term.Return
     ∷ block Kind.Cleanup 1 [] (Term.DropAt (at 1) 4 Unwind.Abort)
@@ -65,17 +67,21 @@ calm = Operand.Number (pos 1) IntKind.I32
 abbrev panics : Operand
 panics = Operand.Number (negsuc 0) IntKind.I32
 
-no_panic : graph_run (of calm calm) [] 100 ≡ (call 1 ∷ make 0 1 ∷ make 0 2 ∷ drop 0 2 ∷ return 0 ∷ drop 0 1 ∷ return 0 ∷ return 1 ∷ [], End.Returned)
+no_panic : graph_run (of calm calm) [] 100
+    ≡ (call 1 ∷ make 0 1 ∷ make 0 2 ∷ drop 0 2 ∷ return 0 ∷ drop 0 1 ∷ return 0 ∷ return 1 ∷ [], End.Returned)
 no_panic = refl
 
 on_the_calm_way : graph_run (of calm panics) [] 100
-    ≡ (call 1 ∷ make 0 1 ∷ make 0 2 ∷ drop 0 2 ∷ panic Why.Explicit ∷ unwind 0 ∷ drop 0 1 ∷ return 0 ∷ unwind 1 ∷ [], End.Panicked)
+    ≡ (call 1 ∷ make 0 1 ∷ make 0 2 ∷ drop 0 2 ∷ panic Why.Explicit ∷ unwind 0 ∷ drop 0 1 ∷ return 0 ∷ unwind 1 ∷ [],
+    End.Panicked)
 on_the_calm_way = refl
 
 the_last_on_the_calm_way : graph_run (of panics calm) [] 100
-    ≡ (call 1 ∷ make 0 1 ∷ make 0 2 ∷ drop 0 2 ∷ return 0 ∷ drop 0 1 ∷ panic Why.Explicit ∷ unwind 0 ∷ unwind 1 ∷ [], End.Panicked)
+    ≡ (call 1 ∷ make 0 1 ∷ make 0 2 ∷ drop 0 2 ∷ return 0 ∷ drop 0 1 ∷ panic Why.Explicit ∷ unwind 0 ∷ unwind 1 ∷ [],
+    End.Panicked)
 the_last_on_the_calm_way = refl
 
 in_a_cleanup_block : graph_run (of panics panics) [] 100
-    ≡ (call 1 ∷ make 0 1 ∷ make 0 2 ∷ drop 0 2 ∷ panic Why.Explicit ∷ unwind 0 ∷ drop 0 1 ∷ panic Why.Explicit ∷ unwind 0 ∷ [], End.Aborted)
+    ≡ (call 1 ∷ make 0 1 ∷ make 0 2 ∷ drop 0 2 ∷ panic Why.Explicit ∷ unwind 0 ∷ drop 0 1 ∷ panic Why.Explicit ∷
+    unwind 0 ∷ [], End.Aborted)
 in_a_cleanup_block = refl

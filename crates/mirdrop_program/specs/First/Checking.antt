@@ -17,7 +17,8 @@ abbrev pub names_of : List FirstItem → List (List ℕ)
 names_of items = map item_name (map the_item items)
 
 abbrev pub item_passes : List FirstItem → Item → Bool
-item_passes items item = nat_le (statements_count (body_of item)) 500 && statements_give (not_a_struct items) (body_of item)
+item_passes items item =
+    nat_le (statements_count (body_of item)) 500 && statements_give (not_a_struct items) (body_of item)
 
 abbrev pub passes : List FirstItem → Bool
 passes items = are_distinct (names_of items) && list_all (λ item. item_passes items (the_item item)) items

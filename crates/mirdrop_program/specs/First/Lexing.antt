@@ -77,7 +77,8 @@ word_token role word = fixed_or (fixed_word word) role word
 
 -- the role of the next name, after the tokens so far
 abbrev pub with_token : Lexed → Token → ℕ → Lexed
-with_token l token place = record { tokens = l.tokens ++ token ∷ []; places = l.places ++ place ∷ []; role = role_after token }
+with_token l token place =
+    record { tokens = l.tokens ++ token ∷ []; places = l.places ++ place ∷ []; role = role_after token }
 
 abbrev pub with_token_if : Lexed → Option Token → ℕ → Option Lexed
 with_token_if l None place = None
@@ -105,7 +106,8 @@ abbrev pub scan : Lexed → List ℕ → ℕ → List ℕ → Option Lexed
 scan l word place [] = closed l word (place - length word)
 scan l word place (b ∷ bs) =
     if is_word_byte b then scan l (word ++ b ∷ []) (place + 1) bs
-    else then_lexed (then_lexed (closed l word (place - length word)) (separated b place)) (λ l. scan l [] (place + 1) bs)
+    else then_lexed (then_lexed (closed l word (place - length word)) (separated b place))
+    (λ l. scan l [] (place + 1) bs)
 
 abbrev pub nothing_lexed : Lexed
 nothing_lexed = record { tokens = []; places = []; role = OfFunction }

@@ -51,9 +51,12 @@ pub data Step : Type 0 where
   Wrong : Step
 
 abbrev pub step_of : List Token → Step
-step_of (Reads Fixed.Let ∷ Gives x ∷ Reads Fixed.Equals ∷ NamesStruct s ∷ Reads Fixed.OpenParenthesis ∷ Counts n ∷ Reads Fixed.CloseParenthesis ∷ Reads Fixed.Semicolon ∷ rest) = Takes (Let x s n) 7
-step_of (NamesFunction f ∷ Reads Fixed.OpenParenthesis ∷ Reads Fixed.CloseParenthesis ∷ Reads Fixed.Semicolon ∷ rest) = Takes (Call f) 3
-step_of (Reads Fixed.Print ∷ Reads Fixed.OpenParenthesis ∷ Counts n ∷ Reads Fixed.CloseParenthesis ∷ Reads Fixed.Semicolon ∷ rest) = Takes (Print n) 4
+step_of (Reads Fixed.Let ∷ Gives x ∷ Reads Fixed.Equals ∷ NamesStruct s ∷ Reads Fixed.OpenParenthesis ∷ Counts n ∷
+    Reads Fixed.CloseParenthesis ∷ Reads Fixed.Semicolon ∷ rest) = Takes (Let x s n) 7
+step_of (NamesFunction f ∷ Reads Fixed.OpenParenthesis ∷ Reads Fixed.CloseParenthesis ∷ Reads Fixed.Semicolon ∷
+    rest) = Takes (Call f) 3
+step_of (Reads Fixed.Print ∷ Reads Fixed.OpenParenthesis ∷ Counts n ∷ Reads Fixed.CloseParenthesis ∷
+    Reads Fixed.Semicolon ∷ rest) = Takes (Print n) 4
 step_of (Reads Fixed.OpenBrace ∷ rest) = Opens
 step_of (Reads Fixed.CloseBrace ∷ rest) = Closes
 step_of _ = Wrong
@@ -66,7 +69,8 @@ step_size ReadStep.Close = 1
 step_size ReadStep.Wrong = 0
 
 abbrev pub IsStep : ReadStep → Step → Type 0
-IsStep (ReadStep.Take statement size) step = (others : ℕ) × (size ≡ suc others) × (step ≡ Takes (the_statement statement) others)
+IsStep (ReadStep.Take statement size) step =
+    (others : ℕ) × (size ≡ suc others) × (step ≡ Takes (the_statement statement) others)
 IsStep ReadStep.Open step = step ≡ Opens
 IsStep ReadStep.Close step = step ≡ Closes
 IsStep ReadStep.Wrong step = step ≡ Wrong
@@ -126,12 +130,16 @@ pub data Head : Type 0 where
   NoHead : Head
 
 abbrev pub head_of : List Token → Head
-head_of (Reads Fixed.Fn ∷ Gives f ∷ Reads Fixed.OpenParenthesis ∷ Reads Fixed.CloseParenthesis ∷ Reads Fixed.OpenBrace ∷ rest) = FunctionHead f
-head_of (Reads Fixed.Struct ∷ Gives s ∷ Reads Fixed.OpenParenthesis ∷ Reads Fixed.I32 ∷ Reads Fixed.CloseParenthesis ∷ Reads Fixed.Semicolon ∷ rest) = StructHead s
+head_of (Reads Fixed.Fn ∷ Gives f ∷ Reads Fixed.OpenParenthesis ∷ Reads Fixed.CloseParenthesis ∷
+    Reads Fixed.OpenBrace ∷ rest) = FunctionHead f
+head_of (Reads Fixed.Struct ∷ Gives s ∷ Reads Fixed.OpenParenthesis ∷ Reads Fixed.I32 ∷ Reads Fixed.CloseParenthesis ∷
+    Reads Fixed.Semicolon ∷ rest) = StructHead s
 head_of _ = NoHead
 
 abbrev pub drop_head_of : List Token → Option (List ℕ)
-drop_head_of (Reads Fixed.Impl ∷ Reads Fixed.DropTrait ∷ Reads Fixed.For ∷ Gives s ∷ Reads Fixed.OpenBrace ∷ Reads Fixed.Fn ∷ Reads Fixed.DropMethod ∷ Reads Fixed.OpenParenthesis ∷ Reads Fixed.Ampersand ∷ Reads Fixed.Mut ∷ Reads Fixed.SelfWord ∷ Reads Fixed.CloseParenthesis ∷ Reads Fixed.OpenBrace ∷ rest) = Some s
+drop_head_of (Reads Fixed.Impl ∷ Reads Fixed.DropTrait ∷ Reads Fixed.For ∷ Gives s ∷ Reads Fixed.OpenBrace ∷
+    Reads Fixed.Fn ∷ Reads Fixed.DropMethod ∷ Reads Fixed.OpenParenthesis ∷ Reads Fixed.Ampersand ∷ Reads Fixed.Mut ∷
+    Reads Fixed.SelfWord ∷ Reads Fixed.CloseParenthesis ∷ Reads Fixed.OpenBrace ∷ rest) = Some s
 drop_head_of _ = None
 
 abbrev pub ItemAnd : Type 0
@@ -155,7 +163,8 @@ dropping_after name (Some read) = closed_by_brace (Dropping name read.0) read.1
 
 abbrev pub drop_or_plain : List ℕ → List Token → Option (List ℕ) → ItemAnd
 drop_or_plain name rest None = Some (Plain name, rest)
-drop_or_plain name rest (Some dropped) = if same_name dropped name then dropping_after name (body_of 0 (drop 13 rest) [] []) else None
+drop_or_plain name rest (Some dropped) =
+    if same_name dropped name then dropping_after name (body_of 0 (drop 13 rest) [] []) else None
 
 abbrev pub struct_after : List ℕ → List Token → ItemAnd
 struct_after name rest = drop_or_plain name rest (drop_head_of rest)

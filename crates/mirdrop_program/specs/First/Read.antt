@@ -15,4 +15,5 @@ pub record IsRead (text : List ℕ) (r : Reading) : Type 0 where
 -- a text spells at most one program, at one list of places
 abbrev pub OneProgramAText : Type 0
 OneProgramAText =
-    (text : List ℕ) (p q : Program) (places others : List ℕ) → Spells text p places → Spells text q others → (p ≡ q) × (places ≡ others)
+    (text : List ℕ) (p q : Program) (places others : List ℕ) → Spells text p places → Spells text q others →
+    (p ≡ q) × (places ≡ others)

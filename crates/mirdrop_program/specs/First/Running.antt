@@ -20,7 +20,8 @@ pub data Task : Type 0 where
 -- all tasks are done, one after the other
 abbrev pub finish : Program → List Task → World → Outcome
 finish p [] w = Goes w
-finish p (Statements left scope ∷ tasks) w = and_then (leave p (enters p) (run_statements p (enters p) left scope w)) (finish p tasks)
+finish p (Statements left scope ∷ tasks) w =
+    and_then (leave p (enters p) (run_statements p (enters p) left scope w)) (finish p tasks)
 finish p (Drops scope ∷ tasks) w = and_then (drop_entries p (enters p) scope w) (finish p tasks)
 finish p (Ends body ∷ tasks) w = finish p tasks (telling (Event.Return body) w)
 
@@ -81,7 +82,8 @@ pub record Leaves (whole : Outcome) (before after : Machine) (went : Bool) : Typ
 abbrev pub HasEntered : Event → ℕ → Machine → Machine → Bool → Type 0
 HasEntered event item before after went =
     Leaves
-    (and_then (enters (program_of before) event item (at_item done body_of (slice_get (program_of before) item)) (the_world before.world)) (finish (program_of before) (tasks_of before.tasks)))
+    (and_then (enters (program_of before) event item (at_item done body_of (slice_get (program_of before) item))
+    (the_world before.world)) (finish (program_of before) (tasks_of before.tasks)))
     before after went
 
 -- what is left to do after a part of a run
@@ -90,27 +92,35 @@ rest_of m = finish (program_of m) (tasks_of m.tasks)
 
 abbrev pub HasCalled : List ℕ → Machine → Machine → Bool → Type 0
 HasCalled name before after went =
-    Leaves (and_then (call (program_of before) (enters (program_of before)) (position (is_function name) (program_of before)) (the_world before.world)) (rest_of before)) before after went
+    Leaves (and_then (call (program_of before) (enters (program_of before))
+    (position (is_function name) (program_of before)) (the_world before.world)) (rest_of before)) before after went
 
 abbrev pub HasDropped : Entry → Machine → Machine → Bool → Type 0
 HasDropped entry before after went =
-    Leaves (and_then (drop_value (program_of before) (enters (program_of before)) entry (the_world before.world)) (rest_of before)) before after went
+    Leaves (and_then (drop_value (program_of before) (enters (program_of before)) entry (the_world before.world))
+    (rest_of before)) before after went
 
 -- a serial number was drawn and told
 pub record HasDrawn (adt : ℕ) (before after : Machine) (serial : ℕ) : Type 0 where
   pub drawn : serial ≡ before.world.serial
   pub tasks : tasks_of after.tasks ≡ tasks_of before.tasks
-  pub world : the_world after.world ≡ telling (Event.Make adt serial) (with_serial (suc serial) (the_world before.world))
+  pub world : the_world after.world ≡ telling (Event.Make adt serial)
+      (with_serial (suc serial) (the_world before.world))
   pub items : after.items.now ≡ before.items.now
 
 -- a value of a struct was made, as the youngest entry of a scope
-pub record HasMadeOf (adt : ℕ) (before : Machine) (scope : List Entry) (after : Machine) (after_scope : List Entry) : Type 0 where
-  pub made : made (program_of before) (enters (program_of before)) (at_item false has_drop_body (slice_get (program_of before) adt)) adt scope (the_world before.world) ≡ Within after_scope (the_world after.world)
+pub record HasMadeOf (adt : ℕ) (before : Machine) (scope : List Entry) (after : Machine) (after_scope : List Entry) :
+    Type 0 where
+  pub made : made (program_of before) (enters (program_of before))
+      (at_item false has_drop_body (slice_get (program_of before) adt)) adt scope (the_world before.world)
+      ≡ Within after_scope (the_world after.world)
   pub tasks : tasks_of after.tasks ≡ tasks_of before.tasks
   pub items : after.items.now ≡ before.items.now
 
-pub record HasMade (name : List ℕ) (before : Machine) (scope : List Entry) (after : Machine) (after_scope : List Entry) : Type 0 where
-  pub made : make (program_of before) (enters (program_of before)) (position (is_struct name) (program_of before)) scope (the_world before.world) ≡ Within after_scope (the_world after.world)
+pub record HasMade (name : List ℕ) (before : Machine) (scope : List Entry) (after : Machine)
+    (after_scope : List Entry) : Type 0 where
+  pub made : make (program_of before) (enters (program_of before)) (position (is_struct name) (program_of before))
+      scope (the_world before.world) ≡ Within after_scope (the_world after.world)
   pub tasks : tasks_of after.tasks ≡ tasks_of before.tasks
   pub items : after.items.now ≡ before.items.now
 
@@ -127,7 +137,8 @@ abbrev pub HasRunLet : List ℕ → Block → List Entry → Machine → Machine
 HasRunLet made left scope before after went =
     let p = program_of before in
     let value = make p (enters p) (position (is_struct made) p) scope (the_world before.world) in
-    Leaves (and_then (leave p (enters p) (in_scope value (run_statements p (enters p) left))) (rest_of before)) before after went
+    Leaves (and_then (leave p (enters p) (in_scope value (run_statements p (enters p) left))) (rest_of before)) before
+    after went
 
 abbrev pub HasLeftScope : List Entry → Machine → Machine → Bool → Type 0
 HasLeftScope scope = HasPerformed (Drops scope)

@@ -41,8 +41,10 @@ makes = body 3 [] d_ty (n 0 d_ty (Block no_node (present (d 1 (pos 7)))))
 abbrev main_element : BodyTree
 main_element = body 4 [] unit
     (n 0 unit (Block (nodes (
-    (let_ 1 (used 2 array_d_2_ty Use.Move a_name) (n 3 array_d_2_ty (Array (nodes ((d 4 (pos 5)) ∷ (d 6 (pos 6)) ∷ [])))))
-    ∷ (stmt 8 (n 9 unit (Assign (used 10 d_ty Use.Store (Index (n 11 array_d_2_ty (Variable 2)) (n 12 usize (Call 2 no_node)) 2)) (n 13 d_ty (Call 3 no_node)))))
+    (let_ 1 (used 2 array_d_2_ty Use.Move a_name)
+    (n 3 array_d_2_ty (Array (nodes ((d 4 (pos 5)) ∷ (d 6 (pos 6)) ∷ [])))))
+    ∷ (stmt 8 (n 9 unit (Assign (used 10 d_ty Use.Store
+    (Index (n 11 array_d_2_ty (Variable 2)) (n 12 usize (Call 2 no_node)) 2)) (n 13 d_ty (Call 3 no_node)))))
     ∷ [])) absent))
 
 abbrev element : ProgramTree

@@ -38,7 +38,8 @@ items = with_d (record {
 abbrev main_part : BodyTree
 main_part = body 2 [] unit
     (n 0 unit (Block (nodes (
-    (let_ 1 (used 2 boxed_tuple_d_d_ty Use.Move a_name) (n 3 boxed_tuple_d_d_ty (NewBox (n 4 tuple_d_d_ty (Tuple (nodes ((d 5 (pos 1)) ∷ (d 7 (pos 2)) ∷ [])))))))
+    (let_ 1 (used 2 boxed_tuple_d_d_ty Use.Move a_name)
+    (n 3 boxed_tuple_d_d_ty (NewBox (n 4 tuple_d_d_ty (Tuple (nodes ((d 5 (pos 1)) ∷ (d 7 (pos 2)) ∷ [])))))))
     ∷ (stmt 9 (n 10 unit (Call 1 (nodes (
     (used 11 d_ty Use.Move (Field (n 12 tuple_d_d_ty (Deref (n 13 boxed_tuple_d_d_ty (Variable 2)))) 0))
     ∷ [])))))
@@ -59,12 +60,14 @@ a_box_is_freed_without_a_moved_part = refl
 abbrev main_forget : BodyTree
 main_forget = body 2 [] unit
     (n 0 unit (Block (nodes (
-    (stmt 1 (n 2 unit (Forget (n 3 tuple_d_boxed_d_ty (Tuple (nodes ((d 4 (pos 1)) ∷ (n 6 boxed_d_ty (NewBox (d 7 (pos 2)))) ∷ [])))))))
+    (stmt 1 (n 2 unit (Forget (n 3 tuple_d_boxed_d_ty
+    (Tuple (nodes ((d 4 (pos 1)) ∷ (n 6 boxed_d_ty (NewBox (d 7 (pos 2)))) ∷ [])))))))
     ∷ [])) absent))
 
 abbrev forgotten : ProgramTree
 forgotten = record { items = items; bodies = drop_d ∷ take ∷ main_forget ∷ [] }
 
 forget_tells_of_each_part : source forgotten [] 100
-    ≡ (call 2 ∷ make 0 1 ∷ make 0 2 ∷ box 3 ∷ forgot_made 0 1 ∷ forgot_made 0 2 ∷ forgot_box 3 ∷ return 2 ∷ [], End.Returned)
+    ≡ (call 2 ∷ make 0 1 ∷ make 0 2 ∷ box 3 ∷ forgot_made 0 1 ∷ forgot_made 0 2 ∷ forgot_box 3 ∷ return 2 ∷ [],
+    End.Returned)
 forget_tells_of_each_part = refl

@@ -31,8 +31,11 @@ main_called = body 2 [] unit
     (n 0 unit (Block (nodes (
     (let_ 1 (used 2 d_ty Use.Move a_name) (d 3 (pos 1)))
     ∷ (let_ 5 (used 6 d_ty Use.Move a_name) (d 7 (pos 2)))
-    ∷ (let_ 9 (used 10 closure_ty Use.Move a_name) (n 11 closure_ty (Closure 0 (nodes ((used 12 d_ty Use.Move (Variable 6)) ∷ (used 13 d_ty Use.Move (Variable 2)) ∷ [])))))
-    ∷ (stmt 14 (n 15 unit (ClosureCall 3 (used 16 closure_ty Use.Move (Variable 10)) (nodes ((n 17 i32 (Number (pos 4))) ∷ [])))))
+    ∷ (let_ 9 (used 10 closure_ty Use.Move a_name)
+    (n 11 closure_ty (Closure 0 (nodes ((used 12 d_ty Use.Move (Variable 6)) ∷
+    (used 13 d_ty Use.Move (Variable 2)) ∷ [])))))
+    ∷ (stmt 14 (n 15 unit (ClosureCall 3 (used 16 closure_ty Use.Move (Variable 10))
+    (nodes ((n 17 i32 (Number (pos 4))) ∷ [])))))
     ∷ [])) absent))
 
 -- the same without c(4);
@@ -41,11 +44,14 @@ main_dropped = body 2 [] unit
     (n 0 unit (Block (nodes (
     (let_ 1 (used 2 d_ty Use.Move a_name) (d 3 (pos 1)))
     ∷ (let_ 5 (used 6 d_ty Use.Move a_name) (d 7 (pos 2)))
-    ∷ (let_ 9 (used 10 closure_ty Use.Move a_name) (n 11 closure_ty (Closure 0 (nodes ((used 12 d_ty Use.Move (Variable 6)) ∷ (used 13 d_ty Use.Move (Variable 2)) ∷ [])))))
+    ∷ (let_ 9 (used 10 closure_ty Use.Move a_name)
+    (n 11 closure_ty (Closure 0 (nodes ((used 12 d_ty Use.Move (Variable 6)) ∷
+    (used 13 d_ty Use.Move (Variable 2)) ∷ [])))))
     ∷ [])) absent))
 
 abbrev closure_1 : BodyTree
-closure_1 = body 3 (param (used 0 closure_ty Use.Move a_name) closure_ty ∷ param (used 1 i32 Use.Copy a_name) i32 ∷ []) unit
+closure_1 =
+    body 3 (param (used 0 closure_ty Use.Move a_name) closure_ty ∷ param (used 1 i32 Use.Copy a_name) i32 ∷ []) unit
     (n 2 unit (Block (nodes (
     (stmt 3 (n 4 unit (Print (used 5 i32 Use.Copy (Variable 1)))))
     ∷ (stmt 6 (n 7 unit (Call 1 (nodes ((used 8 d_ty Use.Move (Captured 0 1 (codes "x"))) ∷ [])))))

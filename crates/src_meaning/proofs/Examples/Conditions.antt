@@ -25,7 +25,10 @@ items = with_d (record {
 -- fn main() { let x = D(1); if ask() == 0 { take(x); } }
 abbrev pub main_if : BodyTree
 main_if = body 2 [] unit
-    (n 0 unit (Block (nodes ((let_ 1 (used 2 d_ty Use.Move a_name) (d 3 (pos 1))) ∷ [])) (present (n 5 unit (If (n 6 bool (Comparison Cmp.Eq (n 7 i32 Ask) (n 8 i32 (Number (pos 0))))) (n 9 unit (Block (nodes ((stmt 10 (n 11 unit (Call 1 (nodes ((used 12 d_ty Use.Move (Variable 2)) ∷ []))))) ∷ [])) absent)) absent)))))
+    (n 0 unit (Block (nodes ((let_ 1 (used 2 d_ty Use.Move a_name) (d 3 (pos 1))) ∷ []))
+    (present (n 5 unit (If (n 6 bool (Comparison Cmp.Eq (n 7 i32 Ask) (n 8 i32 (Number (pos 0)))))
+    (n 9 unit (Block (nodes ((stmt 10 (n 11 unit (Call 1 (nodes ((used 12 d_ty Use.Move (Variable 2)) ∷ []))))) ∷
+    [])) absent)) absent)))))
 
 abbrev moved_if : ProgramTree
 moved_if = record { items = items; bodies = drop_d ∷ take ∷ main_if ∷ [] }

@@ -38,7 +38,8 @@ nested =
     ∷ []
 
 from_the_inside_out : trace_of (run_of nested 8)
-    ≡ call 3 ∷ make 1 1 ∷ call 2 ∷ make 1 2 ∷ drop 1 2 ∷ printed (pos 7) ∷ make 0 3 ∷ drop 0 3 ∷ return 0 ∷ return 1 ∷ return 2
+    ≡ call 3 ∷ make 1 1 ∷ call 2 ∷ make 1 2 ∷ drop 1 2 ∷ printed (pos 7) ∷ make 0 3 ∷ drop 0 3 ∷ return 0 ∷ return 1 ∷
+    return 2
     ∷ make 1 4 ∷ drop 1 4 ∷ printed (pos 7) ∷ make 0 5 ∷ drop 0 5 ∷ return 0 ∷ return 1 ∷ printed (pos 2)
     ∷ drop 1 1 ∷ printed (pos 7) ∷ make 0 6 ∷ drop 0 6 ∷ return 0 ∷ return 1 ∷ return 3 ∷ []
 from_the_inside_out = refl

@@ -53,7 +53,10 @@ reaches_none_within body (suc k) = reaches_none body (lists_of (suc k)) && reach
 -- fn main() { let x = D(1); loop { take(x); } }
 abbrev main_loop : BodyTree
 main_loop = body 2 [] unit
-    (n 0 never (Block (nodes ((let_ 1 (used 2 d_ty Use.Move a_name) (d 3 (pos 1))) ∷ [])) (present (n 5 never (Loop (n 6 unit (Block (nodes ((stmt 7 (n 8 unit (Call 1 (nodes ((used 9 d_ty Use.Move (Variable 2)) ∷ []))))) ∷ [])) absent)))))))
+    (n 0 never (Block (nodes ((let_ 1 (used 2 d_ty Use.Move a_name) (d 3 (pos 1))) ∷ []))
+    (present (n 5 never (Loop (n 6 unit
+    (Block (nodes ((stmt 7 (n 8 unit (Call 1 (nodes ((used 9 d_ty Use.Move (Variable 2)) ∷ []))))) ∷ []))
+    absent)))))))
 
 the_second_turn_moves_again : node_of (reached_by items main_loop (false ∷ false ∷ false ∷ [])) ≡ Some 9
 the_second_turn_moves_again = refl
@@ -65,7 +68,8 @@ no_shorter_list = refl
 abbrev main_part : BodyTree
 main_part = body 2 [] unit
     (n 0 unit (Block (nodes (
-    (let_ 1 (used 2 tuple_d_d_ty Use.Move a_name) (n 3 tuple_d_d_ty (Tuple (nodes ((d 4 (pos 1)) ∷ (d 6 (pos 2)) ∷ [])))))
+    (let_ 1 (used 2 tuple_d_d_ty Use.Move a_name)
+    (n 3 tuple_d_d_ty (Tuple (nodes ((d 4 (pos 1)) ∷ (d 6 (pos 2)) ∷ [])))))
     ∷ (let_ 8 (used 9 tuple_d_d_ty Use.Move a_name) (used 10 tuple_d_d_ty Use.Move (Variable 2)))
     ∷ (stmt 11 (n 12 unit (Assign (used 13 d_ty Use.Store (Field (n 14 tuple_d_d_ty (Variable 2)) 0)) (d 15 (pos 3)))))
     ∷ [])) absent))
@@ -80,10 +84,12 @@ no_longer_list i rest = refl
 abbrev main_scrutinee : BodyTree
 main_scrutinee = body 2 [] unit
     (n 0 unit (Block (nodes (
-    (let_ 1 (used 2 tuple_d_d_ty Use.Move a_name) (n 3 tuple_d_d_ty (Tuple (nodes ((d 4 (pos 1)) ∷ (d 6 (pos 2)) ∷ [])))))
+    (let_ 1 (used 2 tuple_d_d_ty Use.Move a_name)
+    (n 3 tuple_d_d_ty (Tuple (nodes ((d 4 (pos 1)) ∷ (d 6 (pos 2)) ∷ [])))))
     ∷ (stmt 8 (n 9 unit (Call 1 (nodes ((used 10 d_ty Use.Move (Field (n 11 tuple_d_d_ty (Variable 2)) 0)) ∷ [])))))
     ∷ [])) (present (n 12 unit (Match (used 13 tuple_d_d_ty Use.Borrow (Variable 2)) (nodes (
-    (n 14 unit (Arm (n 15 tuple_d_d_ty (TuplePattern (nodes ((n 16 d_ty Wildcard) ∷ (n 17 d_ty Wildcard) ∷ [])))) absent (n 18 unit (Block no_node absent))))
+    (n 14 unit (Arm (n 15 tuple_d_d_ty (TuplePattern (nodes ((n 16 d_ty Wildcard) ∷ (n 17 d_ty Wildcard) ∷ []))))
+    absent (n 18 unit (Block no_node absent))))
     ∷ [])))))))
 
 a_scrutinee_is_borrowed_whole : node_of (reached_by items main_scrutinee (false ∷ [])) ≡ Some 13
@@ -93,9 +99,11 @@ a_scrutinee_is_borrowed_whole = refl
 abbrev main_let : BodyTree
 main_let = body 2 [] unit
     (n 0 unit (Block (nodes (
-    (let_ 1 (used 2 tuple_d_d_ty Use.Move a_name) (n 3 tuple_d_d_ty (Tuple (nodes ((d 4 (pos 1)) ∷ (d 6 (pos 2)) ∷ [])))))
+    (let_ 1 (used 2 tuple_d_d_ty Use.Move a_name)
+    (n 3 tuple_d_d_ty (Tuple (nodes ((d 4 (pos 1)) ∷ (d 6 (pos 2)) ∷ [])))))
     ∷ (stmt 8 (n 9 unit (Call 1 (nodes ((used 10 d_ty Use.Move (Field (n 11 tuple_d_d_ty (Variable 2)) 0)) ∷ [])))))
-    ∷ (let_ 12 (n 13 tuple_d_d_ty (TuplePattern (nodes ((n 14 d_ty Wildcard) ∷ (used 15 d_ty Use.Move a_name) ∷ [])))) (n 16 tuple_d_d_ty (Variable 2)))
+    ∷ (let_ 12 (n 13 tuple_d_d_ty (TuplePattern (nodes ((n 14 d_ty Wildcard) ∷ (used 15 d_ty Use.Move a_name) ∷ []))))
+    (n 16 tuple_d_d_ty (Variable 2)))
     ∷ [])) absent))
 
 a_let_uses_only_what_it_takes : reaches_none_within main_let 5 ≡ true
@@ -160,8 +168,10 @@ of_three one two three P a b c (suc (suc (suc n))) body h = absurd (cc)
 
 moved_on_one_way_is_accepted : IsAccepted moved_if
 moved_on_one_way_is_accepted n body list h =
-    of_three drop_d take main_if (λ b. (l : List Bool) → reached_by items b l ≡ None) none_in_drop_d none_in_take none_in_main_if n body h list
+    of_three drop_d take main_if (λ b. (l : List Bool) → reached_by items b l
+    ≡ None) none_in_drop_d none_in_take none_in_main_if n body h list
 
 assigned_again_is_accepted : IsAccepted again
 assigned_again_is_accepted n body list h =
-    of_three drop_d take main_again (λ b. (l : List Bool) → reached_by items b l ≡ None) none_in_drop_d none_in_take none_in_main_again n body h list
+    of_three drop_d take main_again (λ b. (l : List Bool) → reached_by items b l
+    ≡ None) none_in_drop_d none_in_take none_in_main_again n body h list

@@ -30,14 +30,22 @@ items = with_d (record {
 abbrev main_break : BodyTree
 main_break = body 2 [] unit
     (n 0 unit (Block (nodes (
-    (let_ 1 (used 2 i32 Use.Copy a_name) (n 3 i32 (Loop (n 4 never (Block (nodes ((let_ 5 (used 6 d_ty Use.Move a_name) (d 7 (pos 1))) ∷ [])) (present (n 9 never (Loop (n 10 never (Block (nodes ((stmt 11 (n 12 never (Break 3 (present (n 13 i32 (Number (pos 7))))))) ∷ [])) absent))))))))))
+    (let_ 1 (used 2 i32 Use.Copy a_name)
+    (n 3 i32 (Loop (n 4 never (Block (nodes ((let_ 5 (used 6 d_ty Use.Move a_name) (d 7 (pos 1))) ∷ []))
+    (present (n 9 never (Loop (n 10 never
+    (Block (nodes ((stmt 11 (n 12 never (Break 3 (present (n 13 i32 (Number (pos 7))))))) ∷ [])) absent))))))))))
     ∷ (stmt 14 (n 15 unit (Print (used 16 i32 Use.Copy (Variable 2)))))
     ∷ [])) absent))
 
 -- fn j(r: &D) -> J { if ask() == 0 { J::One(r.0) } else { J::None } }
 abbrev j : BodyTree
 j = body 3 (param (used 0 shared_d_ty Use.Copy a_name) shared_d_ty ∷ []) j_ty
-    (n 1 j_ty (Block no_node (present (n 2 j_ty (If (n 3 bool (Comparison Cmp.Eq (n 4 i32 Ask) (n 5 i32 (Number (pos 0))))) (n 6 j_ty (Block no_node (present (n 7 j_ty (Make 1 1 (fields ((0, (used 8 i32 Use.Copy (Field (n 9 d_ty (Deref (n 10 shared_d_ty (Variable 0)))) 0))) ∷ []))))))) (present (n 11 j_ty (Block no_node (present (n 12 j_ty (Make 1 0 no_field)))))))))))
+    (n 1 j_ty (Block no_node (present (n 2 j_ty
+    (If (n 3 bool (Comparison Cmp.Eq (n 4 i32 Ask) (n 5 i32 (Number (pos 0)))))
+    (n 6 j_ty (Block no_node (present
+    (n 7 j_ty (Make 1 1 (fields
+    ((0, (used 8 i32 Use.Copy (Field (n 9 d_ty (Deref (n 10 shared_d_ty (Variable 0)))) 0))) ∷ [])))))))
+    (present (n 11 j_ty (Block no_node (present (n 12 j_ty (Make 1 0 no_field)))))))))))
 
 abbrev breaking : ProgramTree
 breaking = record { items = items; bodies = drop_d ∷ take ∷ main_break ∷ j ∷ [] }
@@ -53,7 +61,10 @@ in_no_less_than_four_ticks = refl
 -- fn main() { while let J::One(b) = j(&D(7)) { print(b); } }
 abbrev main_while_let : BodyTree
 main_while_let = body 2 [] unit
-    (n 0 unit (Block no_node (present (n 1 unit (WhileLet (used 2 j_ty Use.Test (VariantPattern 1 true (fields ((0, (used 3 i32 Use.Copy a_name)) ∷ [])))) (n 4 j_ty (Call 3 (nodes ((n 5 shared_d_ty (Borrow false (d 6 (pos 7)))) ∷ [])))) (n 8 unit (Block (nodes ((stmt 9 (n 10 unit (Print (used 11 i32 Use.Copy (Variable 3))))) ∷ [])) absent)))))))
+    (n 0 unit (Block no_node (present (n 1 unit
+    (WhileLet (used 2 j_ty Use.Test (VariantPattern 1 true (fields ((0, (used 3 i32 Use.Copy a_name)) ∷ []))))
+    (n 4 j_ty (Call 3 (nodes ((n 5 shared_d_ty (Borrow false (d 6 (pos 7)))) ∷ []))))
+    (n 8 unit (Block (nodes ((stmt 9 (n 10 unit (Print (used 11 i32 Use.Copy (Variable 3))))) ∷ [])) absent)))))))
 
 abbrev while_let : ProgramTree
 while_let = record { items = items; bodies = drop_d ∷ take ∷ main_while_let ∷ j ∷ [] }
@@ -69,7 +80,10 @@ temporaries_live_to_the_end_of_the_turn = refl
 -- fn main() { while ask() == 0 { let x = D(1); continue; } }
 abbrev main_continue : BodyTree
 main_continue = body 2 [] unit
-    (n 0 unit (Block no_node (present (n 1 unit (While (n 2 bool (Comparison Cmp.Eq (n 3 i32 Ask) (n 4 i32 (Number (pos 0))))) (n 5 never (Block (nodes ((let_ 6 (used 7 d_ty Use.Move a_name) (d 8 (pos 1))) ∷ (stmt 10 (n 11 never (Continue 1))) ∷ [])) absent)))))))
+    (n 0 unit (Block no_node (present (n 1 unit
+    (While (n 2 bool (Comparison Cmp.Eq (n 3 i32 Ask) (n 4 i32 (Number (pos 0)))))
+    (n 5 never (Block (nodes ((let_ 6 (used 7 d_ty Use.Move a_name) (d 8 (pos 1))) ∷
+    (stmt 10 (n 11 never (Continue 1))) ∷ [])) absent)))))))
 
 abbrev continuing : ProgramTree
 continuing = record { items = items; bodies = drop_d ∷ take ∷ main_continue ∷ j ∷ [] }

@@ -26,7 +26,9 @@ items = with_d (record {
   traits = [];
   impls = [];
   closures = [];
-  bodies = head (codes "a") [] d_ty ∷ head (codes "t") [] d_ty ∷ head (codes "g") (shared_d_ty ∷ []) d_ty ∷ head (codes "f") (d_ty ∷ d_ty ∷ d_ty ∷ []) unit ∷ head (codes "main") [] unit ∷ head (codes "f2") (d_ty ∷ i32 ∷ i32 ∷ []) unit ∷ head (codes "g2") (shared_d_ty ∷ []) i32 ∷ [];
+  bodies = head (codes "a") [] d_ty ∷ head (codes "t") [] d_ty ∷ head (codes "g") (shared_d_ty ∷ []) d_ty ∷
+      head (codes "f") (d_ty ∷ d_ty ∷ d_ty ∷ []) unit ∷ head (codes "main") [] unit ∷
+      head (codes "f2") (d_ty ∷ i32 ∷ i32 ∷ []) unit ∷ head (codes "g2") (shared_d_ty ∷ []) i32 ∷ [];
 })
 
 abbrev a : BodyTree
@@ -40,12 +42,14 @@ g = body 4 (param (used 0 shared_d_ty Use.Copy a_name) shared_d_ty ∷ []) d_ty
     (n 1 d_ty (Block no_node (present (d 2 (pos 3)))))
 
 abbrev f : BodyTree
-f = body 5 (param (used 0 d_ty Use.Move a_name) d_ty ∷ param (used 1 d_ty Use.Move a_name) d_ty ∷ param (used 2 d_ty Use.Move a_name) d_ty ∷ []) unit
+f = body 5 (param (used 0 d_ty Use.Move a_name) d_ty ∷ param (used 1 d_ty Use.Move a_name) d_ty ∷
+    param (used 2 d_ty Use.Move a_name) d_ty ∷ []) unit
     (n 3 unit (Block no_node absent))
 
 -- fn f2(x: D, n: i32, k: i32) {}
 abbrev f2 : BodyTree
-f2 = body 7 (param (used 0 d_ty Use.Move a_name) d_ty ∷ param (used 1 i32 Use.Copy a_name) i32 ∷ param (used 2 i32 Use.Copy a_name) i32 ∷ []) unit
+f2 = body 7 (param (used 0 d_ty Use.Move a_name) d_ty ∷ param (used 1 i32 Use.Copy a_name) i32 ∷
+    param (used 2 i32 Use.Copy a_name) i32 ∷ []) unit
     (n 3 unit (Block no_node absent))
 
 -- fn g2(r: &D) -> i32 { 0 }

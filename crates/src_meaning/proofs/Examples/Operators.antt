@@ -35,9 +35,11 @@ items = with_d (record {
 abbrev main_index : BodyTree
 main_index = body 2 [] unit
     (n 0 unit (Block (nodes (
-    (let_ 1 (used 2 array_d_2_ty Use.Move a_name) (n 3 array_d_2_ty (Array (nodes ((d 4 (pos 5)) ∷ (d 6 (pos 6)) ∷ [])))))
+    (let_ 1 (used 2 array_d_2_ty Use.Move a_name)
+    (n 3 array_d_2_ty (Array (nodes ((d 4 (pos 5)) ∷ (d 6 (pos 6)) ∷ [])))))
     ∷ (let_ 8 (used 9 usize Use.Copy a_name) (n 10 usize (Number (pos 2))))
-    ∷ (stmt 11 (n 12 unit (Print (used 13 i32 Use.Copy (Field (n 14 d_ty (Index (n 15 array_d_2_ty (Variable 2)) (used 16 usize Use.Copy (Variable 9)) 2)) 0)))))
+    ∷ (stmt 11 (n 12 unit (Print (used 13 i32 Use.Copy
+    (Field (n 14 d_ty (Index (n 15 array_d_2_ty (Variable 2)) (used 16 usize Use.Copy (Variable 9)) 2)) 0)))))
     ∷ [])) absent))
 
 abbrev past_the_end : ProgramTree
@@ -55,9 +57,11 @@ an_index_past_the_end = refl
 abbrev main_element : BodyTree
 main_element = body 2 [] unit
     (n 0 unit (Block (nodes (
-    (let_ 1 (used 2 array_d_2_ty Use.Move a_name) (n 3 array_d_2_ty (Array (nodes ((d 4 (pos 5)) ∷ (d 6 (pos 6)) ∷ [])))))
+    (let_ 1 (used 2 array_d_2_ty Use.Move a_name)
+    (n 3 array_d_2_ty (Array (nodes ((d 4 (pos 5)) ∷ (d 6 (pos 6)) ∷ [])))))
     ∷ (let_ 8 (used 9 usize Use.Copy a_name) (n 10 usize (Number (pos 1))))
-    ∷ (stmt 11 (n 12 unit (Print (used 13 i32 Use.Copy (Field (n 14 d_ty (Index (n 15 array_d_2_ty (Variable 2)) (used 16 usize Use.Copy (Variable 9)) 2)) 0)))))
+    ∷ (stmt 11 (n 12 unit (Print (used 13 i32 Use.Copy
+    (Field (n 14 d_ty (Index (n 15 array_d_2_ty (Variable 2)) (used 16 usize Use.Copy (Variable 9)) 2)) 0)))))
     ∷ [])) absent))
 
 abbrev within : ProgramTree

@@ -34,14 +34,16 @@ h = body 1 (param (used 0 n_ty Use.Move a_name) n_ty ∷ []) n_ty (n 1 n_ty (Blo
 abbrev main_struct : BodyTree
 main_struct = body 2 [] unit
     (n 0 unit (Block (nodes (
-    (let_ 1 (used 2 s_ty Use.Move a_name) (n 3 s_ty (Make 1 0 (fields ((0, (nn 4 (negsuc 0))) ∷ (1, (nn 6 (pos 2))) ∷ (2, (nn 8 (pos 3))) ∷ [])))))
+    (let_ 1 (used 2 s_ty Use.Move a_name)
+    (n 3 s_ty (Make 1 0 (fields ((0, (nn 4 (negsuc 0))) ∷ (1, (nn 6 (pos 2))) ∷ (2, (nn 8 (pos 3))) ∷ [])))))
     ∷ [])) absent))
 
 -- fn main() { let s = S { a: N(-1), b: N(-2), c: N(3) }; }
 abbrev main_twice : BodyTree
 main_twice = body 2 [] unit
     (n 0 unit (Block (nodes (
-    (let_ 1 (used 2 s_ty Use.Move a_name) (n 3 s_ty (Make 1 0 (fields ((0, (nn 4 (negsuc 0))) ∷ (1, (nn 6 (negsuc 1))) ∷ (2, (nn 8 (pos 3))) ∷ [])))))
+    (let_ 1 (used 2 s_ty Use.Move a_name)
+    (n 3 s_ty (Make 1 0 (fields ((0, (nn 4 (negsuc 0))) ∷ (1, (nn 6 (negsuc 1))) ∷ (2, (nn 8 (pos 3))) ∷ [])))))
     ∷ [])) absent))
 
 abbrev struct_ : ProgramTree
@@ -87,7 +89,8 @@ the_new_value_is_stored_all_the_same = refl
 
 -- fn main() { h(N(-1)); }
 abbrev main_result : BodyTree
-main_result = body 2 [] unit (n 0 unit (Block (nodes ((stmt 1 (n 2 n_ty (Call 1 (nodes ((nn 3 (negsuc 0)) ∷ []))))) ∷ [])) absent))
+main_result = body 2 [] unit (n 0 unit
+    (Block (nodes ((stmt 1 (n 2 n_ty (Call 1 (nodes ((nn 3 (negsuc 0)) ∷ []))))) ∷ [])) absent))
 
 abbrev result : ProgramTree
 result = record { items = items; bodies = drop_n ∷ h ∷ main_result ∷ [] }
@@ -104,7 +107,9 @@ a_result_is_dropped_after_the_parameters = refl
 abbrev main_pending : BodyTree
 main_pending = body 2 [] unit
     (n 0 unit (Block (nodes (
-    (let_ 1 (used 2 n_ty Use.Move a_name) (n 3 n_ty (Block (nodes ((let_ 4 (used 5 n_ty Use.Move a_name) (nn 6 (negsuc 0))) ∷ [])) (present (nn 8 (pos 7))))))
+    (let_ 1 (used 2 n_ty Use.Move a_name)
+    (n 3 n_ty (Block (nodes ((let_ 4 (used 5 n_ty Use.Move a_name) (nn 6 (negsuc 0))) ∷ []))
+    (present (nn 8 (pos 7))))))
     ∷ [])) absent))
 
 abbrev pending : ProgramTree

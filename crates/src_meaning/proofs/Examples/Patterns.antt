@@ -29,12 +29,15 @@ items = with_d (record {
   traits = [];
   impls = [];
   closures = [];
-  bodies = head (codes "p") (tuple_d_d_ty ∷ tuple_d_d_ty ∷ []) unit ∷ head (codes "pair") [] tuple_d_d_ty ∷ head (codes "main") [] unit ∷ [];
+  bodies = head (codes "p") (tuple_d_d_ty ∷ tuple_d_d_ty ∷ []) unit ∷ head (codes "pair") [] tuple_d_d_ty ∷
+      head (codes "main") [] unit ∷ [];
 })
 
 -- fn p((x, _): (D, D), (_, y): (D, D)) {}
 abbrev p : BodyTree
-p = body 2 (param (n 0 tuple_d_d_ty (TuplePattern (nodes ((used 1 d_ty Use.Move a_name) ∷ (n 2 d_ty Wildcard) ∷ [])))) tuple_d_d_ty ∷ param (n 3 tuple_d_d_ty (TuplePattern (nodes ((n 4 d_ty Wildcard) ∷ (used 5 d_ty Use.Move a_name) ∷ [])))) tuple_d_d_ty ∷ []) unit
+p = body 2 (param (n 0 tuple_d_d_ty (TuplePattern (nodes ((used 1 d_ty Use.Move a_name) ∷ (n 2 d_ty Wildcard) ∷ []))))
+    tuple_d_d_ty ∷ param (n 3 tuple_d_d_ty
+    (TuplePattern (nodes ((n 4 d_ty Wildcard) ∷ (used 5 d_ty Use.Move a_name) ∷ [])))) tuple_d_d_ty ∷ []) unit
     (n 6 unit (Block no_node absent))
 
 abbrev pair : BodyTree
@@ -66,7 +69,8 @@ names_of_parameters_are_entries_after_their_parameter = refl
 abbrev main_let : BodyTree
 main_let = body 4 [] unit
     (n 0 unit (Block (nodes (
-    (let_ 1 (n 2 tuple_d_d_ty (TuplePattern (nodes ((used 3 d_ty Use.Move a_name) ∷ (n 4 d_ty Wildcard) ∷ [])))) (n 5 tuple_d_d_ty (Call 3 no_node)))
+    (let_ 1 (n 2 tuple_d_d_ty (TuplePattern (nodes ((used 3 d_ty Use.Move a_name) ∷ (n 4 d_ty Wildcard) ∷ []))))
+    (n 5 tuple_d_d_ty (Call 3 no_node)))
     ∷ (stmt 6 (n 7 unit (Print (n 8 i32 (Number (pos 7))))))
     ∷ [])) absent))
 
@@ -85,11 +89,18 @@ what_a_let_does_not_take_is_dropped_with_the_statement = refl
 abbrev main_match : BodyTree
 main_match = body 4 [] unit
     (n 0 unit (Block (nodes (
-    (let_ 1 (used 2 j_ty Use.Move a_name) (n 3 j_ty (Make 1 1 (fields ((0, (d 4 (pos 1))) ∷ (1, (n 6 i32 (Number (pos 4)))) ∷ [])))))
+    (let_ 1 (used 2 j_ty Use.Move a_name)
+    (n 3 j_ty (Make 1 1 (fields ((0, (d 4 (pos 1))) ∷ (1, (n 6 i32 (Number (pos 4)))) ∷ [])))))
     ∷ [])) (present (n 7 unit (Match (used 8 j_ty Use.Borrow (Variable 2)) (nodes (
-    (n 9 unit (Arm (used 10 j_ty Use.Test (VariantPattern 1 true (fields ((0, (used 11 d_ty Use.Move a_name)) ∷ (1, (used 12 i32 Use.Copy a_name)) ∷ [])))) (present (n 13 bool (Comparison Cmp.Eq (used 14 i32 Use.Copy (Variable 12)) (n 15 i32 Ask)))) (n 16 unit (Call 1 (nodes ((used 17 d_ty Use.Move (Variable 11)) ∷ []))))))
-    ∷ (n 18 unit (Arm (used 19 j_ty Use.Test (VariantPattern 1 true (fields ((0, (n 20 d_ty Wildcard)) ∷ (1, (used 21 i32 Use.Copy a_name)) ∷ [])))) absent (n 22 unit (Print (used 23 i32 Use.Copy (Variable 21))))))
-    ∷ (n 24 unit (Arm (used 25 j_ty Use.Test (VariantPattern 0 true no_field)) absent (n 26 unit (Block no_node absent))))
+    (n 9 unit (Arm (used 10 j_ty Use.Test
+    (VariantPattern 1 true (fields ((0, (used 11 d_ty Use.Move a_name)) ∷ (1, (used 12 i32 Use.Copy a_name)) ∷
+    [])))) (present (n 13 bool (Comparison Cmp.Eq (used 14 i32 Use.Copy (Variable 12)) (n 15 i32 Ask))))
+    (n 16 unit (Call 1 (nodes ((used 17 d_ty Use.Move (Variable 11)) ∷ []))))))
+    ∷ (n 18 unit (Arm (used 19 j_ty Use.Test
+    (VariantPattern 1 true (fields ((0, (n 20 d_ty Wildcard)) ∷ (1, (used 21 i32 Use.Copy a_name)) ∷ [])))) absent
+    (n 22 unit (Print (used 23 i32 Use.Copy (Variable 21))))))
+    ∷ (n 24 unit (Arm (used 25 j_ty Use.Test (VariantPattern 0 true no_field)) absent
+    (n 26 unit (Block no_node absent))))
     ∷ [])))))))
 
 abbrev match_ : ProgramTree
@@ -106,11 +117,16 @@ the_guard_fails = refl
 -- fn main() { match (1, 2) { (1, _) | (_, 2) if ask() == 0 => print(1), _ => print(2) } }
 abbrev main_or : BodyTree
 main_or = body 4 [] unit
-    (n 0 unit (Block no_node (present (n 1 unit (Match (n 2 tuple_i32_i32_ty (Tuple (nodes ((n 3 i32 (Number (pos 1))) ∷ (n 4 i32 (Number (pos 2))) ∷ [])))) (nodes (
+    (n 0 unit (Block no_node (present (n 1 unit
+    (Match (n 2 tuple_i32_i32_ty (Tuple (nodes ((n 3 i32 (Number (pos 1))) ∷ (n 4 i32 (Number (pos 2))) ∷ []))))
+    (nodes (
     (n 5 unit (Arm (n 6 tuple_i32_i32_ty (OrPattern (nodes (
-    (n 7 tuple_i32_i32_ty (TuplePattern (nodes ((used 8 i32 Use.Test (NumberPattern (pos 1))) ∷ (n 9 i32 Wildcard) ∷ []))))
-    ∷ (n 10 tuple_i32_i32_ty (TuplePattern (nodes ((n 11 i32 Wildcard) ∷ (used 12 i32 Use.Test (NumberPattern (pos 2))) ∷ []))))
-    ∷ [])))) (present (n 13 bool (Comparison Cmp.Eq (n 14 i32 Ask) (n 15 i32 (Number (pos 0)))))) (n 16 unit (Print (n 17 i32 (Number (pos 1)))))))
+    (n 7 tuple_i32_i32_ty (TuplePattern
+    (nodes ((used 8 i32 Use.Test (NumberPattern (pos 1))) ∷ (n 9 i32 Wildcard) ∷ []))))
+    ∷ (n 10 tuple_i32_i32_ty (TuplePattern
+    (nodes ((n 11 i32 Wildcard) ∷ (used 12 i32 Use.Test (NumberPattern (pos 2))) ∷ []))))
+    ∷ [])))) (present (n 13 bool (Comparison Cmp.Eq (n 14 i32 Ask) (n 15 i32 (Number (pos 0))))))
+    (n 16 unit (Print (n 17 i32 (Number (pos 1)))))))
     ∷ (n 18 unit (Arm (n 19 tuple_i32_i32_ty Wildcard) absent (n 20 unit (Print (n 21 i32 (Number (pos 2)))))))
     ∷ [])))))))
 

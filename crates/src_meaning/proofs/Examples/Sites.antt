@@ -47,13 +47,15 @@ abbrev nothing_known : AbstractState
 nothing_known = record { cells = []; choices = [] }
 
 abbrev scopes_after : Node → Scopes → Scopes
-scopes_after one S = scopes_of ((meaning items (abstract_effects items (λ local. None)) 1 one).evaluate around false (Into 0) S nothing_known)
+scopes_after one S = scopes_of ((meaning items (abstract_effects items (λ local. None)) 1 one).evaluate around false
+    (Into 0) S nothing_known)
   where
     scopes_of : Run AbstractState → Scopes
     scopes_of (At exit S w) = S
     scopes_of (Over halt w) = []
 
 -- let x = 1; in the block 0
-a_number_is_an_entry : scopes_after (let_ 1 (used 2 i32 Use.Copy a_name) (n 3 i32 (Number (pos 1)))) (with_scope 0 false [])
+a_number_is_an_entry : scopes_after (let_ 1 (used 2 i32 Use.Copy a_name) (n 3 i32 (Number (pos 1))))
+    (with_scope 0 false [])
     ≡ (record { node = 0; for_temporaries = false; entries = (record { key = 2; ty = i32 }) ∷ []; pending = [] }) ∷ []
 a_number_is_an_entry = refl

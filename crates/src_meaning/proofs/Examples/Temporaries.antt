@@ -23,7 +23,8 @@ items = with_d (record {
   traits = [];
   impls = [];
   closures = [];
-  bodies = head (codes "g") (shared_d_ty ∷ []) i32 ∷ head (codes "h") [] i32 ∷ head (codes "main") [] unit ∷ head (codes "j") (shared_d_ty ∷ []) j_ty ∷ [];
+  bodies = head (codes "g") (shared_d_ty ∷ []) i32 ∷ head (codes "h") [] i32 ∷ head (codes "main") [] unit ∷
+      head (codes "j") (shared_d_ty ∷ []) j_ty ∷ [];
 })
 
 abbrev g : BodyTree
@@ -33,7 +34,8 @@ g = body 2 (param (used 0 shared_d_ty Use.Copy a_name) shared_d_ty ∷ []) i32
 -- fn h() -> i32 { let x = D(1); g(&D(2)) }
 abbrev h : BodyTree
 h = body 3 [] i32
-    (n 0 i32 (Block (nodes ((let_ 1 (used 2 d_ty Use.Move a_name) (d 3 (pos 1))) ∷ [])) (present (n 5 i32 (Call 2 (nodes ((n 6 shared_d_ty (Borrow false (d 7 (pos 2)))) ∷ [])))))))
+    (n 0 i32 (Block (nodes ((let_ 1 (used 2 d_ty Use.Move a_name) (d 3 (pos 1))) ∷ []))
+    (present (n 5 i32 (Call 2 (nodes ((n 6 shared_d_ty (Borrow false (d 7 (pos 2)))) ∷ [])))))))
 
 abbrev main_h : BodyTree
 main_h = body 4 [] unit (n 0 unit (Block (nodes ((stmt 1 (n 2 unit (Print (n 3 i32 (Call 3 no_node))))) ∷ [])) absent))
@@ -57,7 +59,12 @@ of_a_tail_before_the_locals = refl
 -- fn main() { if let J::One(b) = j(&D(1)) { print(1); } else { print(2); } }
 abbrev main_if_let : BodyTree
 main_if_let = body 4 [] unit
-    (n 0 unit (Block no_node (present (n 1 unit (IfLet (used 2 j_ty Use.Test (VariantPattern 1 true (fields ((0, (used 3 i32 Use.Copy a_name)) ∷ [])))) (n 4 j_ty (Call 5 (nodes ((n 5 shared_d_ty (Borrow false (d 6 (pos 1)))) ∷ [])))) (n 8 unit (Block (nodes ((stmt 9 (n 10 unit (Print (n 11 i32 (Number (pos 1)))))) ∷ [])) absent)) (present (n 12 unit (Block (nodes ((stmt 13 (n 14 unit (Print (n 15 i32 (Number (pos 2)))))) ∷ [])) absent))))))))
+    (n 0 unit (Block no_node (present (n 1 unit
+    (IfLet (used 2 j_ty Use.Test (VariantPattern 1 true (fields ((0, (used 3 i32 Use.Copy a_name)) ∷ []))))
+    (n 4 j_ty (Call 5 (nodes ((n 5 shared_d_ty (Borrow false (d 6 (pos 1)))) ∷ []))))
+    (n 8 unit (Block (nodes ((stmt 9 (n 10 unit (Print (n 11 i32 (Number (pos 1)))))) ∷ [])) absent))
+    (present (n 12 unit (Block (nodes ((stmt 13 (n 14 unit (Print (n 15 i32 (Number (pos 2)))))) ∷ []))
+    absent))))))))
 
 abbrev if_let : ProgramTree
 if_let = record { items = items; bodies = drop_d ∷ take ∷ g ∷ h ∷ main_if_let ∷ j ∷ [] }
@@ -69,7 +76,10 @@ of_if_let_before_the_else_block = refl
 -- fn main() { if g(&D(1)) == 5 { print(1); } }
 abbrev main_if : BodyTree
 main_if = body 4 [] unit
-    (n 0 unit (Block no_node (present (n 1 unit (If (n 2 bool (Comparison Cmp.Eq (n 3 i32 (Call 2 (nodes ((n 4 shared_d_ty (Borrow false (d 5 (pos 1)))) ∷ [])))) (n 7 i32 (Number (pos 5))))) (n 8 unit (Block (nodes ((stmt 9 (n 10 unit (Print (n 11 i32 (Number (pos 1)))))) ∷ [])) absent)) absent)))))
+    (n 0 unit (Block no_node (present (n 1 unit
+    (If (n 2 bool (Comparison Cmp.Eq (n 3 i32
+    (Call 2 (nodes ((n 4 shared_d_ty (Borrow false (d 5 (pos 1)))) ∷ [])))) (n 7 i32 (Number (pos 5)))))
+    (n 8 unit (Block (nodes ((stmt 9 (n 10 unit (Print (n 11 i32 (Number (pos 1)))))) ∷ [])) absent)) absent)))))
 
 abbrev if_ : ProgramTree
 if_ = record { items = items; bodies = drop_d ∷ take ∷ g ∷ h ∷ main_if ∷ j ∷ [] }
@@ -83,7 +93,8 @@ abbrev main_match : BodyTree
 main_match = body 4 [] unit
     (n 0 unit (Block (nodes (
     (stmt 1 (n 2 unit (Match (n 3 i32 (Call 2 (nodes ((n 4 shared_d_ty (Borrow false (d 5 (pos 1)))) ∷ [])))) (nodes (
-    (n 7 unit (Arm (used 8 i32 Use.Test (NumberPattern (pos 5))) absent (n 9 unit (Block (nodes ((stmt 10 (n 11 unit (Print (n 12 i32 (Number (pos 1)))))) ∷ [])) absent))))
+    (n 7 unit (Arm (used 8 i32 Use.Test (NumberPattern (pos 5))) absent
+    (n 9 unit (Block (nodes ((stmt 10 (n 11 unit (Print (n 12 i32 (Number (pos 1)))))) ∷ [])) absent))))
     ∷ (n 13 unit (Arm (n 14 i32 Wildcard) absent (n 15 unit (Block no_node absent))))
     ∷ [])))))
     ∷ [])) absent))

@@ -40,12 +40,16 @@ boxed_e_ty = ty_no 14
 
 abbrev items : ItemTable
 items = with_d (record {
-  types = Ty.Adt 1 ∷ Ty.Unique e_ty ∷ Ty.Shared e_ty ∷ Ty.Dyn 0 ∷ Ty.Boxed dyn_show_ty ∷ Ty.Shared dyn_show_ty ∷ Ty.Boxed d_ty ∷ Ty.Boxed e_ty ∷ [];
+  types = Ty.Adt 1 ∷ Ty.Unique e_ty ∷ Ty.Shared e_ty ∷ Ty.Dyn 0 ∷ Ty.Boxed dyn_show_ty ∷ Ty.Shared dyn_show_ty ∷
+      Ty.Boxed d_ty ∷ Ty.Boxed e_ty ∷ [];
   adts = struct (codes "E") (i32 ∷ []) (Some 2) ∷ [];
   traits = (record { name = codes "Show"; methods = head (codes "show") (shared_dyn_show_ty ∷ []) unit ∷ [] }) ∷ [];
-  impls = (record { trait_no = 0; adt = 0; bodies = 3 ∷ [] }) ∷ (record { trait_no = 0; adt = 1; bodies = 4 ∷ [] }) ∷ [];
+  impls =
+      (record { trait_no = 0; adt = 0; bodies = 3 ∷ [] }) ∷ (record { trait_no = 0; adt = 1; bodies = 4 ∷ [] }) ∷ [];
   closures = [];
-  bodies = head (codes "E::drop") (unique_e_ty ∷ []) unit ∷ head (codes "D::show") (shared_d_ty ∷ []) unit ∷ head (codes "E::show") (shared_e_ty ∷ []) unit ∷ head (codes "pick") [] boxed_dyn_show_ty ∷ head (codes "run") (boxed_dyn_show_ty ∷ []) unit ∷ head (codes "main") [] unit ∷ [];
+  bodies = head (codes "E::drop") (unique_e_ty ∷ []) unit ∷ head (codes "D::show") (shared_d_ty ∷ []) unit ∷
+      head (codes "E::show") (shared_e_ty ∷ []) unit ∷ head (codes "pick") [] boxed_dyn_show_ty ∷
+      head (codes "run") (boxed_dyn_show_ty ∷ []) unit ∷ head (codes "main") [] unit ∷ [];
 })
 
 abbrev drop_e : BodyTree
@@ -66,20 +70,28 @@ show_e = body 4 (param (used 0 shared_e_ty Use.Copy a_name) shared_e_ty ∷ []) 
 -- fn pick() -> Box<dyn Show> { if ask() == 0 { Box::new(D(1)) } else { Box::new(E(2)) } }
 abbrev pick : BodyTree
 pick = body 5 [] boxed_dyn_show_ty
-    (n 0 boxed_dyn_show_ty (Block no_node (present (n 1 boxed_dyn_show_ty (If (n 2 bool (Comparison Cmp.Eq (n 3 i32 Ask) (n 4 i32 (Number (pos 0))))) (n 5 boxed_dyn_show_ty (Block no_node (present (n 6 boxed_dyn_show_ty (Unsize 0 (n 7 boxed_d_ty (NewBox (d 8 (pos 1))))))))) (present (n 10 boxed_dyn_show_ty (Block no_node (present (n 11 boxed_dyn_show_ty (Unsize 0 (n 12 boxed_e_ty (NewBox (n 13 e_ty (Make 1 0 (fields ((0, (n 14 i32 (Number (pos 2)))) ∷ [])))))))))))))))))
+    (n 0 boxed_dyn_show_ty (Block no_node
+    (present (n 1 boxed_dyn_show_ty (If (n 2 bool (Comparison Cmp.Eq (n 3 i32 Ask) (n 4 i32 (Number (pos 0)))))
+    (n 5 boxed_dyn_show_ty (Block no_node
+    (present (n 6 boxed_dyn_show_ty (Unsize 0 (n 7 boxed_d_ty (NewBox (d 8 (pos 1)))))))))
+    (present (n 10 boxed_dyn_show_ty (Block no_node
+    (present (n 11 boxed_dyn_show_ty (Unsize 0
+    (n 12 boxed_e_ty (NewBox (n 13 e_ty (Make 1 0 (fields ((0, (n 14 i32 (Number (pos 2)))) ∷ [])))))))))))))))))
 
 -- fn run(b: Box<dyn Show>) { b.show(); panic!(); }
 abbrev run : BodyTree
 run = body 6 (param (used 0 boxed_dyn_show_ty Use.Move a_name) boxed_dyn_show_ty ∷ []) unit
     (n 1 never (Block (nodes (
-    (stmt 2 (n 3 unit (VirtualCall 0 0 (n 4 shared_dyn_show_ty (Borrow false (used 5 dyn_show_ty Use.Borrow (Deref (n 6 boxed_dyn_show_ty (Variable 0)))))) no_node)))
+    (stmt 2 (n 3 unit (VirtualCall 0 0 (n 4 shared_dyn_show_ty
+    (Borrow false (used 5 dyn_show_ty Use.Borrow (Deref (n 6 boxed_dyn_show_ty (Variable 0)))))) no_node)))
     ∷ (stmt 7 (n 8 never Panic))
     ∷ [])) absent))
 
 -- fn main() { run(pick()); }
 abbrev main_ : BodyTree
 main_ = body 7 [] unit
-    (n 0 unit (Block (nodes ((stmt 1 (n 2 unit (Call 6 (nodes ((n 3 boxed_dyn_show_ty (Call 5 no_node)) ∷ []))))) ∷ [])) absent))
+    (n 0 unit (Block (nodes ((stmt 1 (n 2 unit (Call 6 (nodes ((n 3 boxed_dyn_show_ty (Call 5 no_node)) ∷ []))))) ∷
+    [])) absent))
 
 abbrev shown : ProgramTree
 shown = record { items = items; bodies = drop_d ∷ take ∷ drop_e ∷ show_d ∷ show_e ∷ pick ∷ run ∷ main_ ∷ [] }

@@ -35,7 +35,8 @@ items = with_n (record {
 -- fn main() { let b = Box::new(N(-1)); }
 abbrev main_box : BodyTree
 main_box = body 1 [] unit
-    (n 0 unit (Block (nodes ((let_ 1 (used 2 boxed_n_ty Use.Move a_name) (n 3 boxed_n_ty (NewBox (nn 4 (negsuc 0))))) ∷ [])) absent))
+    (n 0 unit (Block (nodes ((let_ 1 (used 2 boxed_n_ty Use.Move a_name)
+    (n 3 boxed_n_ty (NewBox (nn 4 (negsuc 0))))) ∷ [])) absent))
 
 abbrev boxed : ProgramTree
 boxed = record { items = items; bodies = drop_n ∷ main_box ∷ [] }
@@ -48,7 +49,9 @@ a_box_is_freed_after_its_content_panicked = refl
 abbrev main_let : BodyTree
 main_let = body 1 [] unit
     (n 0 unit (Block (nodes (
-    (let_ 1 (n 2 tuple_n_n_ty (TuplePattern (nodes ((used 3 n_ty Use.Move a_name) ∷ (n 4 n_ty Wildcard) ∷ [])))) (n 5 tuple_n_n_ty (Block (nodes ((let_ 6 (used 7 n_ty Use.Move a_name) (nn 8 (negsuc 0))) ∷ [])) (present (n 10 tuple_n_n_ty (Tuple (nodes ((nn 11 (pos 2)) ∷ (nn 13 (pos 3)) ∷ []))))))))
+    (let_ 1 (n 2 tuple_n_n_ty (TuplePattern (nodes ((used 3 n_ty Use.Move a_name) ∷ (n 4 n_ty Wildcard) ∷ []))))
+    (n 5 tuple_n_n_ty (Block (nodes ((let_ 6 (used 7 n_ty Use.Move a_name) (nn 8 (negsuc 0))) ∷ []))
+    (present (n 10 tuple_n_n_ty (Tuple (nodes ((nn 11 (pos 2)) ∷ (nn 13 (pos 3)) ∷ []))))))))
     ∷ [])) absent))
 
 abbrev of_let : ProgramTree

@@ -31,6 +31,7 @@ nn id number = n id n_ty (Make 0 0 (fields ((0, n (id + 1) i32 (Number number)) 
 abbrev pub drop_n : BodyTree
 drop_n = body 0 (param (used 0 unique_n_ty Use.Copy a_name) unique_n_ty ∷ []) unit
     (n 1 unit (Block no_node (present (n 2 unit (If
-    (n 3 bool (Comparison Cmp.Lt (used 4 i32 Use.Copy (Field (n 5 n_ty (Deref (n 6 unique_n_ty (Variable 0)))) 0)) (n 7 i32 (Number (pos 0)))))
+    (n 3 bool (Comparison Cmp.Lt (used 4 i32 Use.Copy (Field (n 5 n_ty (Deref (n 6 unique_n_ty (Variable 0)))) 0))
+    (n 7 i32 (Number (pos 0)))))
     (n 8 never (Block no_node (present (n 9 never Panic))))
     absent)))))

@@ -27,7 +27,8 @@ abbrev setting : Setting
 setting = record {
   items = record no_items {
     types = Ty.Adt 0 ∷ Ty.Tuple (d_ty ∷ d_ty ∷ []) ∷ Ty.Boxed d_ty ∷ [];
-    adts = (record { name = codes "D"; is_enum = false; variants = (record { name = codes "D"; fields = []; field_names = [] }) ∷ []; copy = false; drop_body = Some 0 }) ∷ [];
+    adts = (record { name = codes "D"; is_enum = false; variants =
+        (record { name = codes "D"; fields = []; field_names = [] }) ∷ []; copy = false; drop_body = Some 0 }) ∷ [];
   };
   local_ty = λ body local. Some (ty_of_local local);
   strict = false;
@@ -42,11 +43,13 @@ end_of_body (suc (suc (suc (suc zero)))) w = Returns Gone (stored_at (root_addre
 end_of_body serial w = Returns Gone w
 
 abbrev bodies : Bodies
-bodies (Event.Dropped adt serial) body args w = end_of_body serial (record (with_event (Event.Dropped adt serial) w) { ticks = pred w.ticks })
+bodies (Event.Dropped adt serial) body args w =
+    end_of_body serial (record (with_event (Event.Dropped adt serial) w) { ticks = pred w.ticks })
 bodies event body args w = Returns Gone w
 
 abbrev holding : ℕ → Datum → State
-holding local value = record { asked = []; ticks = 5; serial = 9; activations = (record { body = 0; cells = (local, value) ∷ [] }) ∷ []; trace = [] }
+holding local value = record { asked = []; ticks = 5; serial = 9; activations =
+    (record { body = 0; cells = (local, value) ∷ [] }) ∷ []; trace = [] }
 
 -- how a drop ends, what it tells, and what stands in its place then
 pub data Outcome : Type 0 where
@@ -64,7 +67,8 @@ outcome local (Unwind w) = Panics w.trace (value_in local w.activations)
 outcome local (Halts halt w) = Ends halt w.trace
 
 abbrev dropped : Mode → ℕ → Datum → Outcome
-dropped mode local value = outcome local (drops setting bodies 6 mode (record { node = 0; place = whole_local local }) (holding local value))
+dropped mode local value =
+    outcome local (drops setting bodies 6 mode (record { node = 0; place = whole_local local }) (holding local value))
 
 abbrev pair : Datum → Datum → Datum
 pair one other = Aggregate 0 None (a_part one (a_part other no_part))

@@ -58,7 +58,8 @@ abbrev acted : Bool → Watched → Presence → Presence
 acted takes w p = elim w.reach [ Whole ↦ after_action takes w.steps p | ThroughReference ↦ p | ByElement ↦ p ]
 
 -- one item: 0, 1, or none is left
-abbrev pub next_choice : List Bool → AbstractState → (AbstractState → Out AbstractState) → (AbstractState → Out AbstractState) → Out AbstractState
+abbrev pub next_choice : List Bool → AbstractState → (AbstractState → Out AbstractState) →
+    (AbstractState → Out AbstractState) → Out AbstractState
 next_choice [] w zero_does one_does = Halts NoChoice w
 next_choice (false ∷ rest) w zero_does one_does = zero_does (record w { choices = rest })
 next_choice (true ∷ rest) w zero_does one_does = one_does (record w { choices = rest })
@@ -157,7 +158,8 @@ module _ (table : ItemTable) (local_ty : ℕ → Option TyId) where
 
   -- what needs dropping takes an item, whether it is gone or not; it is gone then, also after a panic
   abbrev pub dropped : Bool → Mode → Site → AbstractState → Out AbstractState
-  dropped true mode site w = next_choice w.choices w (λ w. Go (after true site w)) (λ w. unwound mode (after true site w))
+  dropped true mode site w =
+      next_choice w.choices w (λ w. Go (after true site w)) (λ w. unwound mode (after true site w))
   dropped false mode site w = Go (after true site w)
 
   abbrev pub drop : Mode → Site → AbstractState → Out AbstractState

@@ -148,7 +148,8 @@ module _ (setting : Setting) where
 
   abbrev pub evaluate_operand : Operand → State → Option (Datum × State)
   evaluate_operand (effects.Copied site) w = option_map_or (λ s. Some (s.value, w)) (whole_at w site) None
-  evaluate_operand (effects.Moved site) w = option_map_or (λ s. Some (s.value, stored_at s.address Gone w)) (whole_at w site) None
+  evaluate_operand (effects.Moved site) w =
+      option_map_or (λ s. Some (s.value, stored_at s.address Gone w)) (whole_at w site) None
   evaluate_operand (effects.Number value kind) w = Some (Number value, w)
   evaluate_operand (effects.Truth value) w = Some (Truth value, w)
   evaluate_operand effects.UnitValue w = Some (UnitValue, w)
@@ -156,7 +157,8 @@ module _ (setting : Setting) where
   abbrev pub evaluate_operands : List Operand → State → Option (List Datum × State)
   evaluate_operands [] w = Some ([], w)
   evaluate_operands (operand ∷ operands) w =
-      option_and_then (λ one. option_map_or (λ rest. Some (one.0 ∷ rest.0, rest.1)) (evaluate_operands operands one.1) None)
+      option_and_then (λ one. option_map_or (λ rest. Some (one.0 ∷ rest.0, rest.1)) (evaluate_operands operands one.1)
+      None)
       (evaluate_operand operand w)
 
   abbrev pub with_operand : Operand → State → (Datum → State → Out State) → Out State
@@ -304,7 +306,8 @@ module _ (setting : Setting) where
     abbrev pub acted : Action → State → Out State
     acted (effects.Put to from) w = with_operand from w (put to)
     acted (effects.Compare to operator left right) w =
-        with_two_operands left right w (λ a b. put_if to (option_map_or (λ t. Some (Truth t)) (compared operator a b) None))
+        with_two_operands left right w
+        (λ a b. put_if to (option_map_or (λ t. Some (Truth t)) (compared operator a b) None))
     acted (effects.Not to operand) w = with_operand operand w (λ v. put_if to (negated v))
     acted (effects.Build to kind parts) w = with_operands parts w (built to kind)
     acted (effects.NewBox to content) w = with_operand content w (boxed to)
@@ -351,4 +354,5 @@ module _ (setting : Setting) where
         (nothing_if setting.strict w) (Halts Stuck w)
 
     abbrev pub concrete_effects : ℕ → Effects State
-    concrete_effects fuel = record { act = act; choose = choose; drop = drop fuel; panic = panics; tick = tick; give = give }
+    concrete_effects fuel =
+        record { act = act; choose = choose; drop = drop fuel; panic = panics; tick = tick; give = give }

@@ -55,11 +55,13 @@ type_in_box impl_no _ = None
 
 abbrev type_of_field : ItemTable → ℕ → ℕ → Option Ty → Option DynamicType
 type_of_field items variant n None = None
-type_of_field items variant n (Some ty) = option_map_or (λ id. Some (OfType id)) (slice_get (parts_of items ty variant) n) None
+type_of_field items variant n (Some ty) =
+    option_map_or (λ id. Some (OfType id)) (slice_get (parts_of items ty variant) n) None
 
 -- as what a part of a value is found
 abbrev pub type_of_part : ItemTable → At → Datum → DynamicType → Option DynamicType
-type_of_part items (Part n) (Aggregate variant serial parts) dynamic = type_of_field items variant n (concrete_ty items dynamic)
+type_of_part items (Part n) (Aggregate variant serial parts) dynamic =
+    type_of_field items variant n (concrete_ty items dynamic)
 type_of_part items Inside (Box serial impl_no inside) dynamic = type_in_box impl_no (concrete_ty items dynamic)
 type_of_part items step value dynamic = None
 
