@@ -1,4 +1,4 @@
--- The bodies of a graph give no ticks back. So the walk of a graph is one equation, and its runs have no bound.
+-- The bodies of a graph give no ticks back. So the walk of a graph is one equation, and its runs need no fuel.
 use Rattle.std.proofs.Common.{◌≡◌, ℕ, zero, suc, refl, Bool, Option, Some, None, slice_get}
 use Rattle.std.specs.Option.{option_map_or}
 use Rattle.cfg_graph.specs.declared.graph.Body.{Body}

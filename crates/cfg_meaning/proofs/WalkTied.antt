@@ -1,4 +1,4 @@
--- Two records of effects that are the same where at most so much is left give the same walk there, with any two bounds on
+-- Two records of effects that are the same where at most so much is left give the same walk there, with any fuel for
 -- turns that are greater than what is left.
 use Rattle.std.proofs.Common.{◌≡◌, ℕ, zero, suc, ◌<◌, ◌≤◌, List, [], ◌∷◌, length, slice_get, refl, ap, ◌∙◌, arith}
 use Rattle.cfg_graph.specs.declared.graph.Block.{Block}

@@ -257,7 +257,7 @@ module _ {W : Type 0} (size : W → ℕ) (p : Effects W) (laws : Laws p size) (n
   there_same (Some block) n does does' w e = e block
 
   module _ (ranked : IsRanked body) where
-    -- bounds on blocks that are greater than the rank are never met
+    -- fuel for blocks that are greater than the rank are never met
     blocks_same : (turn turn' : Next W) (m : ℕ) → ((d : ℕ) → Same size m (turn d) (turn' d)) → (r r' n : ℕ) →
         ((block : Block) → block_at n ≡ Some block → is_turn block ≡ false → block.rank < r) →
         ((block : Block) → block_at n ≡ Some block → is_turn block ≡ false → block.rank < r') →
@@ -288,7 +288,7 @@ module _ {W : Type 0} (size : W → ℕ) (p : Effects W) (laws : Laws p size) (n
     from_rank_same turn turn' m e n =
         blocks_same turn turn' m e (suc (rank_at p number node body n)) (suc (rank_at p number node body n)) n (by_rank n) (by_rank n)
 
-    -- bounds on turns that are greater than what is left are never met
+    -- fuel for turns that are greater than what is left are never met
     turns_same : (t t' n : ℕ) (w : W) → size w < t → size w < t' → turns p number node body t n w ≡ turns p number node body t' n w
     turns_same zero t' n w l l' = absurd (let never : ⊥ = omega arith in never)
     turns_same (suc t) zero n w l l' = absurd (let never : ⊥ = omega arith in never)

@@ -15,7 +15,7 @@ use Rattle.store_model.specs.Effects.{Halt, Aborted, OutOfTicks, Stuck, StuckAt,
 use Rattle.store_model.specs.Places.Place.{whole_local}
 
 module _ {W V : Type 0} (rel : Relation W V) where
-  go_follows : {n : rel.Stage} {o : Out W} {g : rel.Items → Out V} {f : W → Out W} (f' : V → Out V) → FollowsOut rel n o g → FollowsOuts rel f f' →
+  go_follows : {n : rel.Stage} {o : Out W} {g : rel.Choices → Out V} {f : W → Out W} (f' : V → Out V) → FollowsOut rel n o g → FollowsOuts rel f f' →
       FollowsOut rel n (◌>>=◌ o f) (λ t. ◌>>=◌ (g t) f')
   go_follows f' (goes_on n w c l _ k d) e = out_after rel l _ (λ rest. ap (λ o. ◌>>=◌ o f') (d rest)) (e n w c k)
   go_follows f' (unwinds n w c l _ k d) e = halts n Stuck w c l _ (rel.at_halt n w c k) (λ rest. ap (λ o. ◌>>=◌ o f') (d rest))
@@ -24,7 +24,7 @@ module _ {W V : Type 0} (rel : Relation W V) where
   go_follows {f = f} f' (outlived n halt w later s _ k d) e = outlived n halt w later (◌>>=◌ s f) _ k (go_follows f' d e)
   go_follows f' (refused n _ halt c l _ k d) e = refused n _ halt c l _ k (λ rest. ap (λ o. ◌>>=◌ o f') (d rest))
 
-  fork_follows : {n : rel.Stage} {o : Out W} {g : rel.Items → Out V} {f u : W → Out W} (f' u' : V → Out V) → FollowsOut rel n o g → FollowsOuts rel f f' →
+  fork_follows : {n : rel.Stage} {o : Out W} {g : rel.Choices → Out V} {f u : W → Out W} (f' u' : V → Out V) → FollowsOut rel n o g → FollowsOuts rel f f' →
       FollowsOuts rel u u' → FollowsOut rel n (fork o f u) (λ t. fork (g t) f' u')
   fork_follows f' u' (goes_on n w c l _ k d) e b = out_after rel l _ (λ rest. ap (λ o. fork o f' u') (d rest)) (e n w c k)
   fork_follows f' u' (unwinds n w c l _ k d) e b = out_after rel l _ (λ rest. ap (λ o. fork o f' u') (d rest)) (b n w c k)
@@ -33,7 +33,7 @@ module _ {W V : Type 0} (rel : Relation W V) where
   fork_follows {f = f} {u = u} f' u' (outlived n halt w later s _ k d) e b = outlived n halt w later (fork s f u) _ k (fork_follows f' u' d e b)
   fork_follows f' u' (refused n _ halt c l _ k d) e b = refused n _ halt c l _ k (λ rest. ap (λ o. fork o f' u') (d rest))
 
-  branch_follows : {n : rel.Stage} {o : Choice W} {g : rel.Items → Choice V} {f u : W → Out W} (f' u' : V → Out V) → FollowsChoice rel n o g →
+  branch_follows : {n : rel.Stage} {o : Choice W} {g : rel.Choices → Choice V} {f u : W → Out W} (f' u' : V → Out V) → FollowsChoice rel n o g →
       FollowsOuts rel f f' → FollowsOuts rel u u' → FollowsOut rel n (branch o f u) (λ t. branch (g t) f' u')
   branch_follows f' u' (takes n w c l _ k d) e b = out_after rel l _ (λ rest. ap (λ o. branch o f' u') (d rest)) (e n w c k)
   branch_follows f' u' (declines n w c l _ k d) e b = out_after rel l _ (λ rest. ap (λ o. branch o f' u') (d rest)) (b n w c k)
@@ -54,7 +54,7 @@ module _ {W V : Type 0} (rel : Relation W V) where
     abbrev name : Halt → Halt
     name = stuck_in body block
 
-    renamed_follows : {n : rel.Stage} {o : Out W} {g : rel.Items → Out V} → FollowsOut rel n o g → FollowsOut rel n (renamed name o) (λ t. renamed name (g t))
+    renamed_follows : {n : rel.Stage} {o : Out W} {g : rel.Choices → Out V} → FollowsOut rel n o g → FollowsOut rel n (renamed name o) (λ t. renamed name (g t))
     renamed_follows (goes_on n w c l _ k d) = goes_on n w c l _ k (λ rest. ap (renamed name) (d rest))
     renamed_follows (unwinds n w c l _ k d) = unwinds n w c l _ k (λ rest. ap (renamed name) (d rest))
     renamed_follows (halts n halt w c l _ k d) = halts n (name halt) w c l _ k (λ rest. ap (renamed name) (d rest))
@@ -63,7 +63,7 @@ module _ {W V : Type 0} (rel : Relation W V) where
         outlived n (name halt) w later (renamed name s) _ (names.outlive body block n halt w later k) (renamed_follows d)
     renamed_follows (refused n _ halt c l _ k d) = refused n _ (name halt) c l _ (names.refuse body block halt k) (λ rest. ap (renamed name) (d rest))
 
-    renamed_choice_follows : {n : rel.Stage} {o : Choice W} {g : rel.Items → Choice V} → FollowsChoice rel n o g →
+    renamed_choice_follows : {n : rel.Stage} {o : Choice W} {g : rel.Choices → Choice V} → FollowsChoice rel n o g →
         FollowsChoice rel n (renamed_choice name o) (λ t. renamed_choice name (g t))
     renamed_choice_follows (takes n w c l _ k d) = takes n w c l _ k (λ rest. ap (renamed_choice name) (d rest))
     renamed_choice_follows (declines n w c l _ k d) = declines n w c l _ k (λ rest. ap (renamed_choice name) (d rest))
@@ -97,7 +97,7 @@ module _ {W V : Type 0} (rel : Relation W V) where
       onward_follows graph.Unwind.Resume n w c k = panics_on rel n w c k
       onward_follows graph.Unwind.Abort n w c k = ends rel n Aborted w c k
 
-      acts_follow : {n : rel.Stage} {o : Out W} {g : rel.Items → Out V} (to : ℕ) (unwind : graph.Unwind) → FollowsOut rel n o g →
+      acts_follow : {n : rel.Stage} {o : Out W} {g : rel.Choices → Out V} (to : ℕ) (unwind : graph.Unwind) → FollowsOut rel n o g →
           FollowsOut rel n (acts o next to unwind) (λ t. acts (g t) next' to unwind)
       acts_follow to unwind e = fork_follows (next' to) (unwinding unwind next') e (later to) (onward_follows unwind)
 

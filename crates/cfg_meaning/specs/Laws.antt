@@ -1,4 +1,4 @@
--- The laws of walks and runs. The bounds by which a walk is defined are never met, so it is one equation without them;
+-- The laws of walks and runs. The fuel by which a walk is defined never ends it, so it is one equation without them;
 -- and a run does not change what it did by one tick more.
 use Rattle.std.specs.Prelude.{◌≡◌, ℕ, suc, ◌<◌, ◌≤◌, ℤ, Bool, List, length, Option}
 use Rattle.cfg_graph.specs.declared.graph.Body.{Body}
@@ -27,14 +27,14 @@ abbrev pub IsOneEquation :
 IsOneEquation p number node body fuel block w =
     walk p number node body fuel block w ≡ unfolded p number node body (walk p number node body fuel) block w
 
--- with fewer ticks than the bound on turns, the walk of a ranked body is one equation
+-- with fewer ticks than the fuel for turns, the walk of a ranked body is one equation
 abbrev pub WalkIsOneEquation : Type 0
 WalkIsOneEquation =
     (strict : Bool) (graph : Graph) (n number : ℕ) (node : ℕ → ℕ → ℕ) (body : Body) → IsRanked body →
     (fuel block : ℕ) (w : State) → w.ticks < fuel →
     IsOneEquation (concrete_effects_of strict graph n) number node body fuel block w
 
--- two bounds that are greater than the ticks give the same walk
+-- two amounts of fuel that are greater than the ticks give the same walk
 abbrev pub FuelOfWalksIsIrrelevant : Type 0
 FuelOfWalksIsIrrelevant =
     (strict : Bool) (graph : Graph) (n number : ℕ) (node : ℕ → ℕ → ℕ) (body : Body) → IsRanked body →
@@ -42,14 +42,14 @@ FuelOfWalksIsIrrelevant =
     walk (concrete_effects_of strict graph n) number node body fuel block w
     ≡ walk (concrete_effects_of strict graph n) number node body other block w
 
--- with fewer items than the bound on turns, the free walk of a ranked body is one equation
+-- with fewer choices than the fuel for turns, the free walk of a ranked body is one equation
 abbrev pub FreeWalkIsOneEquation : Type 0
 FreeWalkIsOneEquation =
     (items : ItemTable) (local_ty : ℕ → Option TyId) (number : ℕ) (node : ℕ → ℕ → ℕ) (body : Body) →
     IsRanked body → (fuel block : ℕ) (w : AbstractState) → length w.choices < fuel →
     IsOneEquation (abstract_effects items local_ty) number node body fuel block w
 
--- two bounds that are greater than the number of items give the same free walk
+-- two amounts of fuel that are greater than the number of choices give the same free walk
 abbrev pub FuelOfFreeWalksIsIrrelevant : Type 0
 FuelOfFreeWalksIsIrrelevant =
     (items : ItemTable) (local_ty : ℕ → Option TyId) (number : ℕ) (node : ℕ → ℕ → ℕ) (body : Body) →
@@ -60,7 +60,7 @@ FuelOfFreeWalksIsIrrelevant =
 abbrev pub bodies_of : Bool → Graph → ℕ → Bodies
 bodies_of strict graph n = run_body (setting_of strict graph) (code_of graph) n
 
--- Two bounds on nesting that are no less than the ticks give the same run of a body, whatever its graph is: the bounds
+-- Two amounts of fuel for nesting that are no less than the ticks give the same run of a body, whatever its graph is: the fuel
 -- on turns and on drops, which go with them, are never met.
 abbrev pub FuelOfGraphRunsIsIrrelevant : Type 0
 FuelOfGraphRunsIsIrrelevant =

@@ -47,7 +47,7 @@ graph_run graph asked ticks = run_of (setting_of true graph) (code_of graph) (ma
 abbrev pub raw_graph_run : Graph → List ℤ → ℕ → Trace × End
 raw_graph_run graph asked ticks = run_of (setting_of false graph) (code_of graph) (main_of graph.items) asked ticks
 
--- the walk of a body that takes these items, where each line stands for a node of the source
+-- the walk of a body that takes these choices, where each line stands for a node of the source
 abbrev pub free_walk : ItemTable → (ℕ → ℕ → ℕ) → Body → List Bool → Out AbstractState
 free_walk items node body list =
     walk (abstract_effects items (slice_get body.locals)) 0 node body (suc (length list)) 0

@@ -134,7 +134,7 @@ module _ {W : Type 0} (p : Effects W) (number : ℕ) (node : ℕ → ℕ → ℕ
       (λ block. by_kind block.kind n block (λ n. does_turn n block next) (λ n. does_block n block next)) w
 
   -- At most so many blocks up to the next turn block, where it is given what a turn does. Each edge but one to a turn
-  -- block lowers the rank, so a bound greater than the rank is never met.
+  -- block lowers the rank, so fuel greater than the rank is never met.
   abbrev pub blocks : Next W → ℕ → Next W
   blocks turn zero n w =
       if_there (slice_get body.blocks n) n (λ block. by_kind block.kind n block turn (λ n. Halts Stuck)) w
@@ -145,7 +145,7 @@ module _ {W : Type 0} (p : Effects W) (number : ℕ) (node : ℕ → ℕ → ℕ
   abbrev pub from_rank : Next W → Next W
   from_rank turn n w = blocks turn (suc (rank_at n)) n w
 
-  -- fewer turns than so many: each spends a tick, or takes an item, so a bound greater than what is left of these is
+  -- fewer turns than so many: each spends a tick, or takes a choice, so fuel greater than what is left of these is
   -- never met
   abbrev pub turns : ℕ → Next W
   turns zero n w = Halts OutOfTicks w

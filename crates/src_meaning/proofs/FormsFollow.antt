@@ -140,7 +140,7 @@ module _ {W V : Type 0} (rel : Relation W V) where
     stored_follow : (site : Site) (key : ℕ) → FollowsDoes rel (stored items p site key) (stored items q site key)
     stored_follow site key = then_follow rel (take_follow (key ∷ [])) (acts_follow (Put site (moved site.node key)))
 
-    stored_after_follow : {n : rel.Stage} {o : Out W} {g : rel.Items → Out V} (site : Site) (key : ℕ) (S : Scopes) → FollowsOut rel n o g →
+    stored_after_follow : {n : rel.Stage} {o : Out W} {g : rel.Choices → Out V} (site : Site) (key : ℕ) (S : Scopes) → FollowsOut rel n o g →
         Follows rel n (stored_after items p site key S o) (λ t. stored_after items q site key S (g t))
     stored_after_follow site key S (goes_on m w c l _ k d) =
         run_after rel l _ (λ rest. ap (stored_after items q site key S) (d rest)) ((stored_follow site key).run m S w c k)
@@ -182,7 +182,7 @@ module _ {W V : Type 0} (rel : Relation W V) where
     -- Patterns.
 
     -- a comparison does not panic, and then neither of the two has a step
-    tested_follow : {n : rel.Stage} {o : Out W} {g : rel.Items → Out V} (operand : Operand) → FollowsOut rel n o g →
+    tested_follow : {n : rel.Stage} {o : Out W} {g : rel.Choices → Out V} (operand : Operand) → FollowsOut rel n o g →
         FollowsChoice rel n (tested items p o operand) (λ t. tested items q (g t) operand)
     tested_follow operand (goes_on m w c l _ k d) = choice_after rel l _ (λ rest. ap (λ o. tested items q o operand) (d rest)) (follow.choosing (IsTrue operand) m w c k)
     tested_follow operand (unwinds m w c l _ k d) = neither m Stuck w c l _ (rel.at_halt m w c k) (λ rest. ap (λ o. tested items q o operand) (d rest))
@@ -195,7 +195,7 @@ module _ {W V : Type 0} (rel : Relation W V) where
     equals_follow site value n w c k =
         tested_follow (moved site.node site.node) (follow.acting (Compare (site_of_key site.node) Cmp.Eq (Copied site) value) n w c k)
 
-    after_tests : {n : rel.Stage} {o : Choice W} {g : rel.Items → Choice V} {f : W → Choice W} (f' : V → Choice V) → FollowsChoice rel n o g →
+    after_tests : {n : rel.Stage} {o : Choice W} {g : rel.Choices → Choice V} {f : W → Choice W} (f' : V → Choice V) → FollowsChoice rel n o g →
         FollowsChoices rel f f' → FollowsChoice rel n (tests_after items p o f) (λ t. tests_after items q (g t) f')
     after_tests {n} {o} {g} {f} f' (takes m w c l _ k d) e = choice_after rel l _ (λ rest. ap (λ o. tests_after items q o f') (d rest)) (e m w c k)
     after_tests {n} {o} {g} {f} f' (declines m w c l _ k d) e = declines m w c l _ k (λ rest. ap (λ o. tests_after items q o f') (d rest))
@@ -204,7 +204,7 @@ module _ {W V : Type 0} (rel : Relation W V) where
     after_tests {n} {o} {g} {f} f' (outlived_choice m halt w later s _ k d) e = outlived_choice m halt w later (tests_after items p s f) _ k (after_tests f' d e)
     after_tests {n} {o} {g} {f} f' (refused_choice m _ halt c l _ k d) e = refused_choice m _ halt c l _ k (λ rest. ap (λ o. tests_after items q o f') (d rest))
 
-    after_alternatives : {n : rel.Stage} {o : Choice W} {g : rel.Items → Choice V} {f : W → Choice W} (f' : V → Choice V) → FollowsChoice rel n o g →
+    after_alternatives : {n : rel.Stage} {o : Choice W} {g : rel.Choices → Choice V} {f : W → Choice W} (f' : V → Choice V) → FollowsChoice rel n o g →
         FollowsChoices rel f f' → FollowsChoice rel n (alternatives_after items p o f) (λ t. alternatives_after items q (g t) f')
     after_alternatives {n} {o} {g} {f} f' (takes m w c l _ k d) e = takes m w c l _ k (λ rest. ap (λ o. alternatives_after items q o f') (d rest))
     after_alternatives {n} {o} {g} {f} f' (declines m w c l _ k d) e = choice_after rel l _ (λ rest. ap (λ o. alternatives_after items q o f') (d rest)) (e m w c k)
@@ -356,7 +356,7 @@ module _ {W V : Type 0} (rel : Relation W V) where
     FollowsAt P f f' = (n : rel.Stage) → P n → (S : Scopes) (w : W) (c : rel.Known) → rel.related n w c → Follows rel n (f S w) (λ t. f' S (rel.feed t c))
 
     module _ (P : rel.Stage → Type 0) (kept : (n : rel.Stage) (halt : Halt) (w : W) (later : rel.Stage) → P n → rel.outlives n halt w later → P later) where
-      after_turn : {n : rel.Stage} {r : Run W} {g : rel.Items → Run V} {f : Does W} (f' : Does V) (id : ℕ) (begun : Scopes) → P n → Follows rel n r g →
+      after_turn : {n : rel.Stage} {r : Run W} {g : rel.Choices → Run V} {f : Does W} (f' : Does V) (id : ℕ) (begun : Scopes) → P n → Follows rel n r g →
           FollowsAt P f f' → Follows rel n (turned items p id begun r f) (λ t. turned items q id begun (g t) f')
       after_turn {n} {r} {g} {f} f' id begun h (is_at m Value S w c l _ k d) e =
           run_after rel l _ (λ rest. ap (λ x. turned items q id begun x f') (d rest)) (e m h S w c k)
@@ -372,7 +372,7 @@ module _ {W V : Type 0} (rel : Relation W V) where
           outlived_run m halt w later (turned items p id begun s f) _ k (after_turn f' id begun (kept m halt w later h k) d e)
       after_turn {n} {r} {g} {f} f' id begun h (refused_run m _ halt c l _ k d) e = refused_run m _ halt c l _ k (λ rest. ap (λ x. turned items q id begun x f') (d rest))
 
-      after_tick : {n : rel.Stage} {o : Out W} {g : rel.Items → Out V} {f : W → Run W} (f' : V → Run V) → P n → FollowsOut rel n o g →
+      after_tick : {n : rel.Stage} {o : Out W} {g : rel.Choices → Out V} {f : W → Run W} (f' : V → Run V) → P n → FollowsOut rel n o g →
           ((n : rel.Stage) → P n → (w : W) (c : rel.Known) → rel.related n w c → Follows rel n (f w) (λ t. f' (rel.feed t c))) →
           Follows rel n (ticked items p o f) (λ t. ticked items q (g t) f')
       after_tick {n} {o} {g} {f} f' h (goes_on m w c l _ k d) e = run_after rel l _ (λ rest. ap (λ o. ticked items q o f') (d rest)) (e m h w c k)
@@ -402,12 +402,12 @@ module _ {W V : Type 0} (rel : Relation W V) where
         (λ m h v z j. after_turn Any (λ n halt w later h o. tt) (turns items q fuel' id turn') id S h (d.run m S v z j) (turns_of_more fuel fuel' id (omega arith) o d))
 
     -- a tick that does not go on
-    stopped_follow : {n : rel.Stage} {v : W} {g : rel.Items → Out V} (f : W → Run W) (f' : V → Run V) → FollowsOut rel n (Unwind v) g →
+    stopped_follow : {n : rel.Stage} {v : W} {g : rel.Choices → Out V} (f : W → Run W) (f' : V → Run V) → FollowsOut rel n (Unwind v) g →
         Follows rel n (ticked items p (Unwind v) f) (λ t. ticked items q (g t) f')
     stopped_follow f f' (unwinds m w c l _ k d) = is_over m Stuck w c l _ (rel.at_halt m w c k) (λ rest. ap (λ o. ticked items q o f') (d rest))
     stopped_follow f f' (refused m _ halt c l _ k d) = refused_run m _ halt c l _ k (λ rest. ap (λ o. ticked items q o f') (d rest))
 
-    halted_follow : ((n : rel.Stage) (halt : Halt) (w : W) (later : rel.Stage) → rel.outlives n halt w later → ⊥) → {n : rel.Stage} {halt : Halt} {v : W} {g : rel.Items → Out V} (f : W → Run W) (f' : V → Run V) → FollowsOut rel n (Halts halt v) g →
+    halted_follow : ((n : rel.Stage) (halt : Halt) (w : W) (later : rel.Stage) → rel.outlives n halt w later → ⊥) → {n : rel.Stage} {halt : Halt} {v : W} {g : rel.Choices → Out V} (f : W → Run W) (f' : V → Run V) → FollowsOut rel n (Halts halt v) g →
         Follows rel n (Over halt v) (λ t. ticked items q (g t) f')
     halted_follow none f f' (halts m halt w c l _ k d) = is_over m halt w c l _ k (λ rest. ap (λ o. ticked items q o f') (d rest))
     halted_follow none f f' (lapsed m halt w _ k) = lapsed_run m halt w _ k
@@ -419,7 +419,7 @@ module _ {W V : Type 0} (rel : Relation W V) where
       abbrev Below : (fuel fuel' : ℕ) → rel.Stage → Type 0
       Below fuel fuel' n = (left n < fuel) × (left n < fuel')
 
-      after_great : (fuel fuel' : ℕ) {n : rel.Stage} (o : Out W) (g : rel.Items → Out V) {f : W → Run W} (f' : V → Run V) → left n < suc fuel → left n < suc fuel' →
+      after_great : (fuel fuel' : ℕ) {n : rel.Stage} (o : Out W) (g : rel.Choices → Out V) {f : W → Run W} (f' : V → Run V) → left n < suc fuel → left n < suc fuel' →
           FollowsTick rel left n o g →
           ((n : rel.Stage) → Below fuel fuel' n → (w : W) (c : rel.Known) → rel.related n w c → Follows rel n (f w) (λ t. f' (rel.feed t c))) →
           Follows rel n (ticked items p o f) (λ t. ticked items q (g t) f')

@@ -271,7 +271,7 @@ module _ {W V : Type 0} (rel : Relation W V) where
     further_follow [] n w c k = panics_on rel n w c k
     further_follow (e ∷ es) n w c k = after_drop rel (further_unwinds items q fuel' es) (follow.dropping Unwinding (entry_site e) n w c k) (further_follow es)
 
-    end_follows : {n : rel.Stage} {r : Run W} {g : rel.Items → Run V} (answer : ℕ) → Follows rel n r g →
+    end_follows : {n : rel.Stage} {r : Run W} {g : rel.Choices → Run V} (answer : ℕ) → Follows rel n r g →
         FollowsOut rel n (body_end items p fuel answer r) (λ t. body_end items q fuel' answer (g t))
     end_follows answer (is_at m Value S w c l _ k d) = out_after rel l _ (λ rest. ap (body_end items q fuel' answer) (d rest)) (follow.giving (site_of_key answer) m w c k)
     end_follows answer (is_at m (Breaks loop) S w c l _ k d) = halts m Stuck w c l _ (rel.at_halt m w c k) (λ rest. ap (body_end items q fuel' answer) (d rest))

@@ -1,4 +1,4 @@
--- The bounds by which runs of a source are defined are never met: agreement up to a size, of a run of a body with itself.
+-- The fuel by which runs of a source are defined never ends it: agreement up to a size, of a run of a body with itself.
 use Rattle.std.proofs.Common.{◌≡◌, ℕ, ◌≤◌, Option, Some, None, slice_get, refl, arith}
 use Rattle.std.specs.Option.{option_map_or}
 use Rattle.mir_ty.specs.ItemTable.{ItemTable}

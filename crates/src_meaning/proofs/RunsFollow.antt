@@ -6,16 +6,16 @@ use Rattle.store_model.proofs.Effects.Following.{Relation, FollowsOut, goes_on, 
 use Rattle.store_model.specs.Effects.{Normal, Unwinding, Halt, Aborted, Out, Choice, Effects}
 use Rattle.src_meaning.specs.Scopes.{Entry, Scopes, with_scope, needing_drop, Exit, Value, Breaks, Continues, Returns, Panics, Run, At, Over, Does, on_value, ◌>>◌, in_scopes, doing, changing, chosen, choosing, back_in, entry_site, dropped_unwinding, drop_unwinding, dropped_normally, drop_normally, leave, leaving, in_scope, then_or_leave, in_scope_with}
 
-pub data Follows {W V : Type 0} (rel : Relation W V) : rel.Stage → Run W → (rel.Items → Run V) → Type 0 where
-  is_at : (n : rel.Stage) (exit : Exit) (S : Scopes) (w : W) (c : rel.Known) (l : rel.Items) (g : rel.Items → Run V) → rel.related n w c →
-      ((rest : rel.Items) → g (rel.joined l rest) ≡ At exit S (rel.feed rest c)) → Follows rel n (At exit S w) g
-  is_over : (n : rel.Stage) (halt : Halt) (w : W) (c : rel.Known) (l : rel.Items) (g : rel.Items → Run V) → rel.halted n w c →
-      ((rest : rel.Items) → g (rel.joined l rest) ≡ Over halt (rel.feed rest c)) → Follows rel n (Over halt w) g
-  lapsed_run : (n : rel.Stage) (halt : Halt) (w : W) (g : rel.Items → Run V) → rel.lapses n halt w → Follows rel n (Over halt w) g
-  outlived_run : (n : rel.Stage) (halt : Halt) (w : W) (later : rel.Stage) (shadow : Run W) (g : rel.Items → Run V) →
+pub data Follows {W V : Type 0} (rel : Relation W V) : rel.Stage → Run W → (rel.Choices → Run V) → Type 0 where
+  is_at : (n : rel.Stage) (exit : Exit) (S : Scopes) (w : W) (c : rel.Known) (l : rel.Choices) (g : rel.Choices → Run V) → rel.related n w c →
+      ((rest : rel.Choices) → g (rel.joined l rest) ≡ At exit S (rel.feed rest c)) → Follows rel n (At exit S w) g
+  is_over : (n : rel.Stage) (halt : Halt) (w : W) (c : rel.Known) (l : rel.Choices) (g : rel.Choices → Run V) → rel.halted n w c →
+      ((rest : rel.Choices) → g (rel.joined l rest) ≡ Over halt (rel.feed rest c)) → Follows rel n (Over halt w) g
+  lapsed_run : (n : rel.Stage) (halt : Halt) (w : W) (g : rel.Choices → Run V) → rel.lapses n halt w → Follows rel n (Over halt w) g
+  outlived_run : (n : rel.Stage) (halt : Halt) (w : W) (later : rel.Stage) (shadow : Run W) (g : rel.Choices → Run V) →
       rel.outlives n halt w later → Follows rel later shadow g → Follows rel n (Over halt w) g
-  refused_run : (n : rel.Stage) (r : Run W) (halt : Halt) (c : rel.Known) (l : rel.Items) (g : rel.Items → Run V) → rel.refuses halt →
-      ((rest : rel.Items) → g (rel.joined l rest) ≡ Over halt (rel.feed rest c)) → Follows rel n r g
+  refused_run : (n : rel.Stage) (r : Run W) (halt : Halt) (c : rel.Known) (l : rel.Choices) (g : rel.Choices → Run V) → rel.refuses halt →
+      ((rest : rel.Choices) → g (rel.joined l rest) ≡ Over halt (rel.feed rest c)) → Follows rel n r g
 
 -- at each stage, wherever states are related
 pub record FollowsDoes {W V : Type 0} (rel : Relation W V) (f : Does W) (f' : Does V) : Type 0 where
@@ -25,15 +25,15 @@ abbrev pub FollowsRuns : {W V : Type 0} → Relation W V → (W → Run W) → (
 FollowsRuns {W} {V} rel f f' = (n : rel.Stage) (w : W) (c : rel.Known) → rel.related n w c → Follows rel n (f w) (λ t. f' (rel.feed t c))
 
 module _ {W V : Type 0} (rel : Relation W V) where
-  pub run_after : {n : rel.Stage} {r : Run W} {g' : rel.Items → Run V} (l : rel.Items) (g : rel.Items → Run V) →
-      ((rest : rel.Items) → g (rel.joined l rest) ≡ g' rest) → Follows rel n r g' → Follows rel n r g
+  pub run_after : {n : rel.Stage} {r : Run W} {g' : rel.Choices → Run V} (l : rel.Choices) (g : rel.Choices → Run V) →
+      ((rest : rel.Choices) → g (rel.joined l rest) ≡ g' rest) → Follows rel n r g' → Follows rel n r g
   run_after l g e (is_at n exit S w c m g' k d) = is_at n exit S w c (rel.joined l m) g k (along rel l m g g' _ e d)
   run_after l g e (is_over n halt w c m g' k d) = is_over n halt w c (rel.joined l m) g k (along rel l m g g' _ e d)
   run_after l g e (lapsed_run n halt w g' k) = lapsed_run n halt w g k
   run_after l g e (outlived_run n halt w later s g' k d) = outlived_run n halt w later s g k (run_after l g e d)
   run_after l g e (refused_run n r halt c m g' k d) = refused_run n r halt c (rel.joined l m) g k (along rel l m g g' _ e d)
 
-  pub within_run : {later n : rel.Stage} {r : Run W} {g : rel.Items → Run V} → Within rel later n → Follows rel later r g → Follows rel n r g
+  pub within_run : {later n : rel.Stage} {r : Run W} {g : rel.Choices → Run V} → Within rel later n → Follows rel later r g → Follows rel n r g
   within_run i (is_at m exit S w c l g k d) = is_at _ exit S w c l g (i.relating w c k) d
   within_run i (is_over m halt w c l g k d) = is_over _ halt w c l g (i.halting w c k) d
   within_run i (lapsed_run m halt w g k) = lapsed_run _ halt w g (i.lapsing halt w k)
@@ -46,7 +46,7 @@ module _ {W V : Type 0} (rel : Relation W V) where
   pub stops : (n : rel.Stage) (halt : Halt) (w : W) (c : rel.Known) → rel.related n w c → Follows rel n (Over halt w) (λ t. Over halt (rel.feed t c))
   stops n halt w c k = is_over n halt w c rel.none _ (rel.at_halt n w c k) (λ rest. ap (λ t. Over halt (rel.feed t c)) (rel.from_none rest))
 
-  pub after_value : {n : rel.Stage} {r : Run W} {g : rel.Items → Run V} {f : Does W} (f' : Does V) → Follows rel n r g → FollowsDoes rel f f' →
+  pub after_value : {n : rel.Stage} {r : Run W} {g : rel.Choices → Run V} {f : Does W} (f' : Does V) → Follows rel n r g → FollowsDoes rel f f' →
       Follows rel n (on_value r f) (λ t. on_value (g t) f')
   after_value {n} {r} {g} {f} f' (is_at m Value S w c l _ k d) e = run_after l (λ t. on_value (g t) f') (λ rest. ap (λ x. on_value x f') (d rest)) (e.run m S w c k)
   after_value {n} {r} {g} {f} f' (is_at m (Breaks loop) S w c l _ k d) e = is_at m (Breaks loop) S w c l _ k (λ rest. ap (λ x. on_value x f') (d rest))
@@ -67,7 +67,7 @@ module _ {W V : Type 0} (rel : Relation W V) where
   pub changing_follow : (change : Scopes → Scopes) → FollowsDoes rel (changing change) (changing change)
   changing_follow change = record { run = λ n S w c k. stays n Value (change S) w c k }
 
-  pub scoped : {n : rel.Stage} {o : Out W} {g : rel.Items → Out V} (S : Scopes) → FollowsOut rel n o g → Follows rel n (in_scopes S o) (λ t. in_scopes S (g t))
+  pub scoped : {n : rel.Stage} {o : Out W} {g : rel.Choices → Out V} (S : Scopes) → FollowsOut rel n o g → Follows rel n (in_scopes S o) (λ t. in_scopes S (g t))
   scoped S (goes_on m w c l _ k d) = is_at m Value S w c l _ k (λ rest. ap (in_scopes S) (d rest))
   scoped S (unwinds m w c l _ k d) = is_at m Panics S w c l _ k (λ rest. ap (in_scopes S) (d rest))
   scoped S (halts m halt w c l _ k d) = is_over m halt w c l _ k (λ rest. ap (in_scopes S) (d rest))
@@ -78,7 +78,7 @@ module _ {W V : Type 0} (rel : Relation W V) where
   pub doing_follow : (f : W → Out W) (f' : V → Out V) → FollowsOuts rel f f' → FollowsDoes rel (doing f) (doing f')
   doing_follow f f' e = record { run = λ n S w c k. scoped S (e n w c k) }
 
-  pub after_choice : {n : rel.Stage} {o : Choice W} {g : rel.Items → Choice V} {f h : W → Run W} (f' h' : V → Run V) → FollowsChoice rel n o g →
+  pub after_choice : {n : rel.Stage} {o : Choice W} {g : rel.Choices → Choice V} {f h : W → Run W} (f' h' : V → Run V) → FollowsChoice rel n o g →
       FollowsRuns rel f f' → FollowsRuns rel h h' → Follows rel n (chosen o f h) (λ t. chosen (g t) f' h')
   after_choice {n} {o} {g} {f} {h} f' h' (takes m w c l _ k d) e b = run_after l (λ t. chosen (g t) f' h') (λ rest. ap (λ x. chosen x f' h') (d rest)) (e m w c k)
   after_choice {n} {o} {g} {f} {h} f' h' (declines m w c l _ k d) e b = run_after l (λ t. chosen (g t) f' h') (λ rest. ap (λ x. chosen x f' h') (d rest)) (b m w c k)
@@ -92,7 +92,7 @@ module _ {W V : Type 0} (rel : Relation W V) where
   choosing_follow test test' e {f} {h} {f'} {h'} d b =
       record { run = λ n S w c k. after_choice (f' S) (h' S) (e n w c k) (λ m v z j. d.run m S v z j) (λ m v z j. b.run m S v z j) }
 
-  pub back_follow : {n : rel.Stage} {r : Run W} {g : rel.Items → Run V} (S : Scopes) → Follows rel n r g → Follows rel n (back_in S r) (λ t. back_in S (g t))
+  pub back_follow : {n : rel.Stage} {r : Run W} {g : rel.Choices → Run V} (S : Scopes) → Follows rel n r g → Follows rel n (back_in S r) (λ t. back_in S (g t))
   back_follow S (is_at m Value S' w c l _ k d) = is_at m Value S w c l _ k (λ rest. ap (back_in S) (d rest))
   back_follow S (is_at m (Breaks loop) S' w c l _ k d) = is_at m (Breaks loop) S' w c l _ k (λ rest. ap (back_in S) (d rest))
   back_follow S (is_at m (Continues loop) S' w c l _ k d) = is_at m (Continues loop) S' w c l _ k (λ rest. ap (back_in S) (d rest))
@@ -105,7 +105,7 @@ module _ {W V : Type 0} (rel : Relation W V) where
 
   -- Scopes are left.
   module _ (items : ItemTable) (p : Effects W) (q : Effects V) (follow : FollowsEffects rel p q) where
-    after_unwinding : {n : rel.Stage} {o : Out W} {g : rel.Items → Out V} {f : W → Run W} (f' : V → Run V) → FollowsOut rel n o g → FollowsRuns rel f f' →
+    after_unwinding : {n : rel.Stage} {o : Out W} {g : rel.Choices → Out V} {f : W → Run W} (f' : V → Run V) → FollowsOut rel n o g → FollowsRuns rel f f' →
         Follows rel n (dropped_unwinding items p o f) (λ t. dropped_unwinding items q (g t) f')
     after_unwinding {n} {o} {g} {f} f' (goes_on m w c l _ k d) e =
         run_after l (λ t. dropped_unwinding items q (g t) f') (λ rest. ap (λ x. dropped_unwinding items q x f') (d rest)) (e m w c k)
@@ -120,7 +120,7 @@ module _ {W V : Type 0} (rel : Relation W V) where
     unwinding_follow [] S n w c k = stays n Panics S w c k
     unwinding_follow (e ∷ es) S n w c k = after_unwinding (drop_unwinding items q es S) (follow.dropping Unwinding (entry_site e) n w c k) (unwinding_follow es S)
 
-    after_calm : {n : rel.Stage} {o : Out W} {g : rel.Items → Out V} {f h : W → Run W} (f' h' : V → Run V) → FollowsOut rel n o g →
+    after_calm : {n : rel.Stage} {o : Out W} {g : rel.Choices → Out V} {f h : W → Run W} (f' h' : V → Run V) → FollowsOut rel n o g →
         FollowsRuns rel f f' → FollowsRuns rel h h' → Follows rel n (dropped_normally items p o f h) (λ t. dropped_normally items q (g t) f' h')
     after_calm {n} {o} {g} {f} {h} f' h' (goes_on m w c l _ k d) e b =
         run_after l (λ t. dropped_normally items q (g t) f' h') (λ rest. ap (λ x. dropped_normally items q x f' h') (d rest)) (e m w c k)
@@ -145,7 +145,7 @@ module _ {W V : Type 0} (rel : Relation W V) where
     left_follow Returns (s ∷ S) n w c k = calm_follow Returns (needing_drop items s.entries) S n w c k
     left_follow Panics (s ∷ S) n w c k = unwinding_follow (needing_drop items (s.pending ++ s.entries)) S n w c k
 
-    leave_follow : {n : rel.Stage} {r : Run W} {g : rel.Items → Run V} → Follows rel n r g → Follows rel n (leave items p r) (λ t. leave items q (g t))
+    leave_follow : {n : rel.Stage} {r : Run W} {g : rel.Choices → Run V} → Follows rel n r g → Follows rel n (leave items p r) (λ t. leave items q (g t))
     leave_follow {n} {r} {g} (is_at m exit S w c l _ k d) = run_after l (λ t. leave items q (g t)) (λ rest. ap (leave items q) (d rest)) (left_follow exit S m w c k)
     leave_follow {n} {r} {g} (is_over m halt w c l _ k d) = is_over m halt w c l _ k (λ rest. ap (leave items q) (d rest))
     leave_follow {n} {r} {g} (lapsed_run m halt w _ k) = lapsed_run m halt w _ k
@@ -158,7 +158,7 @@ module _ {W V : Type 0} (rel : Relation W V) where
     pub in_scope_follow : {f : Does W} {f' : Does V} (node : ℕ) (own : Bool) → FollowsDoes rel f f' → FollowsDoes rel (in_scope items p node own f) (in_scope items q node own f')
     in_scope_follow node own e = record { run = λ n S w c k. leave_follow (e.run n (with_scope node own S) w c k) }
 
-    value_or_leave : {n : rel.Stage} {r : Run W} {g : rel.Items → Run V} {f : Does W} (f' : Does V) → Follows rel n r g → FollowsDoes rel f f' →
+    value_or_leave : {n : rel.Stage} {r : Run W} {g : rel.Choices → Run V} {f : Does W} (f' : Does V) → Follows rel n r g → FollowsDoes rel f f' →
         Follows rel n (then_or_leave items p r f) (λ t. then_or_leave items q (g t) f')
     value_or_leave {n} {r} {g} {f} f' (is_at m Value S w c l _ k d) e =
         run_after l (λ t. then_or_leave items q (g t) f') (λ rest. ap (λ x. then_or_leave items q x f') (d rest)) (e.run m S w c k)

@@ -398,7 +398,7 @@ module _ {W : Type 0} (items : ItemTable) (p : Effects W) where
   turned id begun (At (Continues loop) S w) next = (if id == loop then next begun else At (Continues loop) S) w
   turned id begun run next = run
 
-  -- fewer turns than so many. Each spends a tick, or takes an item, so a bound that is greater than what is left of
+  -- fewer turns than so many. Each spends a tick, or takes a choice, so fuel that is greater than what is left of
   -- these never ends a loop by itself
   abbrev pub turns : ℕ → ℕ → Does W → Does W
   turns zero id turn S w = Over OutOfTicks w

@@ -1,4 +1,4 @@
--- The laws of runs of a source. The bounds by which a run is defined are never met, so its meaning is that of the rules
+-- The laws of runs of a source. The fuel by which a run is defined never ends it, so its meaning is that of the rules
 -- alone (The Rust Reference, "Loop expressions", "Call expressions").
 use Rattle.std.specs.Prelude.{◌≡◌, ℕ, suc, ℤ, ◌<◌, ◌≤◌, List, length, Option}
 use Rattle.mir_base.specs.declared.trace.Event.{Event}
@@ -13,7 +13,7 @@ use Rattle.src_meaning.specs.Locals.Effects.{at_locals}
 use Rattle.src_meaning.specs.Locals.OfBody.{local_of}
 use Rattle.src_meaning.specs.Programs.{activation, setting_of, code_of, source}
 
--- two bounds on the turns of loops that are greater than the number of items give the same free run of a body
+-- two amounts of fuel for the turns of loops that are greater than the number of choices give the same free run of a body
 abbrev pub FuelOfFreeRunsIsIrrelevant : Type 0
 FuelOfFreeRunsIsIrrelevant =
     (items : ItemTable) (body : BodyTree) (local_ty : ℕ → Option TyId) (fuel other : ℕ) (w : AbstractState) →
@@ -21,7 +21,7 @@ FuelOfFreeRunsIsIrrelevant =
     activation items (at_locals (local_of items body) (abstract_effects items local_ty)) fuel body w
     ≡ activation items (at_locals (local_of items body) (abstract_effects items local_ty)) other body w
 
--- Two bounds on nesting that are no less than the ticks give the same run of a body: the bounds on turns and on drops,
+-- Two amounts of fuel for nesting that are no less than the ticks give the same run of a body: the fuel for turns and for drops,
 -- which go with them, are never met.
 abbrev pub FuelOfRunsIsIrrelevant : Type 0
 FuelOfRunsIsIrrelevant = (program : ProgramTree) (n m : ℕ) (event : Event) (body : ℕ) (args : List Datum) (w : State) →

@@ -111,7 +111,7 @@ free_run items body list =
     (suc (length list)) body
     (at_start (range_with_len 1 (length body.params)) list)
 
--- the refused use at which a run has halted, if all items are taken
+-- the refused use at which a run has halted, if all choices are taken
 abbrev use_if_taken : Site → List Bool → Option Site
 use_if_taken site [] = Some site
 use_if_taken site (i ∷ rest) = None
@@ -125,11 +125,11 @@ abbrev pub refused_of : Out AbstractState → Option Site
 refused_of (Halts halt w) = refused_of_halt halt w.choices
 refused_of out = None
 
--- the use that a list of items reaches: the run takes exactly the list, and then meets it
+-- the use that a list of choices reaches: the run takes exactly the list, and then meets it
 abbrev pub reached_by : ItemTable → BodyTree → List Bool → Option Site
 reached_by items body list = refused_of (free_run items body list)
 
--- no list of items reaches a refused use in any body
+-- no list of choices reaches a refused use in any body
 abbrev pub IsAccepted : ProgramTree → Type 0
 IsAccepted program = (n : ℕ) (body : BodyTree) (list : List Bool) →
     slice_get program.bodies n ≡ Some body → reached_by program.items body list ≡ None

@@ -2,8 +2,8 @@
 ghost use Rattle.src_meaning.specs.Laws.{FuelOfFreeRunsIsIrrelevant, FuelOfRunsIsIrrelevant, SourceRunGoesOn};
 ghost use Rattle.src_meaning.specs.Takes.{TestsHoldWhereTaken};
 
-/// The bounds by which a run is defined are never met: with no more ticks than the bounds on nesting, or
-/// with fewer items of a free run than the bounds on turns, two bounds give the same run of a body.
+/// The fuel by which a run is defined never ends it: with no more ticks than the fuel for nesting, or
+/// with fewer choices of a free run than the fuel for turns, two amounts of it give the same run of a body.
 pub fn law_of_runs()
     ensures values { FuelOfRunsIsIrrelevant }
     ensures free { FuelOfFreeRunsIsIrrelevant }

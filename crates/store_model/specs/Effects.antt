@@ -81,8 +81,8 @@ pub data Mode : Type 0 where
   Unwinding : Mode
 
 -- Why a run halts at once, with no further drops: a second panic while unwinding, no tick, no step that the rules give
--- (in a block of a graph, once that is known), and in a free run a refused use of a place, an item that is missing,
--- an item that no run takes, or a point past which no run comes.
+-- (in a block of a graph, once that is known), and in a free run a refused use of a place, a choice that is missing,
+-- a choice that no run takes, or a point past which no run comes.
 pub data Halt : Type 0 where
   Aborted : Halt
   OutOfTicks : Halt

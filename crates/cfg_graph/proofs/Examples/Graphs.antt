@@ -132,8 +132,14 @@ heads =
     ∷ head (codes "main::closure#1") (id 14 ∷ []) 0 ∷ head (codes "stop") [] 13 ∷ []
 
 abbrev pub items : ItemTable
-items = record { types = types; adts = d ∷ e ∷ []; traits = show ∷ []; impls = show_d ∷ []; closures = closure ∷ [];
-    bodies = heads }
+items = record {
+  types = types;
+  adts = d ∷ e ∷ [];
+  traits = show ∷ [];
+  impls = show_d ∷ [];
+  closures = closure ∷ [];
+  bodies = heads;
+}
 
 abbrev show_of_d : Body
 show_of_d = body 1 (id 2 ∷ id 15 ∷ []) (last ∷ [])

@@ -70,8 +70,12 @@ a_name_with_a_space : first_fault (with_items (record items { traits = record sh
 a_name_with_a_space = refl
 
 a_variant_with_a_mark : first_fault (with_items
-    (record items { adts = d ∷ record e { variants = record { name = codes "A<"; fields = []; field_names = [] } ∷
-    [] } ∷ [] })) ≡ Some (item_fault 7 1)
+    (record items {
+      adts = d ∷ record e {
+        variants = record { name = codes "A<"; fields = []; field_names = [] } ∷
+            [];
+      } ∷ [];
+    })) ≡ Some (item_fault 7 1)
 a_variant_with_a_mark = refl
 
 a_struct_named_as_a_type : first_fault (with_items (record items { adts = record d { name = codes "u64" } ∷ e ∷ [] }))
@@ -94,9 +98,11 @@ a_second_impl_for_a_type : first_fault (with_items (record items { impls = show_
 a_second_impl_for_a_type = refl
 
 a_second_body_of_a_name : first_fault
-    (with_items (record items { bodies = head (codes "main") (id 3 ∷ []) 2 ∷ head (codes "main") [] 2 ∷
-    head (codes "D::show") (id 15 ∷ []) 2 ∷ head (codes "main::closure#1") (id 14 ∷ []) 0 ∷
-    head (codes "stop") [] 13 ∷ [] })) ≡ Some (fault 7 1 nowhere nowhere)
+    (with_items (record items {
+      bodies = head (codes "main") (id 3 ∷ []) 2 ∷ head (codes "main") [] 2 ∷
+          head (codes "D::show") (id 15 ∷ []) 2 ∷ head (codes "main::closure#1") (id 14 ∷ []) 0 ∷
+          head (codes "stop") [] 13 ∷ [];
+    })) ≡ Some (fault 7 1 nowhere nowhere)
 a_second_body_of_a_name = refl
 
 the_lowest_number_of_a_line : first_fault

@@ -49,15 +49,25 @@ a_local_of_no_type = refl
 no_block : first_fault (with_main (id 2 ∷ []) []) ≡ Some (fault 1 1 nowhere nowhere)
 no_block = refl
 
-no_main : first_fault (with_items (record items { bodies = head (codes "D::drop") (id 3 ∷ []) 2 ∷
-    head (codes "maine") [] 2 ∷ head (codes "D::show") (id 15 ∷ []) 2 ∷
-    head (codes "main::closure#1") (id 14 ∷ []) 0 ∷ head (codes "stop") [] 13 ∷ [] }))
+no_main : first_fault (with_items (record items {
+  bodies = head (codes "D::drop") (id 3 ∷ []) 2 ∷
+      head (codes "maine") [] 2 ∷ head (codes "D::show") (id 15 ∷ []) 2 ∷
+      head (codes "main::closure#1") (id 14 ∷ []) 0 ∷ head (codes "stop") [] 13 ∷ [];
+}))
     ≡ Some (fault 1 nowhere nowhere nowhere)
 no_main = refl
 
-main_with_a_parameter : first_fault (record
-    { items = record items { closures = []; adts = []; traits = []; impls = []; bodies =
-    head (codes "main") (id 0 ∷ []) 2 ∷ [] }; bodies = body 1 (id 2 ∷ id 0 ∷ []) (last ∷ []) ∷ [] })
+main_with_a_parameter : first_fault (record {
+  items = record items {
+    closures = [];
+    adts = [];
+    traits = [];
+    impls = [];
+    bodies =
+        head (codes "main") (id 0 ∷ []) 2 ∷ [];
+  };
+  bodies = body 1 (id 2 ∷ id 0 ∷ []) (last ∷ []) ∷ [];
+})
     ≡ Some (fault 1 nowhere nowhere nowhere)
 main_with_a_parameter = refl
 
@@ -87,6 +97,15 @@ no_such_index : first_fault (with_main (id 2 ∷ id 11 ∷ [])
 no_such_index = refl
 
 fewer_locals_than_parameters : first_fault
-    (record { items = record items { closures = []; adts = []; traits = []; impls = []; bodies =
-    head (codes "main") [] 2 ∷ [] }; bodies = body 0 [] (last ∷ []) ∷ [] }) ≡ Some (fault 2 0 nowhere nowhere)
+    (record {
+      items = record items {
+        closures = [];
+        adts = [];
+        traits = [];
+        impls = [];
+        bodies =
+            head (codes "main") [] 2 ∷ [];
+      };
+      bodies = body 0 [] (last ∷ []) ∷ [];
+    }) ≡ Some (fault 2 0 nowhere nowhere)
 fewer_locals_than_parameters = refl

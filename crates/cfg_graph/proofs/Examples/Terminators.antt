@@ -78,15 +78,19 @@ a_drop_body_of_another_type : first_fault
 a_drop_body_of_another_type = refl
 
 a_dyn_field : first_fault (with_items
-    (record items { adts = d ∷ record e
-    { variants = record { name = codes "A"; fields = id 7 ∷ []; field_names = codes "0" ∷ [] } ∷ [] } ∷ [] }))
+    (record items {
+      adts = d ∷ record e
+          { variants = record { name = codes "A"; fields = id 7 ∷ []; field_names = codes "0" ∷ [] } ∷ [] } ∷ [];
+    }))
     ≡ Some (item_fault 3 1)
 a_dyn_field = refl
 
 an_enum_that_holds_itself : first_fault
-    (with_items (record items { adts = d ∷
-    record e { variants = record { name = codes "A"; fields = id 12 ∷ []; field_names = codes "0" ∷ [] } ∷ [] } ∷
-    [] })) ≡ Some (item_fault 3 1)
+    (with_items (record items {
+      adts = d ∷
+          record e { variants = record { name = codes "A"; fields = id 12 ∷ []; field_names = codes "0" ∷ [] } ∷ [] } ∷
+          [];
+    })) ≡ Some (item_fault 3 1)
 an_enum_that_holds_itself = refl
 
 a_closure_that_holds_itself : first_fault

@@ -1,4 +1,4 @@
--- Which lists of items reach a refused use: 1 is true, or a panic.
+-- Which lists of choices reach a refused use: 1 is true, or a panic.
 use Rattle.std.proofs.Common.{◌≡◌, refl, [], ◌∷◌, pos}
 use Rattle.std.specs.Prelude.{ℕ, List, Option, Some, None, Bool, true, false, codes}
 use Rattle.mir_ty.specs.declared.ty.Ty.{Ty}
@@ -115,7 +115,7 @@ moved_if = record { items = items; bodies = drop_d ∷ take ∷ main_if ∷ [] }
 abbrev again : ProgramTree
 again = record { items = items; bodies = drop_d ∷ take ∷ main_again ∷ [] }
 
--- No list of items reaches a refused use: a run takes so many of a list, and ends.
+-- No list of choices reaches a refused use: a run takes so many of a list, and ends.
 none_in_drop_d : (list : List Bool) → reached_by items drop_d list ≡ None
 none_in_drop_d list = refl
 

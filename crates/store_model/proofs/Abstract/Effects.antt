@@ -1,4 +1,4 @@
--- The effects of a free run give no item back.
+-- The effects of a free run give no choice back.
 use Rattle.std.proofs.Common.{ℕ, ◌≤◌, Bool, true, false, List, [], ◌∷◌, length, if◌then◌else◌, Option, arith}
 use Rattle.std.specs.Option.{option_map_or}
 use Rattle.mir_ty.specs.declared.ty.TyId.{TyId}

@@ -400,7 +400,7 @@ module _ (setting : Setting) (code : Code) (keeps : KeepsTicks code) where
   pub body_thrifty : (n : ℕ) → Thrifty (run_body setting code n)
   body_thrifty n = spending_thrifty (run_body setting code n) (body_spends n)
 
--- Two sets of bodies that agree where at most so many ticks are left, and two bounds that are greater, are the same
+-- Two sets of bodies that agree where at most so many ticks are left, and two amounts of fuel that are greater, are the same
 -- effects there.
 abbrev pub Agree : ℕ → Bodies → Bodies → Type 0
 Agree n run run' = (event : Event) (body : ℕ) (args : List Datum) (w : State) → w.ticks ≤ n → run event body args w ≡ run' event body args w
@@ -569,7 +569,7 @@ module _ (setting : Setting) (run run' : Bodies) (spending : Spending run) (n : 
       giving = λ site w l. refl;
     }
 
--- what is done within bodies is the same with effects that are, and with two bounds on turns that are greater than the
+-- what is done within bodies is the same with effects that are, and with two amounts of fuel for turns that are greater than the
 -- ticks that are left
 abbrev pub TiesTicks : Code → Type 0
 TiesTicks code =
@@ -585,7 +585,7 @@ after_spending_same : (k n m : ℕ) (w : State) (next next' : State → Answer) 
 after_spending_same zero n m w next next' l l' e = refl
 after_spending_same (suc k) n m w next next' l l' e = e (record w { ticks = k }) (omega arith) (omega arith)
 
--- two bounds on nesting that are no less than the ticks that are left give the same
+-- Two amounts of fuel for nesting that are no less than the ticks that are left give the same
 module _ (setting : Setting) (code : Code) (keeps : KeepsTicks code) (ties : TiesTicks code) where
   abbrev bodies : ℕ → Bodies
   bodies n = run_body setting code n

@@ -19,7 +19,7 @@ Outlives _ _ w later = ⊥
 abbrev pub one_tick_more : Relation State State
 one_tick_more = record {
   Known = State;
-  Items = Unit {0};
+  Choices = Unit {0};
   feed = λ t c. c;
   none = tt;
   joined = λ a b. tt;

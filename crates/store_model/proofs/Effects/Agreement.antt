@@ -9,7 +9,7 @@ use Rattle.store_model.specs.Effects.{Out, Go, Unwind, Halts, Choice, Yes, No, N
 abbrev pub agreement : {W : Type 0} → (W → ℕ) → ℕ → Relation W W
 agreement {W} size k = record {
   Known = W;
-  Items = Unit {0};
+  Choices = Unit {0};
   feed = λ t c. c;
   none = tt;
   joined = λ a b. tt;

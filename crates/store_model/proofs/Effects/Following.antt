@@ -1,5 +1,5 @@
 -- One run follows another, over other effects and other states: what leads to both does the same, where the second is
--- fed with what the first finds out, as a free run is fed with the items that a run on values takes. The first may
+-- fed with what the first finds out, as a free run is fed with the choices that a run on values takes. The first may
 -- lapse, or the second refuse, and then nothing is said of the other; or the second outlives the first, and then
 -- follows another run, its shadow. What is said of two states depends on a stage, such as a number that what is left
 -- of ticks does not exceed.
@@ -9,15 +9,15 @@ use Rattle.std.proofs.Common.{◌≡◌, ℕ, suc, ◌<◌, ◌≤◌, ap, ◌�
 use Rattle.mir_base.specs.declared.trace.Why.{Why}
 use Rattle.store_model.specs.Effects.{Site, Action, Test, Mode, Halt, Aborted, OutOfTicks, Out, Go, Unwind, Halts, aborting, Choice, Yes, No, Neither, Effects, on_go}
 
--- a state of the second run is what is known, fed with items
+-- a state of the second run is what is known, fed with choices
 pub record Relation (W V : Type 0) : Type 1 where
   pub Known : Type 0
-  pub Items : Type 0
-  pub feed : Items → Known → V
-  pub none : Items
-  pub joined : Items → Items → Items
-  pub from_none : (t : Items) → joined none t ≡ t
-  pub associates : (a b c : Items) → joined (joined a b) c ≡ joined a (joined b c)
+  pub Choices : Type 0
+  pub feed : Choices → Known → V
+  pub none : Choices
+  pub joined : Choices → Choices → Choices
+  pub from_none : (t : Choices) → joined none t ≡ t
+  pub associates : (a b c : Choices) → joined (joined a b) c ≡ joined a (joined b c)
   pub Stage : Type 0
   pub related : Stage → W → Known → Type 0
   pub halted : Stage → W → Known → Type 0  -- what is said of two states where both have halted
@@ -26,31 +26,31 @@ pub record Relation (W V : Type 0) : Type 1 where
   pub outlives : Stage → Halt → W → Stage → Type 0  -- where the second goes on as its shadow does from a stage on
   pub refuses : Halt → Type 0  -- where the second ends without the first
 
-pub data FollowsOut {W V : Type 0} (rel : Relation W V) : rel.Stage → Out W → (rel.Items → Out V) → Type 0 where
-  goes_on : (n : rel.Stage) (w : W) (c : rel.Known) (l : rel.Items) (g : rel.Items → Out V) → rel.related n w c →
-      ((rest : rel.Items) → g (rel.joined l rest) ≡ Go (rel.feed rest c)) → FollowsOut rel n (Go w) g
-  unwinds : (n : rel.Stage) (w : W) (c : rel.Known) (l : rel.Items) (g : rel.Items → Out V) → rel.related n w c →
-      ((rest : rel.Items) → g (rel.joined l rest) ≡ Unwind (rel.feed rest c)) → FollowsOut rel n (Unwind w) g
-  halts : (n : rel.Stage) (halt : Halt) (w : W) (c : rel.Known) (l : rel.Items) (g : rel.Items → Out V) → rel.halted n w c →
-      ((rest : rel.Items) → g (rel.joined l rest) ≡ Halts halt (rel.feed rest c)) → FollowsOut rel n (Halts halt w) g
-  lapsed : (n : rel.Stage) (halt : Halt) (w : W) (g : rel.Items → Out V) → rel.lapses n halt w → FollowsOut rel n (Halts halt w) g
-  outlived : (n : rel.Stage) (halt : Halt) (w : W) (later : rel.Stage) (shadow : Out W) (g : rel.Items → Out V) →
+pub data FollowsOut {W V : Type 0} (rel : Relation W V) : rel.Stage → Out W → (rel.Choices → Out V) → Type 0 where
+  goes_on : (n : rel.Stage) (w : W) (c : rel.Known) (l : rel.Choices) (g : rel.Choices → Out V) → rel.related n w c →
+      ((rest : rel.Choices) → g (rel.joined l rest) ≡ Go (rel.feed rest c)) → FollowsOut rel n (Go w) g
+  unwinds : (n : rel.Stage) (w : W) (c : rel.Known) (l : rel.Choices) (g : rel.Choices → Out V) → rel.related n w c →
+      ((rest : rel.Choices) → g (rel.joined l rest) ≡ Unwind (rel.feed rest c)) → FollowsOut rel n (Unwind w) g
+  halts : (n : rel.Stage) (halt : Halt) (w : W) (c : rel.Known) (l : rel.Choices) (g : rel.Choices → Out V) → rel.halted n w c →
+      ((rest : rel.Choices) → g (rel.joined l rest) ≡ Halts halt (rel.feed rest c)) → FollowsOut rel n (Halts halt w) g
+  lapsed : (n : rel.Stage) (halt : Halt) (w : W) (g : rel.Choices → Out V) → rel.lapses n halt w → FollowsOut rel n (Halts halt w) g
+  outlived : (n : rel.Stage) (halt : Halt) (w : W) (later : rel.Stage) (shadow : Out W) (g : rel.Choices → Out V) →
       rel.outlives n halt w later → FollowsOut rel later shadow g → FollowsOut rel n (Halts halt w) g
-  refused : (n : rel.Stage) (o : Out W) (halt : Halt) (c : rel.Known) (l : rel.Items) (g : rel.Items → Out V) → rel.refuses halt →
-      ((rest : rel.Items) → g (rel.joined l rest) ≡ Halts halt (rel.feed rest c)) → FollowsOut rel n o g
+  refused : (n : rel.Stage) (o : Out W) (halt : Halt) (c : rel.Known) (l : rel.Choices) (g : rel.Choices → Out V) → rel.refuses halt →
+      ((rest : rel.Choices) → g (rel.joined l rest) ≡ Halts halt (rel.feed rest c)) → FollowsOut rel n o g
 
-pub data FollowsChoice {W V : Type 0} (rel : Relation W V) : rel.Stage → Choice W → (rel.Items → Choice V) → Type 0 where
-  takes : (n : rel.Stage) (w : W) (c : rel.Known) (l : rel.Items) (g : rel.Items → Choice V) → rel.related n w c →
-      ((rest : rel.Items) → g (rel.joined l rest) ≡ Yes (rel.feed rest c)) → FollowsChoice rel n (Yes w) g
-  declines : (n : rel.Stage) (w : W) (c : rel.Known) (l : rel.Items) (g : rel.Items → Choice V) → rel.related n w c →
-      ((rest : rel.Items) → g (rel.joined l rest) ≡ No (rel.feed rest c)) → FollowsChoice rel n (No w) g
-  neither : (n : rel.Stage) (halt : Halt) (w : W) (c : rel.Known) (l : rel.Items) (g : rel.Items → Choice V) → rel.halted n w c →
-      ((rest : rel.Items) → g (rel.joined l rest) ≡ Neither halt (rel.feed rest c)) → FollowsChoice rel n (Neither halt w) g
-  lapsed_choice : (n : rel.Stage) (halt : Halt) (w : W) (g : rel.Items → Choice V) → rel.lapses n halt w → FollowsChoice rel n (Neither halt w) g
-  outlived_choice : (n : rel.Stage) (halt : Halt) (w : W) (later : rel.Stage) (shadow : Choice W) (g : rel.Items → Choice V) →
+pub data FollowsChoice {W V : Type 0} (rel : Relation W V) : rel.Stage → Choice W → (rel.Choices → Choice V) → Type 0 where
+  takes : (n : rel.Stage) (w : W) (c : rel.Known) (l : rel.Choices) (g : rel.Choices → Choice V) → rel.related n w c →
+      ((rest : rel.Choices) → g (rel.joined l rest) ≡ Yes (rel.feed rest c)) → FollowsChoice rel n (Yes w) g
+  declines : (n : rel.Stage) (w : W) (c : rel.Known) (l : rel.Choices) (g : rel.Choices → Choice V) → rel.related n w c →
+      ((rest : rel.Choices) → g (rel.joined l rest) ≡ No (rel.feed rest c)) → FollowsChoice rel n (No w) g
+  neither : (n : rel.Stage) (halt : Halt) (w : W) (c : rel.Known) (l : rel.Choices) (g : rel.Choices → Choice V) → rel.halted n w c →
+      ((rest : rel.Choices) → g (rel.joined l rest) ≡ Neither halt (rel.feed rest c)) → FollowsChoice rel n (Neither halt w) g
+  lapsed_choice : (n : rel.Stage) (halt : Halt) (w : W) (g : rel.Choices → Choice V) → rel.lapses n halt w → FollowsChoice rel n (Neither halt w) g
+  outlived_choice : (n : rel.Stage) (halt : Halt) (w : W) (later : rel.Stage) (shadow : Choice W) (g : rel.Choices → Choice V) →
       rel.outlives n halt w later → FollowsChoice rel later shadow g → FollowsChoice rel n (Neither halt w) g
-  refused_choice : (n : rel.Stage) (o : Choice W) (halt : Halt) (c : rel.Known) (l : rel.Items) (g : rel.Items → Choice V) → rel.refuses halt →
-      ((rest : rel.Items) → g (rel.joined l rest) ≡ Neither halt (rel.feed rest c)) → FollowsChoice rel n o g
+  refused_choice : (n : rel.Stage) (o : Choice W) (halt : Halt) (c : rel.Known) (l : rel.Choices) (g : rel.Choices → Choice V) → rel.refuses halt →
+      ((rest : rel.Choices) → g (rel.joined l rest) ≡ Neither halt (rel.feed rest c)) → FollowsChoice rel n o g
 
 -- at each stage, wherever states are related
 abbrev pub FollowsOuts : {W V : Type 0} → Relation W V → (W → Out W) → (V → Out V) → Type 0
@@ -69,14 +69,14 @@ pub record FollowsEffects {W V : Type 0} (rel : Relation W V) (p : Effects W) (q
   pub giving : (site : Site) → FollowsOuts rel (p.give site) (q.give site)
 
 module _ {W V : Type 0} (rel : Relation W V) where
-  -- some items are taken before
-  abbrev pub along : {A : Type 0} (l m : rel.Items) (g g' : rel.Items → A) (x : rel.Items → A) →
-      ((rest : rel.Items) → g (rel.joined l rest) ≡ g' rest) → ((rest : rel.Items) → g' (rel.joined m rest) ≡ x rest) →
-      (rest : rel.Items) → g (rel.joined (rel.joined l m) rest) ≡ x rest
+  -- some choices are taken before
+  abbrev pub along : {A : Type 0} (l m : rel.Choices) (g g' : rel.Choices → A) (x : rel.Choices → A) →
+      ((rest : rel.Choices) → g (rel.joined l rest) ≡ g' rest) → ((rest : rel.Choices) → g' (rel.joined m rest) ≡ x rest) →
+      (rest : rel.Choices) → g (rel.joined (rel.joined l m) rest) ≡ x rest
   along l m g g' x e d rest = ap g (rel.associates l m rest) ∙ e (rel.joined m rest) ∙ d rest
 
-  pub out_after : {n : rel.Stage} {o : Out W} {g' : rel.Items → Out V} (l : rel.Items) (g : rel.Items → Out V) →
-      ((rest : rel.Items) → g (rel.joined l rest) ≡ g' rest) → FollowsOut rel n o g' → FollowsOut rel n o g
+  pub out_after : {n : rel.Stage} {o : Out W} {g' : rel.Choices → Out V} (l : rel.Choices) (g : rel.Choices → Out V) →
+      ((rest : rel.Choices) → g (rel.joined l rest) ≡ g' rest) → FollowsOut rel n o g' → FollowsOut rel n o g
   out_after l g e (goes_on n w c m g' k d) = goes_on n w c (rel.joined l m) g k (along l m g g' _ e d)
   out_after l g e (unwinds n w c m g' k d) = unwinds n w c (rel.joined l m) g k (along l m g g' _ e d)
   out_after l g e (halts n halt w c m g' k d) = halts n halt w c (rel.joined l m) g k (along l m g g' _ e d)
@@ -84,8 +84,8 @@ module _ {W V : Type 0} (rel : Relation W V) where
   out_after l g e (outlived n halt w later s g' k d) = outlived n halt w later s g k (out_after l g e d)
   out_after l g e (refused n o halt c m g' k d) = refused n o halt c (rel.joined l m) g k (along l m g g' _ e d)
 
-  pub choice_after : {n : rel.Stage} {o : Choice W} {g' : rel.Items → Choice V} (l : rel.Items) (g : rel.Items → Choice V) →
-      ((rest : rel.Items) → g (rel.joined l rest) ≡ g' rest) → FollowsChoice rel n o g' → FollowsChoice rel n o g
+  pub choice_after : {n : rel.Stage} {o : Choice W} {g' : rel.Choices → Choice V} (l : rel.Choices) (g : rel.Choices → Choice V) →
+      ((rest : rel.Choices) → g (rel.joined l rest) ≡ g' rest) → FollowsChoice rel n o g' → FollowsChoice rel n o g
   choice_after l g e (takes n w c m g' k d) = takes n w c (rel.joined l m) g k (along l m g g' _ e d)
   choice_after l g e (declines n w c m g' k d) = declines n w c (rel.joined l m) g k (along l m g g' _ e d)
   choice_after l g e (neither n halt w c m g' k d) = neither n halt w c (rel.joined l m) g k (along l m g g' _ e d)
@@ -109,7 +109,7 @@ module _ {W V : Type 0} (rel : Relation W V) where
   says_no n w c k = declines n w c rel.none _ k (λ rest. ap (λ t. No (rel.feed t c)) (rel.from_none rest))
 
   -- one effect after another
-  pub after_go : {n : rel.Stage} {o : Out W} {g : rel.Items → Out V} {f : W → Out W} (f' : V → Out V) → FollowsOut rel n o g → FollowsOuts rel f f' →
+  pub after_go : {n : rel.Stage} {o : Out W} {g : rel.Choices → Out V} {f : W → Out W} (f' : V → Out V) → FollowsOut rel n o g → FollowsOuts rel f f' →
       FollowsOut rel n (on_go o f) (λ t. on_go (g t) f')
   after_go {n} {o} {g} {f} f' (goes_on m w c l _ k d) e = out_after l (λ t. on_go (g t) f') (λ rest. ap (λ x. on_go x f') (d rest)) (e m w c k)
   after_go {n} {o} {g} {f} f' (unwinds m w c l _ k d) e = unwinds m w c l _ k (λ rest. ap (λ x. on_go x f') (d rest))
@@ -119,7 +119,7 @@ module _ {W V : Type 0} (rel : Relation W V) where
   after_go {n} {o} {g} {f} f' (refused m _ halt c l _ k d) e = refused m _ halt c l _ k (λ rest. ap (λ x. on_go x f') (d rest))
 
   -- a drop made while unwinding, and what comes next
-  pub after_drop : {n : rel.Stage} {o : Out W} {g : rel.Items → Out V} {f : W → Out W} (f' : V → Out V) → FollowsOut rel n o g → FollowsOuts rel f f' →
+  pub after_drop : {n : rel.Stage} {o : Out W} {g : rel.Choices → Out V} {f : W → Out W} (f' : V → Out V) → FollowsOut rel n o g → FollowsOuts rel f f' →
       FollowsOut rel n (aborting o f) (λ t. aborting (g t) f')
   after_drop {n} {o} {g} {f} f' (goes_on m w c l _ k d) e = out_after l (λ t. aborting (g t) f') (λ rest. ap (λ x. aborting x f') (d rest)) (e m w c k)
   after_drop {n} {o} {g} {f} f' (unwinds m w c l _ k d) e = halts m Aborted w c l _ (rel.at_halt m w c k) (λ rest. ap (λ x. aborting x f') (d rest))
@@ -128,7 +128,7 @@ module _ {W V : Type 0} (rel : Relation W V) where
   after_drop {n} {o} {g} {f} f' (outlived m halt w later s _ k d) e = outlived m halt w later (aborting s f) _ k (after_drop f' d e)
   after_drop {n} {o} {g} {f} f' (refused m _ halt c l _ k d) e = refused m _ halt c l _ k (λ rest. ap (λ x. aborting x f') (d rest))
 
--- Turns of loops, each of which spends a tick or takes an item, are bounded by a number.
+-- Turns of loops, each of which spends a tick or takes a choice, are bounded by a number.
 
 -- what is said at a stage is said at another
 pub record Within {W V : Type 0} (rel : Relation W V) (later n : rel.Stage) : Type 0 where
@@ -138,7 +138,7 @@ pub record Within {W V : Type 0} (rel : Relation W V) (later n : rel.Stage) : Ty
   pub outliving : (halt : Halt) (w : W) (shadow : rel.Stage) → rel.outlives later halt w shadow → rel.outlives n halt w shadow
 
 -- where a tick goes on, less is left
-abbrev pub FollowsTick : {W V : Type 0} → (rel : Relation W V) → (rel.Stage → ℕ) → rel.Stage → Out W → (rel.Items → Out V) → Type 0
+abbrev pub FollowsTick : {W V : Type 0} → (rel : Relation W V) → (rel.Stage → ℕ) → rel.Stage → Out W → (rel.Choices → Out V) → Type 0
 FollowsTick rel left n (Go w) g = (later : rel.Stage) × (suc (left later) ≤ left n) × Within rel later n × FollowsOut rel later (Go w) g
 FollowsTick rel left n (Unwind w) g = FollowsOut rel n (Unwind w) g
 FollowsTick rel left n (Halts halt w) g = FollowsOut rel n (Halts halt w) g
@@ -156,7 +156,7 @@ pub data Bounds {W V : Type 0} (rel : Relation W V) (tick : W → Out W) (tick' 
       ((s : rel.Stage) (w : W) (c : rel.Known) → rel.related s w c → left s < n') → FollowsTicks rel left tick tick' →
       ((s : rel.Stage) (halt : Halt) (w : W) (later : rel.Stage) → rel.outlives s halt w later → ⊥) → Bounds rel tick tick' n n'
 
-pub within_out : {W V : Type 0} (rel : Relation W V) {later n : rel.Stage} {o : Out W} {g : rel.Items → Out V} → Within rel later n →
+pub within_out : {W V : Type 0} (rel : Relation W V) {later n : rel.Stage} {o : Out W} {g : rel.Choices → Out V} → Within rel later n →
     FollowsOut rel later o g → FollowsOut rel n o g
 within_out rel i (goes_on m w c l g k d) = goes_on _ w c l g (i.relating w c k) d
 within_out rel i (unwinds m w c l g k d) = unwinds _ w c l g (i.relating w c k) d

@@ -1,5 +1,5 @@
 -- What the effects of a run may take: laws over any record of effects, and over any size of what is left, the ticks of a
--- run on values or the items of a free run.
+-- run on values or the choices of a free run.
 use Rattle.std.proofs.Common.{◌≡◌, ℕ, suc, ◌≤◌, arith}
 use Rattle.mir_base.specs.declared.trace.Why.{Why}
 use Rattle.store_model.specs.Effects.{Action, Test, Mode, Site, Out, Go, Unwind, Halts, Choice, Yes, No, Neither, Effects}

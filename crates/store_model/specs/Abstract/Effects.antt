@@ -1,5 +1,5 @@
 -- The effects of a free run: what is present and gone, without values. A condition may go either way, and what can
--- panic may panic: a list of items answers, 1 for true and for a panic. Called bodies are not entered. A run ends at
+-- panic may panic: a list of choices answers, 1 for true and for a panic. Called bodies are not entered. A run ends at
 -- the first use of a place that is refused (The Rust Reference, "Moved and copied types"; rustc's error E0382).
 use Rattle.std.specs.Prelude.{ℕ, ◌==◌, Bool, true, false, List, [], ◌∷◌, Option, option_and_then, if◌then◌else◌}
 use Rattle.std.specs.Option.{option_map_or}
@@ -12,7 +12,7 @@ use Rattle.store_model.specs.Places.Place.{place_ty, Watched, Whole, ThroughRefe
 use Rattle.store_model.specs.Abstract.Presence.{Presence, is_present, is_gone, after_action, containers_present, is_whole_at, is_there_at}
 use Rattle.store_model.specs.Places.TypeForms.{is_never}
 
--- what is known of the locals of a body, each gone where nothing is named; and the items that are left
+-- what is known of the locals of a body, each gone where nothing is named; and the choices that are left
 pub record AbstractState : Type 0 where
   pub cells : List (ℕ × Presence)
   pub choices : List Bool
@@ -57,7 +57,7 @@ may_store w p = elim w.reach [
 abbrev acted : Bool → Watched → Presence → Presence
 acted takes w p = elim w.reach [ Whole ↦ after_action takes w.steps p | ThroughReference ↦ p | ByElement ↦ p ]
 
--- one item: 0, 1, or none is left
+-- one choice: 0, 1, or none is left
 abbrev pub next_choice : List Bool → AbstractState → (AbstractState → Out AbstractState) →
     (AbstractState → Out AbstractState) → Out AbstractState
 next_choice [] w zero_does one_does = Halts NoChoice w
@@ -156,7 +156,7 @@ module _ (table : ItemTable) (local_ty : ℕ → Option TyId) where
   unwound Normal w = Unwind w
   unwound Unwinding w = Halts Aborted w
 
-  -- what needs dropping takes an item, whether it is gone or not; it is gone then, also after a panic
+  -- what needs dropping takes a choice, whether it is gone or not; it is gone then, also after a panic
   abbrev pub dropped : Bool → Mode → Site → AbstractState → Out AbstractState
   dropped true mode site w =
       next_choice w.choices w (λ w. Go (after true site w)) (λ w. unwound mode (after true site w))
@@ -167,7 +167,7 @@ module _ (table : ItemTable) (local_ty : ℕ → Option TyId) where
       when (may_store (watched_at site) (presence_of site w)) (BadStore site)
       (dropped (option_map_or (needs_drop table) (ty_at site) false) mode site) w
 
-  -- a turn of a loop always takes the item 0
+  -- a turn of a loop always takes the choice 0
   abbrev pub tick : AbstractState → Out AbstractState
   tick w = next_choice w.choices w Go (Halts Infeasible)
 

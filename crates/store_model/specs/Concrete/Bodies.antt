@@ -30,14 +30,14 @@ after_tick (Unwind w) next = Unwinds w
 after_tick (Halts halt w) next = HaltsIn halt w
 
 -- A program's bodies: under which numbers each has its arguments and its result, and what is done within it, given the
--- effects and a bound on the turns of a loop.
+-- effects and fuel for the turns of a loop.
 pub record Code : Type 0 where
   pub arguments : ℕ → List Datum → Cells
   pub answer : ℕ → ℕ
   pub within : Effects State → ℕ → ℕ → State → Out State
 
--- One tick is spent at each entry, before the line of it. Bodies are nested no deeper than the bound, which is at least
--- the ticks that are left, so it never ends a run by itself; neither do the bounds on turns and on drops, which are
+-- One tick is spent at each entry, before the line of it. Bodies are nested no deeper than the fuel, which is at least
+-- the ticks that are left, so it never ends a run by itself; neither do the fuel for turns and for drops, which are
 -- greater than the ticks that are left.
 abbrev pub run_body : Setting → Code → ℕ → Bodies
 run_body setting code zero event body args w = HaltsIn OutOfTicks w

@@ -131,7 +131,7 @@ module _ (setting : Setting) (run : Bodies) where
   abbrev pub dropped_there : (Stage → Located → Mode → State → Out State) → Stage → Mode → Located → State → Out State
   dropped_there again stage mode s w = drop_value again w.ticks s.value stage s mode w
 
-  -- what stands at an address is dropped. Before each reading again a tick is spent, so the bound, which is to be
+  -- what stands at an address is dropped. Before each reading again a tick is spent, so the fuel, which is to be
   -- greater than the ticks that are left, never ends a run by itself
   abbrev pub drop_at : ℕ → Stage → Located → Mode → State → Out State
   drop_at zero stage s mode w = Halts OutOfTicks w

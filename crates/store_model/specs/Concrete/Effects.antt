@@ -346,7 +346,7 @@ module _ (setting : Setting) where
     nothing_if true w = Halts Stuck w
     nothing_if false w = Go w
 
-    -- the bound is greater than the ticks that are left
+    -- the fuel is greater than the ticks that are left
     abbrev pub drop : ℕ → Mode → Site → State → Out State
     drop fuel mode site w =
         on_reached (reach setting w site.place)
