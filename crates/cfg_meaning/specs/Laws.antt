@@ -60,8 +60,8 @@ FuelOfFreeWalksIsIrrelevant =
 abbrev pub bodies_of : Bool → Graph → ℕ → Bodies
 bodies_of strict graph n = run_body (setting_of strict graph) (code_of graph) n
 
--- Two amounts of fuel for nesting that are no less than the ticks give the same run of a body, whatever its graph is: the fuel
--- on turns and on drops, which go with them, are never met.
+-- Two amounts of fuel for nesting that are no less than the ticks give the same run of a body, whatever its graph is;
+-- the fuel for turns and for drops goes with it.
 abbrev pub FuelOfGraphRunsIsIrrelevant : Type 0
 FuelOfGraphRunsIsIrrelevant =
     (strict : Bool) (graph : Graph) (n m : ℕ) (event : Event) (body : ℕ) (args : List Datum) (w : State) →

@@ -146,7 +146,7 @@ module _ {W : Type 0} (p : Effects W) (number : ℕ) (node : ℕ → ℕ → ℕ
   from_rank turn n w = blocks turn (suc (rank_at n)) n w
 
   -- fewer turns than so many: each spends a tick, or takes a choice, so fuel greater than what is left of these is
-  -- never met
+  -- never what ends it
   abbrev pub turns : ℕ → Next W
   turns zero n w = Halts OutOfTicks w
   turns (suc fuel) n w = if_there (slice_get body.blocks n) n (λ block. does_turn n block (from_rank (turns fuel))) w

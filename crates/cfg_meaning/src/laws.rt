@@ -9,9 +9,9 @@ ghost use Rattle.cfg_meaning.specs.Laws.{
   WalkIsOneEquation,
 };
 
-/// The walk of a ranked body is one equation: it is what its first block does, and then a walk. The fuel for turns is
-/// never met: with fewer ticks, or fewer choices of a free walk, two amounts of it give the same walk. Nor
-/// are the fuel for nesting and for drops: with no more ticks than two amounts of fuel, a body of a graph runs the same.
+/// The walk of a ranked body is one equation: it is what its first block does, and then a walk. The fuel on which the
+/// definition recurses never ends it: with fewer ticks, or fewer choices of a free walk, two amounts of it give the same
+/// walk; and with no more ticks than two amounts of fuel for nesting, a body of a graph runs the same.
 pub fn law_of_walks()
     ensures values { WalkIsOneEquation }
     ensures values_fuel { FuelOfWalksIsIrrelevant }

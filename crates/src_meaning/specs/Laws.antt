@@ -21,8 +21,8 @@ FuelOfFreeRunsIsIrrelevant =
     activation items (at_locals (local_of items body) (abstract_effects items local_ty)) fuel body w
     ≡ activation items (at_locals (local_of items body) (abstract_effects items local_ty)) other body w
 
--- Two amounts of fuel for nesting that are no less than the ticks give the same run of a body: the fuel for turns and for drops,
--- which go with them, are never met.
+-- Two amounts of fuel for nesting that are no less than the ticks give the same run of a body; the fuel for turns and
+-- for drops goes with it.
 abbrev pub FuelOfRunsIsIrrelevant : Type 0
 FuelOfRunsIsIrrelevant = (program : ProgramTree) (n m : ℕ) (event : Event) (body : ℕ) (args : List Datum) (w : State) →
     w.ticks ≤ n → w.ticks ≤ m →
