@@ -91,15 +91,22 @@ main number adt boxed = body 0 (unit ∷ adt ∷ boxed ∷ object_ty ∷ shared_
     ∷ block Kind.Cleanup 0 [] Term.Resume ∷ [])
 
 abbrev of : ℕ → TyId → TyId → Graph
-of number adt boxed = record { items = items; bodies = gives_unit unique_d_ty ∷ gives_unit unique_e_ty ∷
-    shows shared_d_ty ∷ shows shared_e_ty ∷ main number adt boxed ∷ [] }
+of number adt boxed = record {
+  items = items;
+  bodies = gives_unit unique_d_ty ∷ gives_unit unique_e_ty ∷
+      shows shared_d_ty ∷ shows shared_e_ty ∷ main number adt boxed ∷ [];
+}
 
 by_the_first_impl : graph_run (of 0 d_ty boxed_d_ty) [] 100
-    ≡ (call 4 ∷ make 0 1 ∷ box 2 ∷ call 2 ∷ printed (pos 5) ∷ return 2 ∷ drop 0 1 ∷ return 0 ∷ free 2 ∷ return 4 ∷ [],
-    End.Returned)
+    ≡ (
+      call 4 ∷ make 0 1 ∷ box 2 ∷ call 2 ∷ printed (pos 5) ∷ return 2 ∷ drop 0 1 ∷ return 0 ∷ free 2 ∷ return 4 ∷ [],
+      End.Returned,
+    )
 by_the_first_impl = refl
 
 by_the_second_impl : graph_run (of 1 e_ty boxed_e_ty) [] 100
-    ≡ (call 4 ∷ make 1 1 ∷ box 2 ∷ call 3 ∷ printed (pos 5) ∷ return 3 ∷ drop 1 1 ∷ return 1 ∷ free 2 ∷ return 4 ∷ [],
-    End.Returned)
+    ≡ (
+      call 4 ∷ make 1 1 ∷ box 2 ∷ call 3 ∷ printed (pos 5) ∷ return 3 ∷ drop 1 1 ∷ return 1 ∷ free 2 ∷ return 4 ∷ [],
+      End.Returned,
+    )
 by_the_second_impl = refl

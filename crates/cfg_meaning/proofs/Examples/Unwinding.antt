@@ -72,16 +72,23 @@ no_panic : graph_run (of calm calm) [] 100
 no_panic = refl
 
 on_the_calm_way : graph_run (of calm panics) [] 100
-    ≡ (call 1 ∷ make 0 1 ∷ make 0 2 ∷ drop 0 2 ∷ panic Why.Explicit ∷ unwind 0 ∷ drop 0 1 ∷ return 0 ∷ unwind 1 ∷ [],
-    End.Panicked)
+    ≡ (
+      call 1 ∷ make 0 1 ∷ make 0 2 ∷ drop 0 2 ∷ panic Why.Explicit ∷ unwind 0 ∷ drop 0 1 ∷ return 0 ∷ unwind 1 ∷ [],
+      End.Panicked,
+    )
 on_the_calm_way = refl
 
 the_last_on_the_calm_way : graph_run (of panics calm) [] 100
-    ≡ (call 1 ∷ make 0 1 ∷ make 0 2 ∷ drop 0 2 ∷ return 0 ∷ drop 0 1 ∷ panic Why.Explicit ∷ unwind 0 ∷ unwind 1 ∷ [],
-    End.Panicked)
+    ≡ (
+      call 1 ∷ make 0 1 ∷ make 0 2 ∷ drop 0 2 ∷ return 0 ∷ drop 0 1 ∷ panic Why.Explicit ∷ unwind 0 ∷ unwind 1 ∷ [],
+      End.Panicked,
+    )
 the_last_on_the_calm_way = refl
 
 in_a_cleanup_block : graph_run (of panics panics) [] 100
-    ≡ (call 1 ∷ make 0 1 ∷ make 0 2 ∷ drop 0 2 ∷ panic Why.Explicit ∷ unwind 0 ∷ drop 0 1 ∷ panic Why.Explicit ∷
-    unwind 0 ∷ [], End.Aborted)
+    ≡ (
+      call 1 ∷ make 0 1 ∷ make 0 2 ∷ drop 0 2 ∷ panic Why.Explicit ∷ unwind 0 ∷ drop 0 1 ∷ panic Why.Explicit ∷
+          unwind 0 ∷ [],
+      End.Aborted,
+    )
 in_a_cleanup_block = refl
