@@ -7,6 +7,8 @@
 #[cfg(test)]
 mod base;
 #[cfg(test)]
+mod bits;
+#[cfg(test)]
 mod edge;
 #[cfg(test)]
 mod graphs;

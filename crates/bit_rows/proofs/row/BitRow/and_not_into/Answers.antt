@@ -1,0 +1,27 @@
+use Rattle.std.proofs.Common.{not, ◌&&◌, length, ap, ◌∙◌, refl}
+use Rattle.std.specs.Simd.Lanes.{zip2}
+use Rattle.bit_rows.specs.Words.{without}
+use Rattle.bit_rows.proofs.Rows.{pair_of, without_operation, as_many_words, bits_are, change_is, row_is}
+use Rattle.bit_rows.proofs.row.BitRow.and_not_into.Goals as goal
+
+pub and_not_all-requires : goal.and_not_all-requires
+and_not_all-requires c = ap length c.as_slice.ensures.value ∙ as_many_words (pair_of c.self.inside c.into.inside c.self.view_is c.into.view_is c.self.invariant c.into.invariant c.requires)
+
+pub invariant_of-into : goal.invariant_of-into
+invariant_of-into c =
+    let p = pair_of c.self.inside c.into.inside c.self.view_is c.into.view_is c.self.invariant c.into.invariant c.requires in
+    row_is p without (λ a b. not a && b) (without_operation p) c.and_not_all.new.into.items
+    (c.and_not_all.ensures.words ∙ ap (λ l. zip2 without l c.into.inside.words.items) c.as_slice.ensures.value) _ refl refl
+
+pub returns-clause-bits : goal.returns-clause-bits
+returns-clause-bits c =
+    let p = pair_of c.self.inside c.into.inside c.self.view_is c.into.view_is c.self.invariant c.into.invariant c.requires in
+    bits_are p without (λ a b. not a && b) (without_operation p) c.and_not_all.new.into.items
+    (c.and_not_all.ensures.words ∙ ap (λ l. zip2 without l c.into.inside.words.items) c.as_slice.ensures.value)
+
+pub returns-clause-change : goal.returns-clause-change
+returns-clause-change c =
+    let p = pair_of c.self.inside c.into.inside c.self.view_is c.into.view_is c.self.invariant c.into.invariant c.requires in
+    change_is p without (λ a b. not a && b) (without_operation p) c.and_not_all.new.into.items
+    (c.and_not_all.ensures.words ∙ ap (λ l. zip2 without l c.into.inside.words.items) c.as_slice.ensures.value)
+    c.and_not_all.result c.and_not_all.ensures.change
