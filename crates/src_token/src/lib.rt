@@ -2,9 +2,12 @@
 #![tactic(auto)]
 
 mod mark;
+mod marks;
+mod piece;
 mod token;
 mod word;
 
 pub use mark::Mark;
+pub use piece::{Beginning, Fault, Piece, Reading};
 pub use token::{LexError, Spanned, Token};
-pub use word::Word;
+pub use word::{KEYWORDS, Word};
