@@ -29,11 +29,15 @@ suffix_of behind =
     else if bytes_eq (codes "usize") behind then Some (Some IntKind.Usize)
     else None
 
-abbrev pub number_of : ℕ → Option (Option IntKind) → Reading
-number_of value None = Reading.Fails Fault.BadNumber 0
-number_of value (Some suffix) =
-    if nat_lt value (2 ^ 64) then Reading.Reads (Token.Number value suffix) else Reading.Fails Fault.BadNumber 0
+-- a number that 64 bits hold
+abbrev pub limited : ℕ → Option ℕ
+limited value = if nat_lt value (2 ^ 64) then Some value else None
+
+abbrev pub number_of : Option ℕ → Option (Option IntKind) → Reading
+number_of None suffix = Reading.Fails Fault.BadNumber 0
+number_of (Some value) None = Reading.Fails Fault.BadNumber 0
+number_of (Some value) (Some suffix) = Reading.Reads (Token.Number value suffix)
 
 -- what a run that begins by a digit is
 unfoldable pub number_reading : List ℕ → Reading
-number_reading run = number_of (numeral_value (take_while is_numeral run)) (suffix_of (drop (prefix_len is_numeral run) run))
+number_reading run = number_of (limited (numeral_value (take_while is_numeral run))) (suffix_of (drop (prefix_len is_numeral run) run))

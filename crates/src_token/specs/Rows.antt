@@ -1,6 +1,6 @@
 -- Which pieces of a text there are, and what each of them is by itself: one row for each kind.
-use Rattle.std.specs.Prelude.{◌≡◌, ℕ, ◌+◌, Bool, ◌==◌, ◌&&◌, not, List, [], ◌∷◌, ◌++◌, Some, IsTrue, if◌then◌else◌}
-use Rattle.std.specs.List.{list_all, list_any, position_or_len}
+use Rattle.std.specs.Prelude.{◌≡◌, ℕ, ◌+◌, Bool, ◌==◌, ◌&&◌, not, List, [], ◌∷◌, ◌++◌, Option, None, Some, IsTrue, position}
+use Rattle.std.specs.List.{list_all}
 use Rattle.std.specs.Str.{byte, encode_utf8_all}
 use Rattle.unicode_ident.specs.Ident.{is_xid_continue}
 use Rattle.src_token.specs.declared.mark.Mark.{Mark}
@@ -28,11 +28,13 @@ is_inside_text c = not (c == quote) && not (c == 10)
 abbrev pub is_inside_line : ℕ → Bool
 is_inside_line c = not (c == 10)
 
--- characters between quotes
+abbrev pub text_with : List ℕ → Option ℕ → Reading
+text_with inside None = Reads (Token.Text (encode_utf8_all inside))
+text_with inside (Some before) = Fails Fault.BadChar (1 + before)
+
+-- characters between quotes: a text, or else a `\` behind so many of them and the quote
 abbrev pub text_reading : List ℕ → Reading
-text_reading inside =
-    if list_any is_backslash inside then Fails Fault.BadChar (1 + position_or_len is_backslash inside)
-    else Reads (Token.Text (encode_utf8_all inside))
+text_reading inside = text_with inside (position is_backslash inside)
 
 pub data Row : List ℕ → Reading → Type 0 where
   blank : (c : ℕ) → beginning_of c ≡ Beginning.Blank → Row (c ∷ []) Skipped

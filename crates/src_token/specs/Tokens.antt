@@ -61,20 +61,25 @@ abbrev pub first_error : List ℕ → List Cut → Option LexError
 first_error before [] = None
 first_error before (cut ∷ cuts) = error_or before cut.piece cut.reading (first_error (before ++ cut.piece) cuts)
 
--- these are the tokens of the bytes
-pub record Tokens (bytes : List ℕ) (tokens : List Spanned) : Type 0 where
-  pub utf8 : IsUtf8 bytes
+-- these are the tokens of the characters
+pub record CutTokens (characters : List ℕ) (tokens : List Spanned) : Type 0 where
   pub cuts : List Cut
-  pub cutting : Cutting (chars bytes) cuts
+  pub cutting : Cutting characters cuts
   pub no_error : first_error [] cuts ≡ None
   pub told : tokens ≡ tokens_of [] cuts
 
--- the bytes are UTF-8, and this is the first error of their pieces
-pub record FirstError (bytes : List ℕ) (error : LexError) : Type 0 where
-  pub utf8 : IsUtf8 bytes
+-- this is the first error of the characters' pieces
+pub record CutError (characters : List ℕ) (error : LexError) : Type 0 where
   pub cuts : List Cut
-  pub cutting : Cutting (chars bytes) cuts
+  pub cutting : Cutting characters cuts
   pub first : first_error [] cuts ≡ Some error
+
+-- the bytes are UTF-8, and these are the tokens of their characters
+abbrev pub Tokens : List ℕ → List Spanned → Type 0
+Tokens bytes tokens = IsUtf8 bytes × CutTokens (chars bytes) tokens
+
+abbrev pub FirstError : List ℕ → LexError → Type 0
+FirstError bytes error = IsUtf8 bytes × CutError (chars bytes) error
 
 -- the longest beginning of the bytes that is UTF-8 ends before this place
 pub record EndsBefore (bytes : List ℕ) (at : Pos) : Type 0 where
@@ -90,3 +95,15 @@ Refused bytes (OpenComment at) = FirstError bytes (OpenComment at)
 Refused bytes (OpenText at) = FirstError bytes (OpenText at)
 Refused bytes (NotUtf8 at) = EndsBefore bytes at
 Refused bytes Memory = Unit {0}
+
+-- no list of tokens was made of the characters, for this reason
+abbrev pub CutRefused : List ℕ → LexError → Type 0
+CutRefused characters (NotUtf8 at) = ⊥
+CutRefused characters Memory = Unit {0}
+CutRefused characters error = CutError characters error
+
+-- there is one way to cut these characters
+pub record OneCutting (characters : List ℕ) : Type 0 where
+  pub cuts : List Cut
+  pub cutting : Cutting characters cuts
+  pub unique : (others : List Cut) → Cutting characters others → others ≡ cuts

@@ -1,0 +1,11 @@
+pub mod Advancing
+pub mod Bytes
+pub mod CommentSteps
+pub mod Comments
+pub mod Cuttings
+pub mod Described
+pub mod Lexing
+pub mod Longest
+pub mod Runs
+pub mod Tests
+pub mod Values
