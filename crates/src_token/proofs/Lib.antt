@@ -4,8 +4,8 @@ pub mod CommentSteps
 pub mod Comments
 pub mod Cuttings
 pub mod Described
+pub mod FirstCharacters
 pub mod Lexing
 pub mod Longest
 pub mod Runs
-pub mod Tests
 pub mod Values

@@ -27,7 +27,7 @@ use Rattle.src_token.specs.Rows.{Row, blank, line_comment, comment, open_comment
 use Rattle.src_token.specs.Scanning.{piece, piece_by, next_piece, number_piece, word_piece, label_piece, text_piece, slash_piece, comment_piece, closing, sign_piece, two_signs, one_sign, Near, Stands}
 use Rattle.src_token.proofs.Comments.{by_test, scan_ends, scan_is_comment}
 use Rattle.src_token.proofs.Described.{Described, LabelRow, none, named, TextRow, open_one, whole, SlashRow, alone, to_line_end, to_nowhere, to_end}
-use Rattle.src_token.proofs.Tests.{quote_is, double_quote_is, slash_is, sign_is}
+use Rattle.src_token.proofs.FirstCharacters.{quote_is, double_quote_is, slash_is, sign_is}
 use Rattle.src_token.proofs.Runs.{run_passes, run_within, passing_within, run_to}
 
 -- behind a character the piece goes on for n characters, which a row describes, and for no more
