@@ -15,6 +15,8 @@ mod graphs;
 #[cfg(test)]
 mod program;
 #[cfg(test)]
+mod tokens;
+#[cfg(test)]
 mod trees;
 #[cfg(test)]
 mod types;

@@ -3,11 +3,11 @@ ghost use Rattle.std.specs.Prelude.{◌≡◌, [], ◌∷◌, ◌++◌, IfOk, ma
 ghost use Rattle.typed_tree.specs.View.{tree_of, body_of};
 ghost use Rattle.typed_tree.specs.Nodes.{number_of, nodes_of, HasDistinctNumbers};
 
-use typed_tree::{Form, Node, Param, TBody, Use, law_numbers_in_order, node_at};
 use mir_base::{Key, List, Name, NoMemory, NodeId, Pos};
 use mir_ty::TyId;
 use std::alloc::Global;
 use std::test::Fail;
+use typed_tree::{Form, Node, Param, TBody, Use, law_numbers_in_order, node_at};
 
 const I32: TyId = TyId(0);
 
