@@ -10,6 +10,7 @@ mod mem_source;
 mod sink;
 mod source;
 mod std_edge;
+
 pub use fault::Fault;
 pub use mem_sink::MemSink;
 pub use mem_source::MemSource;

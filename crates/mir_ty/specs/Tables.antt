@@ -7,8 +7,14 @@ use Rattle.mir_ty.specs.Facts.{copy_rule, drop_rule}
 use Rattle.mir_ty.specs.Known.{IsAllShown}
 
 abbrev pub table_of : Inside → ItemTable
-table_of s = record { types = s.types; adts = s.adts; traits = s.traits; impls = s.impls; closures = s.closures;
-    bodies = s.bodies }
+table_of s = record {
+  types = s.types;
+  adts = s.adts;
+  traits = s.traits;
+  impls = s.impls;
+  closures = s.closures;
+  bodies = s.bodies;
+}
 
 pub record AreTables (s : Inside) : Type 0 where
   pub items : AreItems (table_of s)

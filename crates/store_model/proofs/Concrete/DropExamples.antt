@@ -27,8 +27,14 @@ abbrev setting : Setting
 setting = record {
   items = record no_items {
     types = Ty.Adt 0 ∷ Ty.Tuple (d_ty ∷ d_ty ∷ []) ∷ Ty.Boxed d_ty ∷ [];
-    adts = (record { name = codes "D"; is_enum = false; variants =
-        (record { name = codes "D"; fields = []; field_names = [] }) ∷ []; copy = false; drop_body = Some 0 }) ∷ [];
+    adts = (record {
+      name = codes "D";
+      is_enum = false;
+      variants =
+          (record { name = codes "D"; fields = []; field_names = [] }) ∷ [];
+      copy = false;
+      drop_body = Some 0;
+    }) ∷ [];
   };
   local_ty = λ body local. Some (ty_of_local local);
   strict = false;
@@ -48,8 +54,14 @@ bodies (Event.Dropped adt serial) body args w =
 bodies event body args w = Returns Gone w
 
 abbrev holding : ℕ → Datum → State
-holding local value = record { asked = []; ticks = 5; serial = 9; activations =
-    (record { body = 0; cells = (local, value) ∷ [] }) ∷ []; trace = [] }
+holding local value = record {
+  asked = [];
+  ticks = 5;
+  serial = 9;
+  activations =
+      (record { body = 0; cells = (local, value) ∷ [] }) ∷ [];
+  trace = [];
+}
 
 -- how a drop ends, what it tells, and what stands in its place then
 pub data Outcome : Type 0 where
