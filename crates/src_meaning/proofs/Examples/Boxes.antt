@@ -68,6 +68,8 @@ abbrev forgotten : ProgramTree
 forgotten = record { items = items; bodies = drop_d ∷ take ∷ main_forget ∷ [] }
 
 forget_tells_of_each_part : source forgotten [] 100
-    ≡ (call 2 ∷ make 0 1 ∷ make 0 2 ∷ box 3 ∷ forgot_made 0 1 ∷ forgot_made 0 2 ∷ forgot_box 3 ∷ return 2 ∷ [],
-    End.Returned)
+    ≡ (
+      call 2 ∷ make 0 1 ∷ make 0 2 ∷ box 3 ∷ forgot_made 0 1 ∷ forgot_made 0 2 ∷ forgot_box 3 ∷ return 2 ∷ [],
+      End.Returned,
+    )
 forget_tells_of_each_part = refl

@@ -74,8 +74,11 @@ items = record {
       struct (codes "Fail") (buf_ty ∷ []) None ∷ enum (codes "Slot")
       (variant (codes "Free") [] ∷ variant (codes "Ready") (boxed_dyn_job_ty ∷ []) ∷
       variant (codes "Done") (i32 ∷ []) ∷ []) ∷ struct (codes "Queue") (slot_ty ∷ slot_ty ∷ []) None ∷ [];
-  traits = (record { name = codes "Job"; methods = head (codes "cost") (shared_dyn_job_ty ∷ []) i32 ∷
-      head (codes "run") (unique_dyn_job_ty ∷ i32 ∷ []) bool ∷ [] }) ∷ [];
+  traits = (record {
+    name = codes "Job";
+    methods = head (codes "cost") (shared_dyn_job_ty ∷ []) i32 ∷
+        head (codes "run") (unique_dyn_job_ty ∷ i32 ∷ []) bool ∷ [];
+  }) ∷ [];
   impls = (record { trait_no = 0; adt = 1; bodies = 2 ∷ 3 ∷ [] }) ∷
       (record { trait_no = 0; adt = 2; bodies = 4 ∷ 5 ∷ [] }) ∷ [];
   closures = [];
@@ -186,9 +189,11 @@ main_ = body 8 [] unit
     (n 0 unit (Block (nodes (
     (let_ 1 (used 2 queue_ty Use.Move a_name) (n 3 queue_ty (Make 4 0 (fields ((
       0,
-      (n 4 slot_ty (Make 3 1 (fields (
-          (0, (n 5 boxed_dyn_job_ty (Unsize 0
-          (n 6 boxed_send_ty (NewBox (n 7 send_ty (Call 1 (nodes ((n 8 i32 (Number (pos 10))) ∷ [])))))))))
+      (n 4 slot_ty (Make 3 1 (fields ((
+        0,
+        (n 5 boxed_dyn_job_ty (Unsize 0
+            (n 6 boxed_send_ty (NewBox (n 7 send_ty (Call 1 (nodes ((n 8 i32 (Number (pos 10))) ∷ [])))))))),
+      )
           ∷ [])))),
     )
     ∷ (
@@ -225,8 +230,11 @@ main_ = body 8 [] unit
     ∷ [])) absent))
 
 abbrev job_queue : ProgramTree
-job_queue = record { items = items; bodies = drop_buf ∷ send_new ∷ send_cost ∷ send_run ∷ fail_cost ∷ fail_run ∷
-    step ∷ is_done ∷ main_ ∷ [] }
+job_queue = record {
+  items = items;
+  bodies = drop_buf ∷ send_new ∷ send_cost ∷ send_run ∷ fail_cost ∷ fail_run ∷
+      step ∷ is_done ∷ main_ ∷ [];
+}
 
 both_jobs_are_done : source job_queue (pos 1 ∷ []) 10000
     ≡ (
