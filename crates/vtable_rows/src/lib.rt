@@ -7,6 +7,3 @@ mod table;
 
 pub use making::rows;
 pub use table::{Row, Rows};
-
-#[cfg(test)]
-mod tests;
