@@ -1,4 +1,4 @@
-//! One program's items, as a table: every call with ample memory, and every kind of line.
+//! One program's items, as a table: every call with ample memory, every kind of line, and the rows of impls.
 ghost use Rattle.std.specs.Prelude.{◌≡◌, ◌∷◌, [], IsTrue, IfOk, All, ◌<◌, length};
 ghost use Rattle.mir_ty.specs.ItemTable.{type_at};
 ghost use Rattle.mir_ty.specs.Named.{IsEventOf};
@@ -9,6 +9,7 @@ use mir_ty::{Adt, ClosureDef, ImplDef, Items, Sig, TraitDef, Ty, TyId, Variant, 
 use std::alloc::Global;
 use std::process::Abort;
 use std::test::Fail;
+use vtable_rows::rows;
 
 // What the calls ask for, tested before each call.
 
@@ -548,6 +549,14 @@ fn check_bodies(rt: &impl Abort, items: &Items) -> Result<(), Fail> {
     Ok(())
 }
 
+fn check_rows(rt: &impl Abort, alloc: Global, items: &Items) -> Result<(), Fail> {
+    let rows = rows(alloc, items)?;
+    let shown = rows.row(0).ok_or("no row")?;
+    assert!(rt; shown.adt == 0 && shown.needs_drop && rows.row(1).is_none());
+    assert_eq!(rt; shown.bodies.as_slice(), [1].as_slice());
+    Ok(())
+}
+
 fn check_ends(rt: &impl Abort, items: &Items) {
     assert!(rt; items.trait_def(1).is_none());
     assert!(rt; items.impl_def(1).is_none());
@@ -561,6 +570,7 @@ fn check(rt: &impl Abort, alloc: Global, items: &Items) -> Result<(), Fail> {
     check_lines(rt, alloc, items)?;
     check_types(rt, items)?;
     check_bodies(rt, items)?;
+    check_rows(rt, alloc, items)?;
     check_ends(rt, items);
     Ok(())
 }
