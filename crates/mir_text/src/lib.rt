@@ -1,4 +1,5 @@
 //! Graphs as text: the listing of a graph, and the texts of its parts.
 #![tactic(auto)]
 
-mod types;
+mod parts;
+mod words;
