@@ -1,5 +1,5 @@
 -- The listing of a graph.
-use Rattle.std.specs.Prelude.{ℕ, List, [], ◌∷◌, ◌++◌, flat_map, codes}
+use Rattle.std.specs.Prelude.{ℕ, ◌<◌, ◌-◌, ◌^◌, List, ◌++◌, flat_map, codes, length, All}
 use Rattle.std.specs.Fmt.{decimal}
 use Rattle.mir_ty.specs.declared.ty.TyId.{TyId}
 use Rattle.mir_ty.specs.ItemTable.{ItemTable}
@@ -37,3 +37,15 @@ whole_body_text items n body = body_text items n body.params body.locals ++ coun
 
 abbrev pub listing : Graph → List ℕ
 listing graph = line (codes "mirdrop 1") ++ items_text graph.items ++ counted (whole_body_text graph.items) 0 graph.bodies ++ line (codes "end")
+
+-- the lists of a graph have fewer members than a number of 32 bits can count
+pub record IsShortBody (body : Body) : Type 0 where
+  pub locals : length body.locals < 2 ^ 32 - 1
+  pub blocks : length body.blocks < 2 ^ 32 - 1
+
+abbrev pub AreShortBodies : List Body → Type 0
+AreShortBodies bodies = All IsShortBody bodies
+
+pub record IsShortGraph (graph : Graph) : Type 0 where
+  pub bodies : length graph.bodies < 2 ^ 32 - 1
+  pub each : AreShortBodies graph.bodies

@@ -1,5 +1,5 @@
 -- Words in a row, and lines.
-use Rattle.std.specs.Prelude.{ℕ, List, [], ◌∷◌, ◌++◌, map, flat_map, codes}
+use Rattle.std.specs.Prelude.{ℕ, List, [], ◌∷◌, ◌++◌, flat_map, codes}
 
 -- each of them behind a comma
 abbrev pub behind_commas : List (List ℕ) → List ℕ

@@ -7,7 +7,7 @@ use Rattle.mir_ty.specs.declared.ty.TyId.{TyId}
 use Rattle.mir_ty.specs.declared.def.TraitDef.{TraitDef}
 use Rattle.mir_ty.specs.ItemTable.{ItemTable, type_at}
 use Rattle.mir_ty.specs.Named.{adt_name}
-use Rattle.mir_text.specs.Lists.{in_parentheses, joined, behind_commas}
+use Rattle.mir_text.specs.Lists.{in_parentheses}
 
 abbrev pub kind_text : IntKind → List ℕ
 kind_text IntKind.I32 = codes "i32"
