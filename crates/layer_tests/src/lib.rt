@@ -13,6 +13,8 @@ mod edge;
 #[cfg(test)]
 mod graphs;
 #[cfg(test)]
+mod listings;
+#[cfg(test)]
 mod program;
 #[cfg(test)]
 mod tokens;

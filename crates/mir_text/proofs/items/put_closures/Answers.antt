@@ -1,0 +1,16 @@
+use Rattle.std.proofs.Common.{arith, ◌<◌, length}
+use Rattle.mir_text.specs.Items.{closure_line}
+use Rattle.mir_text.proofs.Counting.{stands, told_more, counted_all}
+use Rattle.mir_text.proofs.items.put_closures.Goals as goal
+
+pub loop-def-preserved : goal.loop-def-preserved
+loop-def-preserved c =
+    let found = stands c.args.items.now.closures c.loop-def.n c.in-Some.def.now c.in-Some.ensures.value in
+    let here : c.loop-def.n < length c.args.items.now.closures = found.0 in
+    record {
+      told = told_more (closure_line c.args.items.now) _ _ _ c.args.items.now.closures c.loop-def.n c.in-Some.def.now here found.1 c.loop-def.invariant.told c.in_ok-put_closure.ensures;
+      within = omega arith;
+    }
+
+pub returns : goal.returns
+returns c = counted_all c.args.items.now.closures c.loop-def.n (closure_line c.args.items.now) _ _ c.in_default.ensures.value c.loop-def.invariant.told

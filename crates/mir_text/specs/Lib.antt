@@ -1,0 +1,5 @@
+pub mod Items
+pub mod Lists
+pub mod Listing
+pub mod Parts
+pub mod Types

@@ -1,0 +1,11 @@
+//! Graphs as text: the listing of a graph, and the texts of its parts.
+#![tactic(auto)]
+
+mod items;
+mod listing;
+mod parts;
+mod statements;
+mod types;
+mod words;
+
+pub use listing::{body_text, items_text, operand_text, place_text, stmt_text, write_listing};
