@@ -4,7 +4,14 @@ use Rattle.std.proofs.lemmas.Bool.{and_parts, eqb-true}
 use Rattle.src_token.specs.declared.token.Token.{Token}
 use Rattle.src_token.specs.declared.word.Word.{Word}
 use Rattle.src_token.specs.declared.mark.Mark.{Mark}
-use Rattle.src_tree.specs.Grammar.{Row, Sort, AFile, AnItem, AMethod, AHead, AField, AVariant, AName, AType, APattern, AFieldPattern, AnExpr, AFieldInit, ALabel, Start, Statement, NextStatement, ArmBody, OnlyBlock, BlockOrIf, Jump, JumpInHead, IsArm, IsParam, Place, Seen, seen, Part, place_of, Rest, ends, token, either, part, maybe, list, more, many, items, alternatives, statements, arms, arm_body, after_break, Kind, AMark, AWord, OfName, OfNumber, OfDigits, OfLabel, OfText, OfDerive, is, is_text, is_panic, named, move, due, made, Entry, entry, by_row, Joined, joined}
+use Rattle.src_tree.specs.declared.row.Row.{Row}
+use Rattle.src_tree.specs.declared.row.Sort.{Sort}
+use Rattle.src_tree.specs.declared.place.Start.{Start}
+use Rattle.src_tree.specs.declared.place.Place.{Place}
+use Rattle.src_tree.specs.declared.place.Seen.{Seen}
+use Rattle.src_tree.specs.declared.place.Part.{Part}
+use Rattle.src_tree.specs.declared.kind.Kind.{Kind}
+use Rattle.src_tree.specs.Grammar.{seen, place_of, Rest, ends, token, either, part, maybe, list, more, many, items, alternatives, statements, arms, arm_body, after_break, is, is_text, is_panic, named, move, due, made, Entry, entry, by_row, Joined, joined}
 use Rattle.src_tree.specs.Layout.{due_place}
 use Rattle.src_tree.specs.Reading.{and_then, only_if, begin_at, opens, joins}
 use Rattle.src_tree.proofs.Samples.{like, like_name, panic_text, derive_text}
@@ -40,21 +47,21 @@ like_panic n = go (is_text n panic_text) (is_text n derive_text)
     go false false = refl
 
 pub is_like : (k : Kind) (t : Token) → is k t ≡ is k (like t)
-is_like OfDerive (Token.Name n) = like_derive n
-is_like (AMark m) (Token.Name n) = refl
-is_like (AWord w) (Token.Name n) = refl
+is_like Kind.Derive (Token.Name n) = like_derive n
+is_like (Kind.Mark m) (Token.Name n) = refl
+is_like (Kind.Word w) (Token.Name n) = refl
 is_like _ (Token.Name n) = refl
-is_like (AMark m) (Token.Number v None) = refl
+is_like (Kind.Mark m) (Token.Number v None) = refl
 is_like _ (Token.Number v None) = refl
-is_like (AMark m) (Token.Number v (Some k)) = refl
+is_like (Kind.Mark m) (Token.Number v (Some k)) = refl
 is_like _ (Token.Number v (Some k)) = refl
-is_like (AMark m) (Token.Word w) = refl
+is_like (Kind.Mark m) (Token.Word w) = refl
 is_like _ (Token.Word w) = refl
-is_like (AMark m) (Token.Label n) = refl
+is_like (Kind.Mark m) (Token.Label n) = refl
 is_like _ (Token.Label n) = refl
-is_like (AMark m) (Token.Text n) = refl
+is_like (Kind.Mark m) (Token.Text n) = refl
 is_like _ (Token.Text n) = refl
-is_like (AMark m) (Token.Mark n) = refl
+is_like (Kind.Mark m) (Token.Mark n) = refl
 is_like _ (Token.Mark n) = refl
 
 pub move_like : (q : Rest) (t : Token) → move q t ≡ move q (like t)
@@ -63,42 +70,42 @@ move_like (token k after) t = rw (is_like k t) refl
 move_like (either k after other) t = rw (is_like k t, move_like other t) refl
 move_like (part p after) t = refl
 move_like (maybe p after r) t = refl
-move_like (list p later dots close after) t = rw (is_like close t, is_like (AMark Mark.DotDot) t) refl
-move_like (more p dots close after) t = rw (is_like close t, is_like (AMark Mark.Comma) t) refl
+move_like (list p later dots close after) t = rw (is_like close t, is_like (Kind.Mark Mark.DotDot) t) refl
+move_like (more p dots close after) t = rw (is_like close t, is_like (Kind.Mark Mark.Comma) t) refl
 move_like (many p close after) t = rw (is_like close t) refl
 move_like items t = refl
-move_like alternatives t = rw (is_like (AMark Mark.Or) t) refl
-move_like (statements o) t = rw (is_like (AMark Mark.CloseBrace) t) refl
-move_like (arms s) t = rw (is_like (AMark Mark.CloseBrace) t) refl
+move_like alternatives t = rw (is_like (Kind.Mark Mark.Or) t) refl
+move_like (statements o) t = rw (is_like (Kind.Mark Mark.CloseBrace) t) refl
+move_like (arms s) t = rw (is_like (Kind.Mark Mark.CloseBrace) t) refl
 move_like arm_body t = refl
 move_like after_break t = refl
 
 pub entry_like : (s : Sort) (h : Bool) (st : Start) (t : Token) → entry record { sort = s; head = h; start = st } t ≡ entry record { sort = s; head = h; start = st } (like t)
-entry_like AnExpr h st (Token.Name n) = ap (λ p. by_row Row.Path (named p h)) (like_panic n)
-entry_like AFile h st (Token.Name n) = refl
+entry_like Sort.Expr h st (Token.Name n) = ap (λ p. by_row Row.Path (named p h)) (like_panic n)
+entry_like Sort.File h st (Token.Name n) = refl
 entry_like _ h st (Token.Name n) = refl
 entry_like s h st (Token.Word w) = refl
-entry_like AFile h st (Token.Number v None) = refl
+entry_like Sort.File h st (Token.Number v None) = refl
 entry_like _ h st (Token.Number v None) = refl
-entry_like AFile h st (Token.Number v (Some k)) = refl
+entry_like Sort.File h st (Token.Number v (Some k)) = refl
 entry_like _ h st (Token.Number v (Some k)) = refl
-entry_like AFile h st (Token.Label n) = refl
+entry_like Sort.File h st (Token.Label n) = refl
 entry_like _ h st (Token.Label n) = refl
-entry_like AFile h st (Token.Text n) = refl
+entry_like Sort.File h st (Token.Text n) = refl
 entry_like _ h st (Token.Text n) = refl
 entry_like s h st (Token.Mark m) = refl
 
 pub joined_like : (s : Sort) (h : Bool) (st : Start) (t : Token) → joined record { sort = s; head = h; start = st } t ≡ joined record { sort = s; head = h; start = st } (like t)
-joined_like AFile h st (Token.Name n) = refl
+joined_like Sort.File h st (Token.Name n) = refl
 joined_like _ h st (Token.Name n) = refl
 joined_like s h st (Token.Word w) = refl
-joined_like AFile h st (Token.Number v None) = refl
+joined_like Sort.File h st (Token.Number v None) = refl
 joined_like _ h st (Token.Number v None) = refl
-joined_like AFile h st (Token.Number v (Some k)) = refl
+joined_like Sort.File h st (Token.Number v (Some k)) = refl
 joined_like _ h st (Token.Number v (Some k)) = refl
-joined_like AFile h st (Token.Label n) = refl
+joined_like Sort.File h st (Token.Label n) = refl
 joined_like _ h st (Token.Label n) = refl
-joined_like AFile h st (Token.Text n) = refl
+joined_like Sort.File h st (Token.Text n) = refl
 joined_like _ h st (Token.Text n) = refl
 joined_like s h st (Token.Mark m) = refl
 
@@ -158,57 +165,57 @@ calm_like false _ (Token.Text x) = refl
 calm_like h r (Token.Word w) = refl
 calm_like h r (Token.Mark m) = refl
 
-follow_expr : (n : ℕ) (h : Bool) (st : Start) (y : Shape) (t : Token) → follow record { sort = AnExpr; least = n; head = h; start = st } y t ≡ follow record { sort = AnExpr; least = n; head = h; start = st } y (like t)
-follow_expr n h Statement Ended (Token.Name x) = refl
-follow_expr n h Statement _ (Token.Name x) = refl
+follow_expr : (n : ℕ) (h : Bool) (st : Start) (y : Shape) (t : Token) → follow record { sort = Sort.Expr; least = n; head = h; start = st } y t ≡ follow record { sort = Sort.Expr; least = n; head = h; start = st } y (like t)
+follow_expr n h Start.Statement Ended (Token.Name x) = refl
+follow_expr n h Start.Statement _ (Token.Name x) = refl
 follow_expr n h _ Ended (Token.Name x) = refl
 follow_expr n h _ _ (Token.Name x) = refl
-follow_expr n h Statement Ended (Token.Number v None) = refl
-follow_expr n h Statement _ (Token.Number v None) = refl
+follow_expr n h Start.Statement Ended (Token.Number v None) = refl
+follow_expr n h Start.Statement _ (Token.Number v None) = refl
 follow_expr n h _ Ended (Token.Number v None) = refl
 follow_expr n h _ _ (Token.Number v None) = refl
-follow_expr n h Statement Ended (Token.Number v (Some k)) = refl
-follow_expr n h Statement _ (Token.Number v (Some k)) = refl
+follow_expr n h Start.Statement Ended (Token.Number v (Some k)) = refl
+follow_expr n h Start.Statement _ (Token.Number v (Some k)) = refl
 follow_expr n h _ Ended (Token.Number v (Some k)) = refl
 follow_expr n h _ _ (Token.Number v (Some k)) = refl
-follow_expr n h Statement Ended (Token.Label x) = refl
-follow_expr n h Statement _ (Token.Label x) = refl
+follow_expr n h Start.Statement Ended (Token.Label x) = refl
+follow_expr n h Start.Statement _ (Token.Label x) = refl
 follow_expr n h _ Ended (Token.Label x) = refl
 follow_expr n h _ _ (Token.Label x) = refl
-follow_expr n h Statement Ended (Token.Text x) = refl
-follow_expr n h Statement _ (Token.Text x) = refl
+follow_expr n h Start.Statement Ended (Token.Text x) = refl
+follow_expr n h Start.Statement _ (Token.Text x) = refl
 follow_expr n h _ Ended (Token.Text x) = refl
 follow_expr n h _ _ (Token.Text x) = refl
 follow_expr n h st y (Token.Word w) = refl
 follow_expr n h st y (Token.Mark m) = refl
 
-follow_pattern : (n : ℕ) (h : Bool) (st : Start) (y : Shape) (t : Token) → follow record { sort = APattern; least = n; head = h; start = st } y t ≡ follow record { sort = APattern; least = n; head = h; start = st } y (like t)
-follow_pattern n h Statement Ended (Token.Name x) = refl
-follow_pattern n h Statement _ (Token.Name x) = refl
+follow_pattern : (n : ℕ) (h : Bool) (st : Start) (y : Shape) (t : Token) → follow record { sort = Sort.Pattern; least = n; head = h; start = st } y t ≡ follow record { sort = Sort.Pattern; least = n; head = h; start = st } y (like t)
+follow_pattern n h Start.Statement Ended (Token.Name x) = refl
+follow_pattern n h Start.Statement _ (Token.Name x) = refl
 follow_pattern n h _ Ended (Token.Name x) = refl
 follow_pattern n h _ _ (Token.Name x) = refl
-follow_pattern n h Statement Ended (Token.Number v None) = refl
-follow_pattern n h Statement _ (Token.Number v None) = refl
+follow_pattern n h Start.Statement Ended (Token.Number v None) = refl
+follow_pattern n h Start.Statement _ (Token.Number v None) = refl
 follow_pattern n h _ Ended (Token.Number v None) = refl
 follow_pattern n h _ _ (Token.Number v None) = refl
-follow_pattern n h Statement Ended (Token.Number v (Some k)) = refl
-follow_pattern n h Statement _ (Token.Number v (Some k)) = refl
+follow_pattern n h Start.Statement Ended (Token.Number v (Some k)) = refl
+follow_pattern n h Start.Statement _ (Token.Number v (Some k)) = refl
 follow_pattern n h _ Ended (Token.Number v (Some k)) = refl
 follow_pattern n h _ _ (Token.Number v (Some k)) = refl
-follow_pattern n h Statement Ended (Token.Label x) = refl
-follow_pattern n h Statement _ (Token.Label x) = refl
+follow_pattern n h Start.Statement Ended (Token.Label x) = refl
+follow_pattern n h Start.Statement _ (Token.Label x) = refl
 follow_pattern n h _ Ended (Token.Label x) = refl
 follow_pattern n h _ _ (Token.Label x) = refl
-follow_pattern n h Statement Ended (Token.Text x) = refl
-follow_pattern n h Statement _ (Token.Text x) = refl
+follow_pattern n h Start.Statement Ended (Token.Text x) = refl
+follow_pattern n h Start.Statement _ (Token.Text x) = refl
 follow_pattern n h _ Ended (Token.Text x) = refl
 follow_pattern n h _ _ (Token.Text x) = refl
 follow_pattern n h st y (Token.Word w) = refl
 follow_pattern n h st y (Token.Mark m) = refl
 
 follow_by : (s : Sort) (n : ℕ) (h : Bool) (st : Start) (y : Shape) (t : Token) → follow record { sort = s; least = n; head = h; start = st } y t ≡ follow record { sort = s; least = n; head = h; start = st } y (like t)
-follow_by AnExpr n h st y t = follow_expr n h st y t
-follow_by APattern n h st y t = follow_pattern n h st y t
+follow_by Sort.Expr n h st y t = follow_expr n h st y t
+follow_by Sort.Pattern n h st y t = follow_pattern n h st y t
 follow_by _ n h st y (Token.Name x) = refl
 follow_by _ n h st y (Token.Number v None) = refl
 follow_by _ n h st y (Token.Number v (Some k)) = refl

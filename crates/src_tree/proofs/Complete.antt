@@ -3,7 +3,12 @@ use Rattle.std.proofs.Common.{◌≡◌, ℕ, Bool, true, false, ◌&&◌, ◌||
 use Rattle.std.proofs.lemmas.Bool.{and_parts, and_from}
 use Rattle.src_token.specs.declared.token.Token.{Token}
 use Rattle.src_token.specs.declared.mark.Mark.{Mark}
-use Rattle.src_tree.specs.Grammar.{Row, Place, Seen, seen, allowed, may_begin, Part, place_of, Rest, ends, token, either, part, maybe, list, more, many, items, alternatives, statements, arms, arm_body, after_break, move, due, behind, behind_statement, behind_arm, behind_body, behind_break, made, Entry, entry, Joined, joined, is, comma, Kind, AMark}
+use Rattle.src_tree.specs.declared.row.Row.{Row}
+use Rattle.src_tree.specs.declared.place.Place.{Place}
+use Rattle.src_tree.specs.declared.place.Seen.{Seen}
+use Rattle.src_tree.specs.declared.place.Part.{Part}
+use Rattle.src_tree.specs.declared.kind.Kind.{Kind}
+use Rattle.src_tree.specs.Grammar.{seen, allowed, may_begin, place_of, Rest, ends, token, either, part, maybe, list, more, many, items, alternatives, statements, arms, arm_body, after_break, move, due, behind, behind_statement, behind_arm, behind_body, behind_break, made, Entry, entry, Joined, joined, is, comma}
 use Rattle.src_tree.specs.Layout.{Node, node, Parts, end, tok, sub, row_of, parts_of, FileLevelled, spell, spell_parts, due_place, entry_rest, joined_place, joined_rest, Levelled, Begun, Follows}
 use Rattle.src_tree.specs.Reading.{or_else, and_then, only_if, begin_at, opens, joins, with_tok, with_sub, Frame, frame, State, goes_on, is_joined, act, step, close_all, whole, file_place, start}
 use Rattle.src_tree.proofs.Checked.{items_ok}
@@ -148,16 +153,16 @@ ends_move f (either k after other) t q1 a e =
 ends_move f (part p after) t q1 a e = no_more _ q1 e
 ends_move f (maybe p after x) t q1 a e = no_more _ q1 e
 ends_move f (list p later dots close after) t q1 a e =
-    picks (λ q. all_ends f q ≡ true) (is close t) after (if dots && is (AMark Mark.DotDot) t then Some (token close after) else None) q1 e a
-    (λ x. picks (λ q. all_ends f q ≡ true) (dots && is (AMark Mark.DotDot) t) (token close after) None q1 x a (no_more _ q1))
+    picks (λ q. all_ends f q ≡ true) (is close t) after (if dots && is (Kind.Mark Mark.DotDot) t then Some (token close after) else None) q1 e a
+    (λ x. picks (λ q. all_ends f q ≡ true) (dots && is (Kind.Mark Mark.DotDot) t) (token close after) None q1 x a (no_more _ q1))
 ends_move f (more p dots close after) t q1 a e =
     picks (λ q. all_ends f q ≡ true) (is close t) after (if is comma t then Some (list p p dots close after) else None) q1 e a
     (λ x. picks (λ q. all_ends f q ≡ true) (is comma t) (list p p dots close after) None q1 x a (no_more _ q1))
 ends_move f (many p close after) t q1 a e = picks (λ q. all_ends f q ≡ true) (is close t) after None q1 e a (no_more _ q1)
 ends_move f items t q1 a e = no_more _ q1 e
-ends_move f alternatives t q1 a e = picks (λ q. all_ends f q ≡ true) (is (AMark Mark.Or) t) _ None q1 e a (no_more _ q1)
-ends_move f (statements o) t q1 a e = picks (λ q. all_ends f q ≡ true) (is (AMark Mark.CloseBrace) t) (ends Row.Block) None q1 e a (no_more _ q1)
-ends_move f (arms o) t q1 a e = picks (λ q. all_ends f q ≡ true) (o && is (AMark Mark.CloseBrace) t) (ends Row.Match) None q1 e a (no_more _ q1)
+ends_move f alternatives t q1 a e = picks (λ q. all_ends f q ≡ true) (is (Kind.Mark Mark.Or) t) _ None q1 e a (no_more _ q1)
+ends_move f (statements o) t q1 a e = picks (λ q. all_ends f q ≡ true) (is (Kind.Mark Mark.CloseBrace) t) (ends Row.Block) None q1 e a (no_more _ q1)
+ends_move f (arms o) t q1 a e = picks (λ q. all_ends f q ≡ true) (o && is (Kind.Mark Mark.CloseBrace) t) (ends Row.Match) None q1 e a (no_more _ q1)
 ends_move f arm_body t q1 a e = no_more _ q1 e
 ends_move f after_break t q1 a e = no_more _ q1 e
 

@@ -3,7 +3,14 @@ use Rattle.std.proofs.Common.{◌≡◌, ℕ, Bool, true, false, ◌&&◌, ◌||
 use Rattle.std.proofs.lemmas.Bool.{and_parts, and_from, eqb-true}
 use Rattle.src_token.specs.declared.token.Token.{Token}
 use Rattle.src_token.specs.declared.mark.Mark.{Mark}
-use Rattle.src_tree.specs.Grammar.{Row, Sort, AFile, AnItem, AMethod, AHead, AField, AVariant, AName, AType, APattern, AFieldPattern, AnExpr, AFieldInit, ALabel, sort_number, Start, Anything, Statement, NextStatement, Value, NotBlocklike, ArmBody, NotBlock, Jump, JumpInHead, OnlyBlock, BlockOrIf, OnlyLabel, IsArm, IsParam, Place, Seen, seen, allowed, may_begin, may_be, begins_by, Part, place_of, Rest, ends, token, either, part, maybe, list, more, many, items, alternatives, statements, arms, arm_body, after_break, Kind, AMark, is, comma, move, due, behind, behind_statement, behind_arm, behind_body, behind_break, made, Entry, entry, Joined, joined}
+use Rattle.src_tree.specs.declared.row.Row.{Row}
+use Rattle.src_tree.specs.declared.row.Sort.{Sort}
+use Rattle.src_tree.specs.declared.place.Start.{Start}
+use Rattle.src_tree.specs.declared.place.Place.{Place}
+use Rattle.src_tree.specs.declared.place.Seen.{Seen}
+use Rattle.src_tree.specs.declared.place.Part.{Part}
+use Rattle.src_tree.specs.declared.kind.Kind.{Kind}
+use Rattle.src_tree.specs.Grammar.{sort_number, seen, allowed, may_begin, may_be, begins_by, place_of, Rest, ends, token, either, part, maybe, list, more, many, items, alternatives, statements, arms, arm_body, after_break, is, comma, move, due, behind, behind_statement, behind_arm, behind_body, behind_break, made, Entry, entry, Joined, joined}
 use Rattle.src_tree.specs.Layout.{due_place}
 use Rattle.src_tree.specs.Reading.{and_then, only_if, begin_at, opens, joins}
 use Rattle.src_tree.proofs.Samples.{samples, rows, every, nth, like, of_samples, of_rows}
@@ -63,8 +70,8 @@ ok_move h (list p later dots close after) t q1 o e =
     let a = and_parts (here h (list p later dots close after)) _ o in
     let b = and_parts (here h (more later dots close after)) _ a.1 in
     let c = and_parts (here h (list later later dots close after)) (ok h after) b.1 in
-    picks (λ q. ok h q ≡ true) (is close t) after (if dots && is (AMark Mark.DotDot) t then Some (token close after) else None) q1 e c.1
-    (λ f. picks (λ q. ok h q ≡ true) (dots && is (AMark Mark.DotDot) t) (token close after) None q1 f c.1 (no_more _ q1))
+    picks (λ q. ok h q ≡ true) (is close t) after (if dots && is (Kind.Mark Mark.DotDot) t then Some (token close after) else None) q1 e c.1
+    (λ f. picks (λ q. ok h q ≡ true) (dots && is (Kind.Mark Mark.DotDot) t) (token close after) None q1 f c.1 (no_more _ q1))
 ok_move h (more p dots close after) t q1 o e =
     let a = and_parts (here h (more p dots close after)) _ o in
     let b = and_parts (here h (list p p dots close after)) (ok h after) a.1 in
@@ -74,9 +81,9 @@ ok_move h (more p dots close after) t q1 o e =
 ok_move h (many p close after) t q1 o e = picks (λ q. ok h q ≡ true) (is close t) after None q1 e (and_parts (here h (many p close after)) _ o).1 (no_more _ q1)
 ok_move h items t q1 o e = no_more _ q1 e
 ok_move h alternatives t q1 o e =
-    picks (λ q. ok h q ≡ true) (is (AMark Mark.Or) t) _ None q1 e (and_from _ _ (and_parts (here h alternatives) _ o).1 o) (no_more _ q1)
-ok_move h (statements s) t q1 o e = picks (λ q. ok h q ≡ true) (is (AMark Mark.CloseBrace) t) (ends Row.Block) None q1 e refl (no_more _ q1)
-ok_move h (arms s) t q1 o e = picks (λ q. ok h q ≡ true) (s && is (AMark Mark.CloseBrace) t) (ends Row.Match) None q1 e refl (no_more _ q1)
+    picks (λ q. ok h q ≡ true) (is (Kind.Mark Mark.Or) t) _ None q1 e (and_from _ _ (and_parts (here h alternatives) _ o).1 o) (no_more _ q1)
+ok_move h (statements s) t q1 o e = picks (λ q. ok h q ≡ true) (is (Kind.Mark Mark.CloseBrace) t) (ends Row.Block) None q1 e refl (no_more _ q1)
+ok_move h (arms s) t q1 o e = picks (λ q. ok h q ≡ true) (s && is (Kind.Mark Mark.CloseBrace) t) (ends Row.Match) None q1 e refl (no_more _ q1)
 ok_move h arm_body t q1 o e = no_more _ q1 e
 ok_move h after_break t q1 o e = no_more _ q1 e
 
@@ -192,10 +199,10 @@ follows_on h q p y t w d a =
 -- Places.
 
 abbrev sorts : List Sort
-sorts = AFile ∷ AnItem ∷ AMethod ∷ AHead ∷ AField ∷ AVariant ∷ AName ∷ AType ∷ APattern ∷ AFieldPattern ∷ AnExpr ∷ AFieldInit ∷ ALabel ∷ []
+sorts = Sort.File ∷ Sort.Item ∷ Sort.Method ∷ Sort.Head ∷ Sort.Field ∷ Sort.Variant ∷ Sort.Name ∷ Sort.Type_ ∷ Sort.Pattern ∷ Sort.FieldPattern ∷ Sort.Expr ∷ Sort.FieldInit ∷ Sort.Label ∷ []
 
 sort_is_there : (s : Sort) → nth (sort_number s) sorts ≡ Some s
-sort_is_there AFile = refl
+sort_is_there Sort.File = refl
 sort_is_there _ = refl
 
 same_sort : (a b : Sort) → nat_eq (sort_number a) (sort_number b) ≡ true → a ≡ b
@@ -205,10 +212,10 @@ same_sort a b h =
     cc
 
 abbrev starts : List Start
-starts = Anything ∷ Statement ∷ NextStatement ∷ Value ∷ NotBlocklike ∷ ArmBody ∷ NotBlock ∷ Jump ∷ JumpInHead ∷ OnlyBlock ∷ BlockOrIf ∷ OnlyLabel ∷ IsArm ∷ IsParam ∷ []
+starts = Start.Anything ∷ Start.Statement ∷ Start.NextStatement ∷ Start.Value ∷ Start.NotBlocklike ∷ Start.ArmBody ∷ Start.NotBlock ∷ Start.Jump ∷ Start.JumpInHead ∷ Start.OnlyBlock ∷ Start.BlockOrIf ∷ Start.OnlyLabel ∷ Start.IsArm ∷ Start.IsParam ∷ []
 
 start_is_there : (s : Start) → nth (start_number s) starts ≡ Some s
-start_is_there Anything = refl
+start_is_there Start.Anything = refl
 start_is_there _ = refl
 
 same_start : (a b : Start) → nat_eq (start_number a) (start_number b) ≡ true → a ≡ b
@@ -313,8 +320,8 @@ begin_if_allowed c r a =
     or_left false b h = absurd (cc)
 
     go : (s : Start) → may_be s r ≡ true → begins_by s r ≡ true
-    go IsArm h = or_left (may_be IsArm r) _ h
-    go IsParam h = or_left (may_be IsParam r) _ h
+    go Start.IsArm h = or_left (may_be Start.IsArm r) _ h
+    go Start.IsParam h = or_left (may_be Start.IsParam r) _ h
     go _ h = h
 
 pub join_rows : (c : Place) (t : Token) (j : Joined) → joins_well c t (Some j) ≡ true → may_begin c j.row ≡ true → (seen j.place ≡ seen c) × ((y : Row) → allowed j.place y ≡ true → (may_begin c y ≡ true) × (calm c.head y t ≡ true))

@@ -3,7 +3,14 @@ use Rattle.std.proofs.Common.{◌≡◌, ℕ, Bool, true, false, ◌&&◌, ◌||
 use Rattle.src_token.specs.declared.token.Token.{Token}
 use Rattle.src_token.specs.declared.word.Word.{Word}
 use Rattle.src_token.specs.declared.mark.Mark.{Mark}
-use Rattle.src_tree.specs.Grammar.{Row, Sort, AFile, AnItem, AMethod, AHead, AField, AVariant, AName, AType, APattern, AFieldPattern, AnExpr, AFieldInit, ALabel, sort_number, Start, Anything, Statement, NextStatement, Value, NotBlocklike, ArmBody, NotBlock, Jump, JumpInHead, OnlyBlock, BlockOrIf, OnlyLabel, IsArm, IsParam, is_blocklike, Place, Seen, seen, allowed, may_begin, Part, place_of, Rest, ends, token, either, part, maybe, list, more, many, items, alternatives, statements, arms, arm_body, after_break, Kind, AMark, AWord, is, comma, pattern1, move, due, behind, made, close_block, Entry, entry, Joined, joined}
+use Rattle.src_tree.specs.declared.row.Row.{Row}
+use Rattle.src_tree.specs.declared.row.Sort.{Sort}
+use Rattle.src_tree.specs.declared.place.Start.{Start}
+use Rattle.src_tree.specs.declared.place.Place.{Place}
+use Rattle.src_tree.specs.declared.place.Seen.{Seen}
+use Rattle.src_tree.specs.declared.place.Part.{Part}
+use Rattle.src_tree.specs.declared.kind.Kind.{Kind}
+use Rattle.src_tree.specs.Grammar.{sort_number, is_blocklike, seen, allowed, may_begin, place_of, Rest, ends, token, either, part, maybe, list, more, many, items, alternatives, statements, arms, arm_body, after_break, is, comma, pattern1, move, due, behind, made, close_block, Entry, entry, Joined, joined}
 use Rattle.src_tree.specs.Layout.{due_place}
 use Rattle.src_tree.specs.Reading.{opens, joins}
 use Rattle.src_tree.proofs.Samples.{samples, rows, every}
@@ -41,35 +48,35 @@ quiet right head (Token.Mark Mark.Percent) = nat_le 7 right
 quiet right head _ = false
 
 abbrev open_brace : Kind
-open_brace = AMark Mark.OpenBrace
+open_brace = Kind.Mark Mark.OpenBrace
 
 abbrev separators : List Kind
-separators = comma ∷ AMark Mark.CloseBrace ∷ []
+separators = comma ∷ Kind.Mark Mark.CloseBrace ∷ []
 
 abbrev behind_patterns : List Kind
 behind_patterns =
-    comma ∷ AMark Mark.CloseParenthesis ∷ AMark Mark.CloseBracket ∷ AMark Mark.CloseBrace ∷ AMark Mark.FatArrow ∷ AWord Word.If ∷ AMark Mark.Eq ∷ []
+    comma ∷ Kind.Mark Mark.CloseParenthesis ∷ Kind.Mark Mark.CloseBracket ∷ Kind.Mark Mark.CloseBrace ∷ Kind.Mark Mark.FatArrow ∷ Kind.Word Word.If ∷ Kind.Mark Mark.Eq ∷ []
 
 -- it goes on with no node inside a node of this row
 abbrev pub calm : Bool → Row → Token → Bool
 calm h Row.File t = false
-calm h Row.Field t = none_of (AMark Mark.Lt ∷ []) t
+calm h Row.Field t = none_of (Kind.Mark Mark.Lt ∷ []) t
 calm h Row.Variant t = among separators t
-calm h Row.NamedType t = none_of (AMark Mark.Lt ∷ []) t
-calm h Row.RefType t = none_of (AMark Mark.Lt ∷ []) t
-calm h Row.Param t = none_of (AMark Mark.Lt ∷ []) t
-calm h Row.BindPattern t = none_of (AMark Mark.PathSep ∷ AMark Mark.OpenParenthesis ∷ open_brace ∷ []) t
-calm h Row.PathPattern t = none_of (AMark Mark.PathSep ∷ AMark Mark.OpenParenthesis ∷ open_brace ∷ []) t
+calm h Row.NamedType t = none_of (Kind.Mark Mark.Lt ∷ []) t
+calm h Row.RefType t = none_of (Kind.Mark Mark.Lt ∷ []) t
+calm h Row.Param t = none_of (Kind.Mark Mark.Lt ∷ []) t
+calm h Row.BindPattern t = none_of (Kind.Mark Mark.PathSep ∷ Kind.Mark Mark.OpenParenthesis ∷ open_brace ∷ []) t
+calm h Row.PathPattern t = none_of (Kind.Mark Mark.PathSep ∷ Kind.Mark Mark.OpenParenthesis ∷ open_brace ∷ []) t
 calm h Row.OrPattern t = among behind_patterns t
 calm h Row.FieldPattern t = among separators t
 calm h Row.FieldInit t = among separators t
-calm h Row.If t = none_of (AWord Word.Else ∷ []) t
+calm h Row.If t = none_of (Kind.Word Word.Else ∷ []) t
 calm h Row.Arm t = none_of (comma ∷ []) t
-calm h Row.LastArm t = is (AMark Mark.CloseBrace) t
+calm h Row.LastArm t = is (Kind.Mark Mark.CloseBrace) t
 calm h Row.Return t = quiet 0 h t
 calm h Row.Break t = quiet 0 h t
-calm h Row.Continue t = none_of (Kind.OfLabel ∷ AMark Mark.Colon ∷ []) t
-calm h Row.LabelName t = none_of (AMark Mark.Colon ∷ []) t
+calm h Row.Continue t = none_of (Kind.Label ∷ Kind.Mark Mark.Colon ∷ []) t
+calm h Row.LabelName t = none_of (Kind.Mark Mark.Colon ∷ []) t
 calm h Row.Assign t = quiet 0 h t
 calm h Row.Or t = quiet 3 h t
 calm h Row.And t = quiet 4 h t
@@ -77,9 +84,9 @@ calm h Row.Compare t = quiet 5 h t
 calm h Row.Sum t = quiet 6 h t
 calm h Row.Product t = quiet 7 h t
 calm h Row.Prefix t = quiet 7 h t
-calm h Row.Dot t = none_of (AMark Mark.OpenParenthesis ∷ []) t
-calm false Row.Path t = none_of (AMark Mark.PathSep ∷ AMark Mark.Not ∷ open_brace ∷ []) t
-calm true Row.Path t = none_of (AMark Mark.PathSep ∷ AMark Mark.Not ∷ []) t
+calm h Row.FieldAccess t = none_of (Kind.Mark Mark.OpenParenthesis ∷ []) t
+calm false Row.Path t = none_of (Kind.Mark Mark.PathSep ∷ Kind.Mark Mark.Not ∷ open_brace ∷ []) t
+calm true Row.Path t = none_of (Kind.Mark Mark.PathSep ∷ Kind.Mark Mark.Not ∷ []) t
 calm h _ t = true
 
 -- rows behind which the same may stand
@@ -111,54 +118,54 @@ example Open = Row.Path
 
 abbrev behind_a_statement : Shape → Token → Bool
 behind_a_statement Ended t = true
-behind_a_statement Brace t = none_of (AMark Mark.Semi ∷ AWord Word.Else ∷ []) t
-behind_a_statement Braced t = none_of (AMark Mark.Semi ∷ AWord Word.Else ∷ []) t
-behind_a_statement _ t = is (AMark Mark.CloseBrace) t
+behind_a_statement Brace t = none_of (Kind.Mark Mark.Semi ∷ Kind.Word Word.Else ∷ []) t
+behind_a_statement Braced t = none_of (Kind.Mark Mark.Semi ∷ Kind.Word Word.Else ∷ []) t
+behind_a_statement _ t = is (Kind.Mark Mark.CloseBrace) t
 
 abbrev behind_a_body : Shape → Token → Bool
 behind_a_body Brace t = true
 behind_a_body _ t = among separators t
 
 abbrev behind_a_jump : ℕ → Bool → Shape → Token → Bool
-behind_a_jump least head Labelled t = none_of (AMark Mark.Colon ∷ []) t
+behind_a_jump least head Labelled t = none_of (Kind.Mark Mark.Colon ∷ []) t
 behind_a_jump least head _ t = quiet least head t
 
 abbrev behind_an_arm : Shape → Token → Bool
 behind_an_arm OneArm t = none_of (comma ∷ []) t
-behind_an_arm _ t = is (AMark Mark.CloseBrace) t
+behind_an_arm _ t = is (Kind.Mark Mark.CloseBrace) t
 
 abbrev behind_an_expr : Place → Start → Shape → Token → Bool
-behind_an_expr c Statement y t = behind_a_statement y t
-behind_an_expr c NextStatement y t = behind_a_statement y t
-behind_an_expr c ArmBody y t = behind_a_body y t
-behind_an_expr c OnlyBlock y t = true
-behind_an_expr c BlockOrIf y t = none_of (AWord Word.Else ∷ []) t
-behind_an_expr c Jump y t = behind_a_jump c.least c.head y t
-behind_an_expr c JumpInHead y t = behind_a_jump c.least c.head y t
+behind_an_expr c Start.Statement y t = behind_a_statement y t
+behind_an_expr c Start.NextStatement y t = behind_a_statement y t
+behind_an_expr c Start.ArmBody y t = behind_a_body y t
+behind_an_expr c Start.OnlyBlock y t = true
+behind_an_expr c Start.BlockOrIf y t = none_of (Kind.Word Word.Else ∷ []) t
+behind_an_expr c Start.Jump y t = behind_a_jump c.least c.head y t
+behind_an_expr c Start.JumpInHead y t = behind_a_jump c.least c.head y t
 behind_an_expr c _ y t = quiet c.least c.head t
 
 abbrev behind_a_pattern : Place → Start → Shape → Token → Bool
-behind_a_pattern c IsArm y t = behind_an_arm y t
-behind_a_pattern c IsParam y t = among (comma ∷ AMark Mark.CloseParenthesis ∷ AMark Mark.Or ∷ []) t
+behind_a_pattern c Start.IsArm y t = behind_an_arm y t
+behind_a_pattern c Start.IsParam y t = among (comma ∷ Kind.Mark Mark.CloseParenthesis ∷ Kind.Mark Mark.Or ∷ []) t
 behind_a_pattern c _ y t =
-    among behind_patterns t || (nat_le 1 c.least && among (AMark Mark.Or ∷ AMark Mark.Colon ∷ AMark Mark.Semi ∷ []) t)
+    among behind_patterns t || (nat_le 1 c.least && among (Kind.Mark Mark.Or ∷ Kind.Mark Mark.Colon ∷ Kind.Mark Mark.Semi ∷ []) t)
 
 -- it may stand behind a tree there
 abbrev pub follow : Place → Shape → Token → Bool
 follow c y t = elim c.sort
-  [ AFile ↦ false
-  | AnItem ↦ true
-  | AMethod ↦ true
-  | AHead ↦ true
-  | AField ↦ among separators t
-  | AVariant ↦ among separators t
-  | AName ↦ true
-  | AType ↦ none_of (AMark Mark.Lt ∷ []) t
-  | APattern ↦ behind_a_pattern c c.start y t
-  | AFieldPattern ↦ among separators t
-  | AnExpr ↦ behind_an_expr c c.start y t
-  | AFieldInit ↦ among separators t
-  | ALabel ↦ none_of (AMark Mark.Colon ∷ []) t ]
+  [ Sort.File ↦ false
+  | Sort.Item ↦ true
+  | Sort.Method ↦ true
+  | Sort.Head ↦ true
+  | Sort.Field ↦ among separators t
+  | Sort.Variant ↦ among separators t
+  | Sort.Name ↦ true
+  | Sort.Type_ ↦ none_of (Kind.Mark Mark.Lt ∷ []) t
+  | Sort.Pattern ↦ behind_a_pattern c c.start y t
+  | Sort.FieldPattern ↦ among separators t
+  | Sort.Expr ↦ behind_an_expr c c.start y t
+  | Sort.FieldInit ↦ among separators t
+  | Sort.Label ↦ none_of (Kind.Mark Mark.Colon ∷ []) t ]
 
 abbrev pub implies : Bool → Bool → Bool
 implies a b = not a || b
@@ -188,32 +195,32 @@ in_place s n h b = record { sort = s; least = n; head = h; start = b }
 
 abbrev pub places : List Place
 places =
-    in_place AnItem 0 false Anything ∷ in_place AMethod 0 false Anything ∷ in_place AHead 0 false Anything ∷ in_place AField 0 false Anything
-    ∷ in_place AVariant 0 false Anything ∷ in_place AName 0 false Anything ∷ in_place AType 0 false Anything ∷ in_place APattern 0 false Anything
-    ∷ in_place APattern 1 false Anything ∷ in_place APattern 1 false IsParam ∷ in_place APattern 1 true IsParam ∷ in_place APattern 0 false IsArm
-    ∷ in_place AFieldPattern 0 false Anything ∷ in_place AFieldInit 0 false Anything ∷ in_place ALabel 0 false OnlyLabel
-    ∷ in_place AnExpr 0 false Anything ∷ in_place AnExpr 0 true Anything ∷ in_place AnExpr 0 false Statement ∷ in_place AnExpr 0 false NextStatement
-    ∷ in_place AnExpr 0 false ArmBody ∷ in_place AnExpr 0 true NotBlock ∷ in_place AnExpr 0 false Jump ∷ in_place AnExpr 0 true JumpInHead
-    ∷ in_place AnExpr 0 false OnlyBlock ∷ in_place AnExpr 0 false BlockOrIf
-    ∷ in_place AnExpr 3 false Anything ∷ in_place AnExpr 4 false Anything ∷ in_place AnExpr 5 false Anything ∷ in_place AnExpr 6 false Anything
-    ∷ in_place AnExpr 7 false Anything ∷ in_place AnExpr 3 true Anything ∷ in_place AnExpr 4 true Anything ∷ in_place AnExpr 5 true Anything
-    ∷ in_place AnExpr 6 true Anything ∷ in_place AnExpr 7 true Anything ∷ []
+    in_place Sort.Item 0 false Start.Anything ∷ in_place Sort.Method 0 false Start.Anything ∷ in_place Sort.Head 0 false Start.Anything ∷ in_place Sort.Field 0 false Start.Anything
+    ∷ in_place Sort.Variant 0 false Start.Anything ∷ in_place Sort.Name 0 false Start.Anything ∷ in_place Sort.Type_ 0 false Start.Anything ∷ in_place Sort.Pattern 0 false Start.Anything
+    ∷ in_place Sort.Pattern 1 false Start.Anything ∷ in_place Sort.Pattern 1 false Start.IsParam ∷ in_place Sort.Pattern 1 true Start.IsParam ∷ in_place Sort.Pattern 0 false Start.IsArm
+    ∷ in_place Sort.FieldPattern 0 false Start.Anything ∷ in_place Sort.FieldInit 0 false Start.Anything ∷ in_place Sort.Label 0 false Start.OnlyLabel
+    ∷ in_place Sort.Expr 0 false Start.Anything ∷ in_place Sort.Expr 0 true Start.Anything ∷ in_place Sort.Expr 0 false Start.Statement ∷ in_place Sort.Expr 0 false Start.NextStatement
+    ∷ in_place Sort.Expr 0 false Start.ArmBody ∷ in_place Sort.Expr 0 true Start.NotBlock ∷ in_place Sort.Expr 0 false Start.Jump ∷ in_place Sort.Expr 0 true Start.JumpInHead
+    ∷ in_place Sort.Expr 0 false Start.OnlyBlock ∷ in_place Sort.Expr 0 false Start.BlockOrIf
+    ∷ in_place Sort.Expr 3 false Start.Anything ∷ in_place Sort.Expr 4 false Start.Anything ∷ in_place Sort.Expr 5 false Start.Anything ∷ in_place Sort.Expr 6 false Start.Anything
+    ∷ in_place Sort.Expr 7 false Start.Anything ∷ in_place Sort.Expr 3 true Start.Anything ∷ in_place Sort.Expr 4 true Start.Anything ∷ in_place Sort.Expr 5 true Start.Anything
+    ∷ in_place Sort.Expr 6 true Start.Anything ∷ in_place Sort.Expr 7 true Start.Anything ∷ []
 
 abbrev pub start_number : Start → ℕ
-start_number Anything = 0
-start_number Statement = 1
-start_number NextStatement = 2
-start_number Value = 3
-start_number NotBlocklike = 4
-start_number ArmBody = 5
-start_number NotBlock = 6
-start_number Jump = 7
-start_number JumpInHead = 8
-start_number OnlyBlock = 9
-start_number BlockOrIf = 10
-start_number OnlyLabel = 11
-start_number IsArm = 12
-start_number IsParam = 13
+start_number Start.Anything = 0
+start_number Start.Statement = 1
+start_number Start.NextStatement = 2
+start_number Start.Value = 3
+start_number Start.NotBlocklike = 4
+start_number Start.ArmBody = 5
+start_number Start.NotBlock = 6
+start_number Start.Jump = 7
+start_number Start.JumpInHead = 8
+start_number Start.OnlyBlock = 9
+start_number Start.BlockOrIf = 10
+start_number Start.OnlyLabel = 11
+start_number Start.IsArm = 12
+start_number Start.IsParam = 13
 
 abbrev pub same_bool : Bool → Bool → Bool
 same_bool true b = b

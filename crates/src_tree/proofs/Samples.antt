@@ -4,7 +4,7 @@ use Rattle.mir_base.specs.declared.int_kind.IntKind.{IntKind}
 use Rattle.src_token.specs.declared.token.Token.{Token}
 use Rattle.src_token.specs.declared.word.Word.{Word}
 use Rattle.src_token.specs.declared.mark.Mark.{Mark}
-use Rattle.src_tree.specs.Grammar.{Row}
+use Rattle.src_tree.specs.declared.row.Row.{Row}
 use Rattle.src_tree.specs.Grammar.{is_text, is_panic}
 
 abbrev pub derive_text : List ℕ
@@ -254,7 +254,7 @@ of_samples f h (Token.Mark m) = every_nth f (mark_at m) samples _ (mark_is_there
 
 abbrev pub rows : List Row
 rows =
-    Row.File ∷ Row.Struct ∷ Row.Enum ∷ Row.Trait ∷ Row.Impl ∷ Row.Fn ∷ Row.Method ∷ Row.Head ∷ Row.Field ∷ Row.Variant ∷ Row.Ident ∷ Row.NamedType ∷ Row.GenericType ∷ Row.DynType ∷ Row.SelfType ∷ Row.TupleType ∷ Row.ArrayType ∷ Row.NeverType ∷ Row.RefType ∷ Row.WildPattern ∷ Row.BindPattern ∷ Row.NumberPattern ∷ Row.BoolPattern ∷ Row.PathPattern ∷ Row.CallPattern ∷ Row.StructPattern ∷ Row.TuplePattern ∷ Row.ArrayPattern ∷ Row.OrPattern ∷ Row.FieldPattern ∷ Row.Param ∷ Row.SelfParam ∷ Row.Let ∷ Row.Empty ∷ Row.Semi ∷ Row.Block ∷ Row.If ∷ Row.Match ∷ Row.Arm ∷ Row.LastArm ∷ Row.Loop ∷ Row.While ∷ Row.Return ∷ Row.Break ∷ Row.Continue ∷ Row.LabelName ∷ Row.Closure ∷ Row.Panic ∷ Row.Assign ∷ Row.Or ∷ Row.And ∷ Row.Compare ∷ Row.Sum ∷ Row.Product ∷ Row.Prefix ∷ Row.Dot ∷ Row.Method_ ∷ Row.TupleField ∷ Row.Call ∷ Row.Index ∷ Row.Number ∷ Row.Truth ∷ Row.SelfValue ∷ Row.Path ∷ Row.StructExpr ∷ Row.FieldInit ∷ Row.Round ∷ Row.Square ∷ []
+    Row.File ∷ Row.Struct ∷ Row.Enum ∷ Row.Trait ∷ Row.Impl ∷ Row.Fn ∷ Row.Method ∷ Row.Head ∷ Row.Field ∷ Row.Variant ∷ Row.Ident ∷ Row.NamedType ∷ Row.GenericType ∷ Row.DynType ∷ Row.SelfType ∷ Row.TupleType ∷ Row.ArrayType ∷ Row.NeverType ∷ Row.RefType ∷ Row.WildPattern ∷ Row.BindPattern ∷ Row.NumberPattern ∷ Row.BoolPattern ∷ Row.PathPattern ∷ Row.CallPattern ∷ Row.StructPattern ∷ Row.TuplePattern ∷ Row.ArrayPattern ∷ Row.OrPattern ∷ Row.FieldPattern ∷ Row.Param ∷ Row.SelfParam ∷ Row.Let ∷ Row.Empty ∷ Row.Semi ∷ Row.Block ∷ Row.If ∷ Row.Match ∷ Row.Arm ∷ Row.LastArm ∷ Row.Loop ∷ Row.While ∷ Row.Return ∷ Row.Break ∷ Row.Continue ∷ Row.LabelName ∷ Row.Closure ∷ Row.Panic ∷ Row.Assign ∷ Row.Or ∷ Row.And ∷ Row.Compare ∷ Row.Sum ∷ Row.Product ∷ Row.Prefix ∷ Row.FieldAccess ∷ Row.MethodCall ∷ Row.TupleField ∷ Row.Call ∷ Row.Index ∷ Row.Number ∷ Row.Truth ∷ Row.SelfValue ∷ Row.Path ∷ Row.StructExpr ∷ Row.FieldInit ∷ Row.Round ∷ Row.Square ∷ []
 
 abbrev row_at : Row → ℕ
 row_at Row.File = 0
@@ -312,8 +312,8 @@ row_at Row.Compare = 51
 row_at Row.Sum = 52
 row_at Row.Product = 53
 row_at Row.Prefix = 54
-row_at Row.Dot = 55
-row_at Row.Method_ = 56
+row_at Row.FieldAccess = 55
+row_at Row.MethodCall = 56
 row_at Row.TupleField = 57
 row_at Row.Call = 58
 row_at Row.Index = 59

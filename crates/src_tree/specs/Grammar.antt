@@ -2,227 +2,194 @@
 -- says how a node begins that begins with a token, and `joined` how one begins that begins with a part, as `a + b` does.
 use Rattle.std.specs.Prelude.{ℕ, Bool, true, false, ◌&&◌, ◌||◌, not, nat_le, nat_eq, Option, Some, None, if◌then◌else◌, List, [], ◌∷◌}
 use Rattle.src_token.specs.declared.token.Token.{Token}
+use Rattle.src_tree.specs.declared.row.Row.{Row}
+use Rattle.src_tree.specs.declared.row.Sort.{Sort}
+use Rattle.src_tree.specs.declared.place.Start.{Start}
+use Rattle.src_tree.specs.declared.place.Place.{Place}
+use Rattle.src_tree.specs.declared.place.Seen.{Seen}
+use Rattle.src_tree.specs.declared.place.Part.{Part}
+use Rattle.src_tree.specs.declared.kind.Kind.{Kind}
 use Rattle.src_token.specs.declared.word.Word.{Word}
 use Rattle.src_token.specs.declared.mark.Mark.{Mark}
 
--- what a node is
-pub data Row : Type 0 where
-  File Struct Enum Trait Impl Fn Method Head Field Variant Ident : Row
-  NamedType GenericType DynType SelfType TupleType ArrayType NeverType RefType : Row
-  WildPattern BindPattern NumberPattern BoolPattern PathPattern CallPattern StructPattern TuplePattern ArrayPattern OrPattern : Row
-  FieldPattern Param SelfParam : Row
-  Let Empty Semi Block If Match Arm LastArm Loop While : Row
-  Return Break Continue LabelName Closure Panic : Row
-  Assign Or And Compare Sum Product Prefix Dot Method_ TupleField Call Index : Row
-  Number Truth SelfValue Path StructExpr FieldInit Round Square : Row
-
-pub data Sort : Type 0 where
-  AFile AnItem AMethod AHead AField AVariant AName AType APattern AFieldPattern AnExpr AFieldInit ALabel : Sort
-
 abbrev pub sort_of : Row → Sort
-sort_of File = AFile
-sort_of Struct = AnItem
-sort_of Enum = AnItem
-sort_of Trait = AnItem
-sort_of Impl = AnItem
-sort_of Fn = AnItem
-sort_of Method = AMethod
-sort_of Head = AHead
-sort_of Field = AField
-sort_of Variant = AVariant
-sort_of Ident = AName
-sort_of NamedType = AType
-sort_of GenericType = AType
-sort_of DynType = AType
-sort_of SelfType = AType
-sort_of TupleType = AType
-sort_of ArrayType = AType
-sort_of NeverType = AType
-sort_of RefType = AType
-sort_of WildPattern = APattern
-sort_of BindPattern = APattern
-sort_of NumberPattern = APattern
-sort_of BoolPattern = APattern
-sort_of PathPattern = APattern
-sort_of CallPattern = APattern
-sort_of StructPattern = APattern
-sort_of TuplePattern = APattern
-sort_of ArrayPattern = APattern
-sort_of OrPattern = APattern
-sort_of Param = APattern
-sort_of SelfParam = APattern
-sort_of Arm = APattern
-sort_of LastArm = APattern
-sort_of FieldPattern = AFieldPattern
-sort_of FieldInit = AFieldInit
-sort_of LabelName = ALabel
-sort_of _ = AnExpr
+sort_of Row.File = Sort.File
+sort_of Row.Struct = Sort.Item
+sort_of Row.Enum = Sort.Item
+sort_of Row.Trait = Sort.Item
+sort_of Row.Impl = Sort.Item
+sort_of Row.Fn = Sort.Item
+sort_of Row.Method = Sort.Method
+sort_of Row.Head = Sort.Head
+sort_of Row.Field = Sort.Field
+sort_of Row.Variant = Sort.Variant
+sort_of Row.Ident = Sort.Name
+sort_of Row.NamedType = Sort.Type_
+sort_of Row.GenericType = Sort.Type_
+sort_of Row.DynType = Sort.Type_
+sort_of Row.SelfType = Sort.Type_
+sort_of Row.TupleType = Sort.Type_
+sort_of Row.ArrayType = Sort.Type_
+sort_of Row.NeverType = Sort.Type_
+sort_of Row.RefType = Sort.Type_
+sort_of Row.WildPattern = Sort.Pattern
+sort_of Row.BindPattern = Sort.Pattern
+sort_of Row.NumberPattern = Sort.Pattern
+sort_of Row.BoolPattern = Sort.Pattern
+sort_of Row.PathPattern = Sort.Pattern
+sort_of Row.CallPattern = Sort.Pattern
+sort_of Row.StructPattern = Sort.Pattern
+sort_of Row.TuplePattern = Sort.Pattern
+sort_of Row.ArrayPattern = Sort.Pattern
+sort_of Row.OrPattern = Sort.Pattern
+sort_of Row.Param = Sort.Pattern
+sort_of Row.SelfParam = Sort.Pattern
+sort_of Row.Arm = Sort.Pattern
+sort_of Row.LastArm = Sort.Pattern
+sort_of Row.FieldPattern = Sort.FieldPattern
+sort_of Row.FieldInit = Sort.FieldInit
+sort_of Row.LabelName = Sort.Label
+sort_of _ = Sort.Expr
 
 -- Levels, from the loosest. The levels of patterns are theirs alone: 0 for alternatives, 1 for one pattern.
 -- A field has a level of its own, since no call has it as callee.
 abbrev pub level : Row → ℕ
-level Return = 0
-level Break = 0
-level Closure = 0
-level Let = 0
-level Empty = 0
-level Semi = 0
-level LabelName = 0
-level Arm = 0
-level LastArm = 0
-level OrPattern = 0
-level Assign = 1
-level Or = 2
-level And = 3
-level Compare = 4
-level Sum = 5
-level Product = 6
-level Prefix = 7
-level Dot = 8
-level Method_ = 9
-level TupleField = 9
-level Call = 9
-level Index = 9
+level Row.Return = 0
+level Row.Break = 0
+level Row.Closure = 0
+level Row.Let = 0
+level Row.Empty = 0
+level Row.Semi = 0
+level Row.LabelName = 0
+level Row.Arm = 0
+level Row.LastArm = 0
+level Row.OrPattern = 0
+level Row.Assign = 1
+level Row.Or = 2
+level Row.And = 3
+level Row.Compare = 4
+level Row.Sum = 5
+level Row.Product = 6
+level Row.Prefix = 7
+level Row.FieldAccess = 8
+level Row.MethodCall = 9
+level Row.TupleField = 9
+level Row.Call = 9
+level Row.Index = 9
 level _ = 10
 
 -- a node counts for the nesting
 abbrev pub counts : Row → ℕ
-counts File = 0
-counts Method = 0
-counts Head = 0
-counts Field = 0
-counts Variant = 0
-counts Ident = 0
-counts FieldPattern = 0
-counts Param = 0
-counts SelfParam = 0
-counts Let = 0
-counts Empty = 0
-counts Semi = 0
-counts LabelName = 0
-counts FieldInit = 0
+counts Row.File = 0
+counts Row.Method = 0
+counts Row.Head = 0
+counts Row.Field = 0
+counts Row.Variant = 0
+counts Row.Ident = 0
+counts Row.FieldPattern = 0
+counts Row.Param = 0
+counts Row.SelfParam = 0
+counts Row.Let = 0
+counts Row.Empty = 0
+counts Row.Semi = 0
+counts Row.LabelName = 0
+counts Row.FieldInit = 0
 counts _ = 1
 
 abbrev pub is_block : Row → Bool
-is_block Block = true
+is_block Row.Block = true
 is_block _ = false
 
 abbrev pub is_blocklike : Row → Bool
-is_blocklike Block = true
-is_blocklike If = true
-is_blocklike Match = true
-is_blocklike Loop = true
-is_blocklike While = true
+is_blocklike Row.Block = true
+is_blocklike Row.If = true
+is_blocklike Row.Match = true
+is_blocklike Row.Loop = true
+is_blocklike Row.While = true
 is_blocklike _ = false
 
 -- a node that stands only where its list has it: statements, labels, parameters, arms
 abbrev pub is_plain : Row → Bool
-is_plain Let = false
-is_plain Empty = false
-is_plain Semi = false
-is_plain LabelName = false
-is_plain Param = false
-is_plain SelfParam = false
-is_plain Arm = false
-is_plain LastArm = false
+is_plain Row.Let = false
+is_plain Row.Empty = false
+is_plain Row.Semi = false
+is_plain Row.LabelName = false
+is_plain Row.Param = false
+is_plain Row.SelfParam = false
+is_plain Row.Arm = false
+is_plain Row.LastArm = false
 is_plain _ = true
 
 abbrev pub is_statement : Row → Bool
-is_statement Let = true
-is_statement Semi = true
+is_statement Row.Let = true
+is_statement Row.Semi = true
 is_statement r = is_plain r
 
 abbrev pub is_label : Row → Bool
-is_label LabelName = true
+is_label Row.LabelName = true
 is_label _ = false
 
 abbrev pub is_empty : Row → Bool
-is_empty Empty = true
+is_empty Row.Empty = true
 is_empty _ = false
 
--- what a node may begin with, or be
-pub data Start : Type 0 where
-  Anything : Start
-  -- a statement or a value; behind one that ended by its brace, which takes a `;` itself; the expression before a `;`
-  Statement NextStatement Value : Start
-  -- an operand that stands first in a statement
-  NotBlocklike : Start
-  -- the body of an arm, and an operand that stands first in it: a block is the whole body
-  ArmBody NotBlock : Start
-  -- behind `break`, outside a head and in one
-  Jump JumpInHead : Start
-  OnlyBlock BlockOrIf OnlyLabel : Start
-  IsArm IsParam : Start
-
 abbrev pub may_be : Start → Row → Bool
-may_be Anything r = is_plain r
-may_be Statement r = is_statement r || is_empty r
-may_be NextStatement r = is_statement r
-may_be Value r = is_plain r
-may_be NotBlocklike r = is_plain r && not (is_blocklike r)
-may_be ArmBody r = is_plain r
-may_be NotBlock r = is_plain r && not (is_block r)
-may_be Jump r = is_plain r || is_label r
-may_be JumpInHead r = (is_plain r && not (is_block r)) || is_label r
-may_be OnlyLabel r = is_label r
-may_be OnlyBlock Block = true
-may_be OnlyBlock _ = false
-may_be BlockOrIf Block = true
-may_be BlockOrIf If = true
-may_be BlockOrIf _ = false
-may_be IsArm Arm = true
-may_be IsArm LastArm = true
-may_be IsArm _ = false
-may_be IsParam Param = true
-may_be IsParam SelfParam = true
-may_be IsParam _ = false
+may_be Start.Anything r = is_plain r
+may_be Start.Statement r = is_statement r || is_empty r
+may_be Start.NextStatement r = is_statement r
+may_be Start.Value r = is_plain r
+may_be Start.NotBlocklike r = is_plain r && not (is_blocklike r)
+may_be Start.ArmBody r = is_plain r
+may_be Start.NotBlock r = is_plain r && not (is_block r)
+may_be Start.Jump r = is_plain r || is_label r
+may_be Start.JumpInHead r = (is_plain r && not (is_block r)) || is_label r
+may_be Start.OnlyLabel r = is_label r
+may_be Start.OnlyBlock Row.Block = true
+may_be Start.OnlyBlock _ = false
+may_be Start.BlockOrIf Row.Block = true
+may_be Start.BlockOrIf Row.If = true
+may_be Start.BlockOrIf _ = false
+may_be Start.IsArm Row.Arm = true
+may_be Start.IsArm Row.LastArm = true
+may_be Start.IsArm _ = false
+may_be Start.IsParam Row.Param = true
+may_be Start.IsParam Row.SelfParam = true
+may_be Start.IsParam _ = false
 
 -- what an operand that stands first may begin with
 abbrev pub first : Start → Start
-first Statement = NotBlocklike
-first NextStatement = NotBlocklike
-first Value = NotBlocklike
-first NotBlocklike = NotBlocklike
-first ArmBody = NotBlock
-first NotBlock = NotBlock
-first JumpInHead = NotBlock
-first _ = Anything
+first Start.Statement = Start.NotBlocklike
+first Start.NextStatement = Start.NotBlocklike
+first Start.Value = Start.NotBlocklike
+first Start.NotBlocklike = Start.NotBlocklike
+first Start.ArmBody = Start.NotBlock
+first Start.NotBlock = Start.NotBlock
+first Start.JumpInHead = Start.NotBlock
+first _ = Start.Anything
 
 -- Where a node stands: what it is, the least level that it has, whether no struct expression may stand in it outside
 -- brackets (and, for a pattern, whether it may be `self`), and what it may begin with.
-pub record Place : Type 0 where
-  pub sort : Sort
-  pub least : ℕ
-  pub head : Bool
-  pub start : Start
-
--- what its parts see of it
-pub record Seen : Type 0 where
-  pub sort : Sort
-  pub head : Bool
-  pub start : Start
-
 abbrev pub seen : Place → Seen
 seen c = record { sort = c.sort; head = c.head; start = first c.start }
 
 abbrev pub sort_number : Sort → ℕ
-sort_number AFile = 0
-sort_number AnItem = 1
-sort_number AMethod = 2
-sort_number AHead = 3
-sort_number AField = 4
-sort_number AVariant = 5
-sort_number AName = 6
-sort_number AType = 7
-sort_number APattern = 8
-sort_number AFieldPattern = 9
-sort_number AnExpr = 10
-sort_number AFieldInit = 11
-sort_number ALabel = 12
+sort_number Sort.File = 0
+sort_number Sort.Item = 1
+sort_number Sort.Method = 2
+sort_number Sort.Head = 3
+sort_number Sort.Field = 4
+sort_number Sort.Variant = 5
+sort_number Sort.Name = 6
+sort_number Sort.Type_ = 7
+sort_number Sort.Pattern = 8
+sort_number Sort.FieldPattern = 9
+sort_number Sort.Expr = 10
+sort_number Sort.FieldInit = 11
+sort_number Sort.Label = 12
 
 -- a label stands behind `continue`, and where an operand of `break` may stand
 abbrev pub belongs : Sort → Row → Bool
-belongs AnExpr LabelName = true
+belongs Sort.Expr Row.LabelName = true
 belongs s r = nat_eq (sort_number s) (sort_number (sort_of r))
 
 abbrev pub allowed : Place → Row → Bool
@@ -230,63 +197,52 @@ allowed c r = belongs c.sort r && (nat_le c.least (level r) && may_be c.start r)
 
 -- a row begins there, perhaps to be a part of what stands there
 abbrev pub begins_by : Start → Row → Bool
-begins_by IsArm r = may_be IsArm r || is_plain r
-begins_by IsParam r = may_be IsParam r || is_plain r
+begins_by Start.IsArm r = may_be Start.IsArm r || is_plain r
+begins_by Start.IsParam r = may_be Start.IsParam r || is_plain r
 begins_by s r = may_be s r
 
 abbrev pub may_begin : Place → Row → Bool
 may_begin c r = belongs c.sort r && (nat_le c.least (level r) && begins_by c.start r)
 
 -- The part that is due: at a place of its own, or at one that goes by where the node stands.
-pub data Part : Type 0 where
-  At : (c : Place) → Part
-  Operand : (least : ℕ) → Part
-  AfterBreak AfterReturn : Part
-
 abbrev pub expr : Bool → Start → Place
-expr head start = record { sort = AnExpr; least = 0; head = head; start = start }
+expr head start = record { sort = Sort.Expr; least = 0; head = head; start = start }
 
 abbrev pub place_of : Bool → Part → Place
-place_of head (At c) = c
-place_of head (Operand least) = record { sort = AnExpr; least = least; head = head; start = Anything }
-place_of head AfterBreak = expr head (if head then JumpInHead else Jump)
-place_of head AfterReturn = expr head (if head then NotBlock else Anything)
+place_of head (Part.At c) = c
+place_of head (Part.Operand least) = record { sort = Sort.Expr; least = least; head = head; start = Start.Anything }
+place_of head Part.AfterBreak = expr head (if head then Start.JumpInHead else Start.Jump)
+place_of head Part.AfterReturn = expr head (if head then Start.NotBlock else Start.Anything)
 
 abbrev pub of_sort : Sort → Part
-of_sort s = At record { sort = s; least = 0; head = false; start = Anything }
+of_sort s = Part.At record { sort = s; least = 0; head = false; start = Start.Anything }
 
 abbrev pub any_expr : Part
-any_expr = At (expr false Anything)
+any_expr = Part.At (expr false Start.Anything)
 
 abbrev pub head_expr : Part
-head_expr = At (expr true Anything)
+head_expr = Part.At (expr true Start.Anything)
 
 abbrev pub block : Part
-block = At (expr false OnlyBlock)
+block = Part.At (expr false Start.OnlyBlock)
 
 abbrev pub a_pattern : Part
-a_pattern = of_sort APattern
+a_pattern = of_sort Sort.Pattern
 
 abbrev pub pattern1 : Part
-pattern1 = At record { sort = APattern; least = 1; head = false; start = Anything }
+pattern1 = Part.At record { sort = Sort.Pattern; least = 1; head = false; start = Start.Anything }
 
 abbrev pub a_param : Bool → Part
-a_param self = At record { sort = APattern; least = 1; head = self; start = IsParam }
+a_param self = Part.At record { sort = Sort.Pattern; least = 1; head = self; start = Start.IsParam }
 
 abbrev pub a_type : Part
-a_type = of_sort AType
+a_type = of_sort Sort.Type_
 
 abbrev pub a_label : Part
-a_label = At record { sort = ALabel; least = 0; head = false; start = OnlyLabel }
+a_label = Part.At record { sort = Sort.Label; least = 0; head = false; start = Start.OnlyLabel }
 
 abbrev pub a_name : Part
-a_name = of_sort AName
-
--- Kinds of tokens.
-pub data Kind : Type 0 where
-  AMark : (m : Mark) → Kind
-  AWord : (w : Word) → Kind
-  OfName OfNumber OfDigits OfLabel OfText OfDerive : Kind
+a_name = of_sort Sort.Name
 
 abbrev pub mark_number : Mark → ℕ
 mark_number Mark.OpenBrace = 0
@@ -345,14 +301,14 @@ is_text (a ∷ as_) (b ∷ bs) = nat_eq a b && is_text as_ bs
 is_text _ _ = false
 
 abbrev pub is : Kind → Token → Bool
-is (AMark m) (Token.Mark n) = nat_eq (mark_number m) (mark_number n)
-is (AWord w) (Token.Word v) = nat_eq (word_number w) (word_number v)
-is OfName (Token.Name n) = true
-is OfNumber (Token.Number value suffix) = true
-is OfDigits (Token.Number value None) = true
-is OfLabel (Token.Label n) = true
-is OfText (Token.Text n) = true
-is OfDerive (Token.Name n) = is_text n (100 ∷ 101 ∷ 114 ∷ 105 ∷ 118 ∷ 101 ∷ [])
+is (Kind.Mark m) (Token.Mark n) = nat_eq (mark_number m) (mark_number n)
+is (Kind.Word w) (Token.Word v) = nat_eq (word_number w) (word_number v)
+is Kind.Name (Token.Name n) = true
+is Kind.Number (Token.Number value suffix) = true
+is Kind.Digits (Token.Number value None) = true
+is Kind.Label (Token.Label n) = true
+is Kind.Text (Token.Text n) = true
+is Kind.Derive (Token.Name n) = is_text n (100 ∷ 101 ∷ 114 ∷ 105 ∷ 118 ∷ 101 ∷ [])
 is _ _ = false
 
 -- What a node still has to have.
@@ -381,7 +337,7 @@ pub data Rest : Type 0 where
   after_break : Rest
 
 abbrev pub comma : Kind
-comma = AMark Mark.Comma
+comma = Kind.Mark Mark.Comma
 
 abbrev pub listed : Part → Kind → Rest → Rest
 listed p close after = list p p false close after
@@ -394,14 +350,14 @@ move (either k after other) t = if is k t then Some after else move other t
 move (part p after) t = None
 move (maybe p after r) t = None
 move (list p later dots close after) t =
-    if is close t then Some after else (if dots && is (AMark Mark.DotDot) t then Some (token close after) else None)
+    if is close t then Some after else (if dots && is (Kind.Mark Mark.DotDot) t then Some (token close after) else None)
 move (more p dots close after) t =
     if is close t then Some after else (if is comma t then Some (list p p dots close after) else None)
 move (many p close after) t = if is close t then Some after else None
 move items t = None
-move alternatives t = if is (AMark Mark.Or) t then Some (part pattern1 alternatives) else None
-move (statements open_) t = if is (AMark Mark.CloseBrace) t then Some (ends Block) else None
-move (arms some) t = if some && is (AMark Mark.CloseBrace) t then Some (ends Match) else None
+move alternatives t = if is (Kind.Mark Mark.Or) t then Some (part pattern1 alternatives) else None
+move (statements open_) t = if is (Kind.Mark Mark.CloseBrace) t then Some (ends Row.Block) else None
+move (arms some) t = if some && is (Kind.Mark Mark.CloseBrace) t then Some (ends Row.Match) else None
 move arm_body t = None
 move after_break t = None
 
@@ -415,34 +371,34 @@ due (maybe p after r) = Some p
 due (list p later dots close after) = Some p
 due (more p dots close after) = None
 due (many p close after) = Some p
-due items = Some (of_sort AnItem)
+due items = Some (of_sort Sort.Item)
 due alternatives = None
-due (statements open_) = Some (At (expr false (if open_ then NextStatement else Statement)))
-due (arms some) = Some (At record { sort = APattern; least = 0; head = false; start = IsArm })
-due arm_body = Some (At (expr false ArmBody))
-due after_break = Some AfterBreak
+due (statements open_) = Some (Part.At (expr false (if open_ then Start.NextStatement else Start.Statement)))
+due (arms some) = Some (Part.At record { sort = Sort.Pattern; least = 0; head = false; start = Start.IsArm })
+due arm_body = Some (Part.At (expr false Start.ArmBody))
+due after_break = Some Part.AfterBreak
 
 abbrev pub close_block : Rest
-close_block = token (AMark Mark.CloseBrace) (ends Block)
+close_block = token (Kind.Mark Mark.CloseBrace) (ends Row.Block)
 
 -- behind a statement, an arm, the body of an arm, and what stands behind `break`
 abbrev pub behind_statement : Row → Rest
-behind_statement Let = statements false
-behind_statement Semi = statements false
-behind_statement Empty = statements false
+behind_statement Row.Let = statements false
+behind_statement Row.Semi = statements false
+behind_statement Row.Empty = statements false
 behind_statement r = if is_blocklike r then statements true else close_block
 
 abbrev pub behind_arm : Row → Rest
-behind_arm Arm = arms true
-behind_arm _ = token (AMark Mark.CloseBrace) (ends Match)
+behind_arm Row.Arm = arms true
+behind_arm _ = token (Kind.Mark Mark.CloseBrace) (ends Row.Match)
 
 abbrev pub behind_body : Row → Rest
-behind_body Block = either comma (ends Arm) (ends Arm)
-behind_body _ = either comma (ends Arm) (ends LastArm)
+behind_body Row.Block = either comma (ends Row.Arm) (ends Row.Arm)
+behind_body _ = either comma (ends Row.Arm) (ends Row.LastArm)
 
 abbrev pub behind_break : Row → Rest
-behind_break LabelName = maybe AfterReturn (ends Break) Break
-behind_break _ = ends Break
+behind_break Row.LabelName = maybe Part.AfterReturn (ends Row.Break) Row.Break
+behind_break _ = ends Row.Break
 
 -- the rest behind a part
 abbrev pub behind : Rest → Row → Rest
@@ -463,9 +419,9 @@ abbrev pub made : Rest → Option Row
 made (ends r) = Some r
 made (either k after other) = made other
 made (maybe p after r) = Some r
-made items = Some File
-made alternatives = Some OrPattern
-made after_break = Some Break
+made items = Some Row.File
+made alternatives = Some Row.OrPattern
+made after_break = Some Row.Break
 made _ = None
 
 -- How a node begins: the first row that it can be, and what follows its first token.
@@ -477,91 +433,91 @@ abbrev pub by_row : Row → Rest → Option Entry
 by_row r q = Some record { row = r; rest = q }
 
 abbrev mark : Mark → Rest → Rest
-mark m after = token (AMark m) after
+mark m after = token (Kind.Mark m) after
 
 abbrev word : Word → Rest → Rest
-word w after = token (AWord w) after
+word w after = token (Kind.Word w) after
 
 abbrev if_mark : Mark → Rest → Rest → Rest
-if_mark m after other = either (AMark m) after other
+if_mark m after other = either (Kind.Mark m) after other
 
 abbrev if_word : Word → Rest → Rest → Rest
-if_word w after other = either (AWord w) after other
+if_word w after other = either (Kind.Word w) after other
 
 -- Items.
 
 abbrev fields : Rest → Rest
-fields after = listed (of_sort AField) (AMark Mark.CloseBrace) after
+fields after = listed (of_sort Sort.Field) (Kind.Mark Mark.CloseBrace) after
 
 abbrev types : Rest → Rest
-types after = listed a_type (AMark Mark.CloseParenthesis) after
+types after = listed a_type (Kind.Mark Mark.CloseParenthesis) after
 
 abbrev struct_rest : Rest
 struct_rest =
-    part a_name (if_mark Mark.Semi (ends Struct) (if_mark Mark.OpenParenthesis (types (mark Mark.Semi (ends Struct)))
-    (mark Mark.OpenBrace (fields (ends Struct)))))
+    part a_name (if_mark Mark.Semi (ends Row.Struct) (if_mark Mark.OpenParenthesis (types (mark Mark.Semi (ends Row.Struct)))
+    (mark Mark.OpenBrace (fields (ends Row.Struct)))))
 
 abbrev enum_rest : Rest
-enum_rest = part a_name (mark Mark.OpenBrace (listed (of_sort AVariant) (AMark Mark.CloseBrace) (ends Enum)))
+enum_rest = part a_name (mark Mark.OpenBrace (listed (of_sort Sort.Variant) (Kind.Mark Mark.CloseBrace) (ends Row.Enum)))
 
 abbrev derived : Rest
 derived =
-    mark Mark.OpenBracket (token OfDerive (mark Mark.OpenParenthesis (listed a_name (AMark Mark.CloseParenthesis)
+    mark Mark.OpenBracket (token Kind.Derive (mark Mark.OpenParenthesis (listed a_name (Kind.Mark Mark.CloseParenthesis)
     (mark Mark.CloseBracket (if_word Word.Struct struct_rest (word Word.Enum enum_rest))))))
 
 -- a head, with what stands first among its parameters and what follows it
 abbrev head_rest : Bool → Rest → Rest
 head_rest self after =
-    part a_name (mark Mark.OpenParenthesis (list (a_param self) (a_param false) false (AMark Mark.CloseParenthesis)
+    part a_name (mark Mark.OpenParenthesis (list (a_param self) (a_param false) false (Kind.Mark Mark.CloseParenthesis)
     (if_mark Mark.RArrow (part a_type after) after)))
 
 abbrev impl_rest : Rest
-impl_rest = mark Mark.OpenBrace (many (of_sort AMethod) (AMark Mark.CloseBrace) (ends Impl))
+impl_rest = mark Mark.OpenBrace (many (of_sort Sort.Method) (Kind.Mark Mark.CloseBrace) (ends Row.Impl))
 
 abbrev item : Token → Option Entry
-item (Token.Mark Mark.Pound) = by_row Struct derived
-item (Token.Word Word.Struct) = by_row Struct struct_rest
-item (Token.Word Word.Enum) = by_row Enum enum_rest
-item (Token.Word Word.Trait) = by_row Trait (part a_name (mark Mark.OpenBrace (many (of_sort AHead) (AMark Mark.CloseBrace) (ends Trait))))
-item (Token.Word Word.Impl) = by_row Impl (part a_name (if_word Word.For (part a_name impl_rest) impl_rest))
-item (Token.Word Word.Fn) = by_row Fn (head_rest false (part block (ends Fn)))
+item (Token.Mark Mark.Pound) = by_row Row.Struct derived
+item (Token.Word Word.Struct) = by_row Row.Struct struct_rest
+item (Token.Word Word.Enum) = by_row Row.Enum enum_rest
+item (Token.Word Word.Trait) = by_row Row.Trait (part a_name (mark Mark.OpenBrace (many (of_sort Sort.Head) (Kind.Mark Mark.CloseBrace) (ends Row.Trait))))
+item (Token.Word Word.Impl) = by_row Row.Impl (part a_name (if_word Word.For (part a_name impl_rest) impl_rest))
+item (Token.Word Word.Fn) = by_row Row.Fn (head_rest false (part block (ends Row.Fn)))
 item _ = None
 
 abbrev method : Token → Option Entry
-method (Token.Word Word.Fn) = by_row Method (head_rest true (part block (ends Method)))
+method (Token.Word Word.Fn) = by_row Row.Method (head_rest true (part block (ends Row.Method)))
 method _ = None
 
 abbrev head : Token → Option Entry
-head (Token.Word Word.Fn) = by_row Head (head_rest true (mark Mark.Semi (ends Head)))
+head (Token.Word Word.Fn) = by_row Row.Head (head_rest true (mark Mark.Semi (ends Row.Head)))
 head _ = None
 
 abbrev named_field : Token → Option Entry
-named_field (Token.Name n) = by_row Field (mark Mark.Colon (part a_type (ends Field)))
+named_field (Token.Name n) = by_row Row.Field (mark Mark.Colon (part a_type (ends Row.Field)))
 named_field _ = None
 
 abbrev variant : Token → Option Entry
 variant (Token.Name n) =
-    by_row Variant (if_mark Mark.OpenParenthesis (types (ends Variant)) (if_mark Mark.OpenBrace (fields (ends Variant)) (ends Variant)))
+    by_row Row.Variant (if_mark Mark.OpenParenthesis (types (ends Row.Variant)) (if_mark Mark.OpenBrace (fields (ends Row.Variant)) (ends Row.Variant)))
 variant _ = None
 
 abbrev name : Token → Option Entry
-name (Token.Name n) = by_row Ident (ends Ident)
+name (Token.Name n) = by_row Row.Ident (ends Row.Ident)
 name _ = None
 
 abbrev label : Token → Option Entry
-label (Token.Label n) = by_row LabelName (ends LabelName)
+label (Token.Label n) = by_row Row.LabelName (ends Row.LabelName)
 label _ = None
 
 -- Types.
 
 abbrev type_ : Token → Option Entry
 type_ (Token.Name n) =
-    by_row NamedType (if_mark Mark.Lt (if_word Word.Dyn (part a_name (mark Mark.Gt (ends DynType))) (part a_type (mark Mark.Gt (ends GenericType)))) (ends NamedType))
-type_ (Token.Word Word.SelfType) = by_row SelfType (ends SelfType)
-type_ (Token.Mark Mark.OpenParenthesis) = by_row TupleType (types (ends TupleType))
-type_ (Token.Mark Mark.OpenBracket) = by_row ArrayType (part a_type (mark Mark.Semi (token OfNumber (mark Mark.CloseBracket (ends ArrayType)))))
-type_ (Token.Mark Mark.Not) = by_row NeverType (ends NeverType)
-type_ (Token.Mark Mark.And) = by_row RefType (if_word Word.Mut (part a_type (ends RefType)) (part a_type (ends RefType)))
+    by_row Row.NamedType (if_mark Mark.Lt (if_word Word.Dyn (part a_name (mark Mark.Gt (ends Row.DynType))) (part a_type (mark Mark.Gt (ends Row.GenericType)))) (ends Row.NamedType))
+type_ (Token.Word Word.SelfType) = by_row Row.SelfType (ends Row.SelfType)
+type_ (Token.Mark Mark.OpenParenthesis) = by_row Row.TupleType (types (ends Row.TupleType))
+type_ (Token.Mark Mark.OpenBracket) = by_row Row.ArrayType (part a_type (mark Mark.Semi (token Kind.Number (mark Mark.CloseBracket (ends Row.ArrayType)))))
+type_ (Token.Mark Mark.Not) = by_row Row.NeverType (ends Row.NeverType)
+type_ (Token.Mark Mark.And) = by_row Row.RefType (if_word Word.Mut (part a_type (ends Row.RefType)) (part a_type (ends Row.RefType)))
 type_ _ = None
 
 -- Patterns.
@@ -572,54 +528,54 @@ patterns close after = list a_pattern a_pattern true close after
 -- behind a path, which is this row where it stands alone
 abbrev behind_path : Row → Rest
 behind_path r =
-    if_mark Mark.OpenParenthesis (patterns (AMark Mark.CloseParenthesis) (ends CallPattern))
-    (if_mark Mark.OpenBrace (list (of_sort AFieldPattern) (of_sort AFieldPattern) true (AMark Mark.CloseBrace) (ends StructPattern)) (ends r))
+    if_mark Mark.OpenParenthesis (patterns (Kind.Mark Mark.CloseParenthesis) (ends Row.CallPattern))
+    (if_mark Mark.OpenBrace (list (of_sort Sort.FieldPattern) (of_sort Sort.FieldPattern) true (Kind.Mark Mark.CloseBrace) (ends Row.StructPattern)) (ends r))
 
 abbrev path_pattern : Row → Rest
-path_pattern r = if_mark Mark.PathSep (part a_name (behind_path PathPattern)) (behind_path r)
+path_pattern r = if_mark Mark.PathSep (part a_name (behind_path Row.PathPattern)) (behind_path r)
 
 abbrev bind_or_self : Bool → Rest
-bind_or_self false = token OfName (ends BindPattern)
-bind_or_self true = if_word Word.SelfValue (ends SelfParam) (token OfName (ends BindPattern))
+bind_or_self false = token Kind.Name (ends Row.BindPattern)
+bind_or_self true = if_word Word.SelfValue (ends Row.SelfParam) (token Kind.Name (ends Row.BindPattern))
 
 abbrev only : Bool → Option Entry → Option Entry
 only false e = None
 only true e = e
 
 abbrev pattern : Bool → Token → Option Entry
-pattern self (Token.Mark Mark.Underscore) = by_row WildPattern (ends WildPattern)
-pattern self (Token.Word Word.Mut) = by_row BindPattern (bind_or_self self)
-pattern self (Token.Name n) = by_row BindPattern (path_pattern BindPattern)
-pattern self (Token.Word Word.SelfType) = by_row PathPattern (path_pattern PathPattern)
-pattern self (Token.Number value suffix) = by_row NumberPattern (ends NumberPattern)
-pattern self (Token.Mark Mark.Minus) = by_row NumberPattern (token OfNumber (ends NumberPattern))
-pattern self (Token.Word Word.True) = by_row BoolPattern (ends BoolPattern)
-pattern self (Token.Word Word.False) = by_row BoolPattern (ends BoolPattern)
-pattern self (Token.Mark Mark.OpenParenthesis) = by_row TuplePattern (patterns (AMark Mark.CloseParenthesis) (ends TuplePattern))
-pattern self (Token.Mark Mark.OpenBracket) = by_row ArrayPattern (patterns (AMark Mark.CloseBracket) (ends ArrayPattern))
-pattern self (Token.Word Word.SelfValue) = only self (by_row SelfParam (ends SelfParam))
-pattern self (Token.Mark Mark.And) = only self (by_row SelfParam (if_word Word.Mut (word Word.SelfValue (ends SelfParam)) (word Word.SelfValue (ends SelfParam))))
+pattern self (Token.Mark Mark.Underscore) = by_row Row.WildPattern (ends Row.WildPattern)
+pattern self (Token.Word Word.Mut) = by_row Row.BindPattern (bind_or_self self)
+pattern self (Token.Name n) = by_row Row.BindPattern (path_pattern Row.BindPattern)
+pattern self (Token.Word Word.SelfType) = by_row Row.PathPattern (path_pattern Row.PathPattern)
+pattern self (Token.Number value suffix) = by_row Row.NumberPattern (ends Row.NumberPattern)
+pattern self (Token.Mark Mark.Minus) = by_row Row.NumberPattern (token Kind.Number (ends Row.NumberPattern))
+pattern self (Token.Word Word.True) = by_row Row.BoolPattern (ends Row.BoolPattern)
+pattern self (Token.Word Word.False) = by_row Row.BoolPattern (ends Row.BoolPattern)
+pattern self (Token.Mark Mark.OpenParenthesis) = by_row Row.TuplePattern (patterns (Kind.Mark Mark.CloseParenthesis) (ends Row.TuplePattern))
+pattern self (Token.Mark Mark.OpenBracket) = by_row Row.ArrayPattern (patterns (Kind.Mark Mark.CloseBracket) (ends Row.ArrayPattern))
+pattern self (Token.Word Word.SelfValue) = only self (by_row Row.SelfParam (ends Row.SelfParam))
+pattern self (Token.Mark Mark.And) = only self (by_row Row.SelfParam (if_word Word.Mut (word Word.SelfValue (ends Row.SelfParam)) (word Word.SelfValue (ends Row.SelfParam))))
 pattern self _ = None
 
 abbrev field_pattern : Token → Option Entry
-field_pattern (Token.Name n) = by_row FieldPattern (if_mark Mark.Colon (part a_pattern (ends FieldPattern)) (ends FieldPattern))
-field_pattern (Token.Word Word.Mut) = by_row FieldPattern (token OfName (ends FieldPattern))
+field_pattern (Token.Name n) = by_row Row.FieldPattern (if_mark Mark.Colon (part a_pattern (ends Row.FieldPattern)) (ends Row.FieldPattern))
+field_pattern (Token.Word Word.Mut) = by_row Row.FieldPattern (token Kind.Name (ends Row.FieldPattern))
 field_pattern _ = None
 
 -- Expressions.
 
 abbrev exprs : Mark → Rest → Rest
-exprs close after = listed any_expr (AMark close) after
+exprs close after = listed any_expr (Kind.Mark close) after
 
 abbrev struct_or_path : Bool → Rest
-struct_or_path true = ends Path
-struct_or_path false = if_mark Mark.OpenBrace (listed (of_sort AFieldInit) (AMark Mark.CloseBrace) (ends StructExpr)) (ends Path)
+struct_or_path true = ends Row.Path
+struct_or_path false = if_mark Mark.OpenBrace (listed (of_sort Sort.FieldInit) (Kind.Mark Mark.CloseBrace) (ends Row.StructExpr)) (ends Row.Path)
 
 abbrev path : Bool → Rest
 path in_head = if_mark Mark.PathSep (part a_name (struct_or_path in_head)) (struct_or_path in_head)
 
 abbrev panic_rest : Rest
-panic_rest = mark Mark.OpenParenthesis (either OfText (mark Mark.CloseParenthesis (ends Panic)) (mark Mark.CloseParenthesis (ends Panic)))
+panic_rest = mark Mark.OpenParenthesis (either Kind.Text (mark Mark.CloseParenthesis (ends Row.Panic)) (mark Mark.CloseParenthesis (ends Row.Panic)))
 
 abbrev pub is_panic : List ℕ → Bool
 is_panic n = is_text n (112 ∷ 97 ∷ 110 ∷ 105 ∷ 99 ∷ [])
@@ -634,79 +590,79 @@ headed after =
     if_word Word.Let (part a_pattern (mark Mark.Eq (part head_expr (part block after)))) (part head_expr (part block after))
 
 abbrev if_rest : Rest
-if_rest = headed (if_word Word.Else (part (At (expr false BlockOrIf)) (ends If)) (ends If))
+if_rest = headed (if_word Word.Else (part (Part.At (expr false Start.BlockOrIf)) (ends Row.If)) (ends Row.If))
 
 abbrev loop_rest : Rest
-loop_rest = part block (ends Loop)
+loop_rest = part block (ends Row.Loop)
 
 abbrev while_rest : Rest
-while_rest = headed (ends While)
+while_rest = headed (ends Row.While)
 
 abbrev labelled : Rest
-labelled = if_mark Mark.Colon (if_word Word.Loop loop_rest (word Word.While while_rest)) (ends LabelName)
+labelled = if_mark Mark.Colon (if_word Word.Loop loop_rest (word Word.While while_rest)) (ends Row.LabelName)
 
 abbrev behind_params : Rest
-behind_params = if_mark Mark.RArrow (part a_type (part block (ends Closure))) (part block (ends Closure))
+behind_params = if_mark Mark.RArrow (part a_type (part block (ends Row.Closure))) (part block (ends Row.Closure))
 
 abbrev closure : Rest
 closure =
-    mark Mark.OpenBracket (listed a_name (AMark Mark.CloseBracket) (if_mark Mark.OrOr behind_params
-    (mark Mark.Or (listed (a_param false) (AMark Mark.Or) behind_params))))
+    mark Mark.OpenBracket (listed a_name (Kind.Mark Mark.CloseBracket) (if_mark Mark.OrOr behind_params
+    (mark Mark.Or (listed (a_param false) (Kind.Mark Mark.Or) behind_params))))
 
 abbrev let_rest : Rest
 let_rest =
-    let value = if_mark Mark.Eq (part any_expr (mark Mark.Semi (ends Let))) (mark Mark.Semi (ends Let)) in
+    let value = if_mark Mark.Eq (part any_expr (mark Mark.Semi (ends Row.Let))) (mark Mark.Semi (ends Row.Let)) in
     part pattern1 (if_mark Mark.Colon (part a_type value) value)
 
 abbrev operand : Rest
-operand = part (Operand 7) (ends Prefix)
+operand = part (Part.Operand 7) (ends Row.Prefix)
 
 abbrev expression : Bool → Token → Option Entry
-expression h (Token.Mark Mark.Semi) = by_row Empty (ends Empty)
-expression h (Token.Word Word.Let) = by_row Let let_rest
-expression h (Token.Word Word.Return) = by_row Return (maybe AfterReturn (ends Return) Return)
-expression h (Token.Word Word.Break) = by_row Break after_break
-expression h (Token.Word Word.Continue) = by_row Continue (maybe a_label (ends Continue) Continue)
-expression h (Token.Word Word.Move) = by_row Closure closure
-expression h (Token.Mark Mark.Minus) = by_row Prefix operand
-expression h (Token.Mark Mark.Not) = by_row Prefix operand
-expression h (Token.Mark Mark.Star) = by_row Prefix operand
-expression h (Token.Mark Mark.And) = by_row Prefix (if_word Word.Mut operand operand)
-expression h (Token.Number value suffix) = by_row Number (ends Number)
-expression h (Token.Word Word.True) = by_row Truth (ends Truth)
-expression h (Token.Word Word.False) = by_row Truth (ends Truth)
-expression h (Token.Word Word.SelfValue) = by_row SelfValue (ends SelfValue)
-expression h (Token.Name n) = by_row Path (named (is_panic n) h)
-expression h (Token.Word Word.SelfType) = by_row Path (path h)
-expression h (Token.Mark Mark.OpenParenthesis) = by_row Round (exprs Mark.CloseParenthesis (ends Round))
-expression h (Token.Mark Mark.OpenBracket) = by_row Square (exprs Mark.CloseBracket (ends Square))
-expression h (Token.Mark Mark.OpenBrace) = by_row Block (statements false)
-expression h (Token.Word Word.If) = by_row If if_rest
-expression h (Token.Word Word.Match) = by_row Match (part head_expr (mark Mark.OpenBrace (arms false)))
-expression h (Token.Word Word.Loop) = by_row Loop loop_rest
-expression h (Token.Word Word.While) = by_row While while_rest
-expression h (Token.Label n) = by_row Loop labelled
+expression h (Token.Mark Mark.Semi) = by_row Row.Empty (ends Row.Empty)
+expression h (Token.Word Word.Let) = by_row Row.Let let_rest
+expression h (Token.Word Word.Return) = by_row Row.Return (maybe Part.AfterReturn (ends Row.Return) Row.Return)
+expression h (Token.Word Word.Break) = by_row Row.Break after_break
+expression h (Token.Word Word.Continue) = by_row Row.Continue (maybe a_label (ends Row.Continue) Row.Continue)
+expression h (Token.Word Word.Move) = by_row Row.Closure closure
+expression h (Token.Mark Mark.Minus) = by_row Row.Prefix operand
+expression h (Token.Mark Mark.Not) = by_row Row.Prefix operand
+expression h (Token.Mark Mark.Star) = by_row Row.Prefix operand
+expression h (Token.Mark Mark.And) = by_row Row.Prefix (if_word Word.Mut operand operand)
+expression h (Token.Number value suffix) = by_row Row.Number (ends Row.Number)
+expression h (Token.Word Word.True) = by_row Row.Truth (ends Row.Truth)
+expression h (Token.Word Word.False) = by_row Row.Truth (ends Row.Truth)
+expression h (Token.Word Word.SelfValue) = by_row Row.SelfValue (ends Row.SelfValue)
+expression h (Token.Name n) = by_row Row.Path (named (is_panic n) h)
+expression h (Token.Word Word.SelfType) = by_row Row.Path (path h)
+expression h (Token.Mark Mark.OpenParenthesis) = by_row Row.Round (exprs Mark.CloseParenthesis (ends Row.Round))
+expression h (Token.Mark Mark.OpenBracket) = by_row Row.Square (exprs Mark.CloseBracket (ends Row.Square))
+expression h (Token.Mark Mark.OpenBrace) = by_row Row.Block (statements false)
+expression h (Token.Word Word.If) = by_row Row.If if_rest
+expression h (Token.Word Word.Match) = by_row Row.Match (part head_expr (mark Mark.OpenBrace (arms false)))
+expression h (Token.Word Word.Loop) = by_row Row.Loop loop_rest
+expression h (Token.Word Word.While) = by_row Row.While while_rest
+expression h (Token.Label n) = by_row Row.Loop labelled
 expression h _ = None
 
 abbrev field_init : Token → Option Entry
-field_init (Token.Name n) = by_row FieldInit (if_mark Mark.Colon (part any_expr (ends FieldInit)) (ends FieldInit))
+field_init (Token.Name n) = by_row Row.FieldInit (if_mark Mark.Colon (part any_expr (ends Row.FieldInit)) (ends Row.FieldInit))
 field_init _ = None
 
 abbrev pub entry : Seen → Token → Option Entry
 entry s t = elim s.sort
-  [ AFile ↦ None
-  | AnItem ↦ item t
-  | AMethod ↦ method t
-  | AHead ↦ head t
-  | AField ↦ named_field t
-  | AVariant ↦ variant t
-  | AName ↦ name t
-  | AType ↦ type_ t
-  | APattern ↦ pattern s.head t
-  | AFieldPattern ↦ field_pattern t
-  | AnExpr ↦ expression s.head t
-  | AFieldInit ↦ field_init t
-  | ALabel ↦ label t ]
+  [ Sort.File ↦ None
+  | Sort.Item ↦ item t
+  | Sort.Method ↦ method t
+  | Sort.Head ↦ head t
+  | Sort.Field ↦ named_field t
+  | Sort.Variant ↦ variant t
+  | Sort.Name ↦ name t
+  | Sort.Type_ ↦ type_ t
+  | Sort.Pattern ↦ pattern s.head t
+  | Sort.FieldPattern ↦ field_pattern t
+  | Sort.Expr ↦ expression s.head t
+  | Sort.FieldInit ↦ field_init t
+  | Sort.Label ↦ label t ]
 
 -- How a node begins that begins with a part: its row, where the part stands, and what follows the token behind it.
 pub record Joined : Type 0 where
@@ -719,40 +675,40 @@ joined_by s r least q = Some record { row = r; place = record { sort = s.sort; l
 
 -- an operator with the least levels of its operands
 abbrev infix_ : Seen → Row → ℕ → ℕ → Option Joined
-infix_ s r left right = joined_by s r left (part (Operand right) (ends r))
+infix_ s r left right = joined_by s r left (part (Part.Operand right) (ends r))
 
 abbrev dot : Rest
 dot =
-    either OfName (if_mark Mark.OpenParenthesis (exprs Mark.CloseParenthesis (ends Method_)) (ends Dot))
-    (token OfDigits (ends TupleField))
+    either Kind.Name (if_mark Mark.OpenParenthesis (exprs Mark.CloseParenthesis (ends Row.MethodCall)) (ends Row.FieldAccess))
+    (token Kind.Digits (ends Row.TupleField))
 
 abbrev infix_expr : Seen → Token → Option Joined
-infix_expr s (Token.Mark Mark.Eq) = infix_ s Assign 2 0
-infix_expr s (Token.Mark Mark.OrOr) = infix_ s Or 2 3
-infix_expr s (Token.Mark Mark.AndAnd) = infix_ s And 3 4
-infix_expr s (Token.Mark Mark.EqEq) = infix_ s Compare 5 5
-infix_expr s (Token.Mark Mark.Ne) = infix_ s Compare 5 5
-infix_expr s (Token.Mark Mark.Lt) = infix_ s Compare 5 5
-infix_expr s (Token.Mark Mark.Le) = infix_ s Compare 5 5
-infix_expr s (Token.Mark Mark.Gt) = infix_ s Compare 5 5
-infix_expr s (Token.Mark Mark.Ge) = infix_ s Compare 5 5
-infix_expr s (Token.Mark Mark.Plus) = infix_ s Sum 5 6
-infix_expr s (Token.Mark Mark.Minus) = infix_ s Sum 5 6
-infix_expr s (Token.Mark Mark.Star) = infix_ s Product 6 7
-infix_expr s (Token.Mark Mark.Slash) = infix_ s Product 6 7
-infix_expr s (Token.Mark Mark.Percent) = infix_ s Product 6 7
-infix_expr s (Token.Mark Mark.OpenParenthesis) = joined_by s Call 9 (exprs Mark.CloseParenthesis (ends Call))
-infix_expr s (Token.Mark Mark.Dot) = joined_by s TupleField 8 dot
-infix_expr s (Token.Mark Mark.OpenBracket) = joined_by s Index 8 (part any_expr (mark Mark.CloseBracket (ends Index)))
-infix_expr s (Token.Mark Mark.Semi) = Some record { row = Semi; place = expr s.head Value; rest = ends Semi }
+infix_expr s (Token.Mark Mark.Eq) = infix_ s Row.Assign 2 0
+infix_expr s (Token.Mark Mark.OrOr) = infix_ s Row.Or 2 3
+infix_expr s (Token.Mark Mark.AndAnd) = infix_ s Row.And 3 4
+infix_expr s (Token.Mark Mark.EqEq) = infix_ s Row.Compare 5 5
+infix_expr s (Token.Mark Mark.Ne) = infix_ s Row.Compare 5 5
+infix_expr s (Token.Mark Mark.Lt) = infix_ s Row.Compare 5 5
+infix_expr s (Token.Mark Mark.Le) = infix_ s Row.Compare 5 5
+infix_expr s (Token.Mark Mark.Gt) = infix_ s Row.Compare 5 5
+infix_expr s (Token.Mark Mark.Ge) = infix_ s Row.Compare 5 5
+infix_expr s (Token.Mark Mark.Plus) = infix_ s Row.Sum 5 6
+infix_expr s (Token.Mark Mark.Minus) = infix_ s Row.Sum 5 6
+infix_expr s (Token.Mark Mark.Star) = infix_ s Row.Product 6 7
+infix_expr s (Token.Mark Mark.Slash) = infix_ s Row.Product 6 7
+infix_expr s (Token.Mark Mark.Percent) = infix_ s Row.Product 6 7
+infix_expr s (Token.Mark Mark.OpenParenthesis) = joined_by s Row.Call 9 (exprs Mark.CloseParenthesis (ends Row.Call))
+infix_expr s (Token.Mark Mark.Dot) = joined_by s Row.TupleField 8 dot
+infix_expr s (Token.Mark Mark.OpenBracket) = joined_by s Row.Index 8 (part any_expr (mark Mark.CloseBracket (ends Row.Index)))
+infix_expr s (Token.Mark Mark.Semi) = Some record { row = Row.Semi; place = expr s.head Start.Value; rest = ends Row.Semi }
 infix_expr s _ = None
 
 abbrev infix_pattern : Seen → Token → Option Joined
-infix_pattern s (Token.Mark Mark.Or) = joined_by s OrPattern 1 (part pattern1 alternatives)
-infix_pattern s (Token.Mark Mark.Colon) = joined_by s Param 1 (part a_type (ends Param))
-infix_pattern s (Token.Mark Mark.FatArrow) = joined_by s Arm 0 arm_body
-infix_pattern s (Token.Word Word.If) = joined_by s Arm 0 (part any_expr (mark Mark.FatArrow arm_body))
+infix_pattern s (Token.Mark Mark.Or) = joined_by s Row.OrPattern 1 (part pattern1 alternatives)
+infix_pattern s (Token.Mark Mark.Colon) = joined_by s Row.Param 1 (part a_type (ends Row.Param))
+infix_pattern s (Token.Mark Mark.FatArrow) = joined_by s Row.Arm 0 arm_body
+infix_pattern s (Token.Word Word.If) = joined_by s Row.Arm 0 (part any_expr (mark Mark.FatArrow arm_body))
 infix_pattern s _ = None
 
 abbrev pub joined : Seen → Token → Option Joined
-joined s t = elim s.sort [ AnExpr ↦ infix_expr s t | APattern ↦ infix_pattern s t | _ ↦ None ]
+joined s t = elim s.sort [ Sort.Expr ↦ infix_expr s t | Sort.Pattern ↦ infix_pattern s t | _ ↦ None ]

@@ -1,7 +1,11 @@
 -- A tree as its rows and their parts: what all its definitions go by. Each node has the place of its first token.
 use Rattle.std.specs.Prelude.{◌≡◌, ℕ, ◌+◌, max, Bool, true, false, Option, Some, None, option_map, List, ◌∷◌}
 use Rattle.src_token.specs.declared.token.Token.{Token}
-use Rattle.src_tree.specs.Grammar.{Row, counts, Place, Seen, seen, allowed, File, Part, place_of, Rest, items, move, due, behind, made, Entry, entry, Joined, joined}
+use Rattle.src_tree.specs.declared.row.Row.{Row}
+use Rattle.src_tree.specs.declared.place.Place.{Place}
+use Rattle.src_tree.specs.declared.place.Seen.{Seen}
+use Rattle.src_tree.specs.declared.place.Part.{Part}
+use Rattle.src_tree.specs.Grammar.{counts, seen, allowed, place_of, Rest, items, move, due, behind, made, Entry, entry, Joined, joined}
 
 mutual
   pub data Node (L : Type 0) : Type 0 where
@@ -78,4 +82,4 @@ module _ {L : Type 0} where
 
   -- the items of a text
   abbrev pub FileLevelled : Node L → Type 0
-  FileLevelled g = (row_of g ≡ File) × Follows false (Some items) File (parts_of g)
+  FileLevelled g = (row_of g ≡ Row.File) × Follows false (Some items) Row.File (parts_of g)

@@ -1,7 +1,12 @@
 -- The parser, one token after the other: a stack of nodes of which a part may still come.
 use Rattle.std.specs.Prelude.{ℕ, Bool, true, false, ◌&&◌, Option, Some, None, option_map, List, [], ◌∷◌, if◌then◌else◌}
 use Rattle.src_token.specs.declared.token.Token.{Token}
-use Rattle.src_tree.specs.Grammar.{Row, File, Anything, AFile, Place, seen, allowed, may_begin, Part, place_of, Rest, items, move, due, behind, made, Entry, entry, Joined, joined}
+use Rattle.src_tree.specs.declared.row.Row.{Row}
+use Rattle.src_tree.specs.declared.place.Start.{Start}
+use Rattle.src_tree.specs.declared.row.Sort.{Sort}
+use Rattle.src_tree.specs.declared.place.Place.{Place}
+use Rattle.src_tree.specs.declared.place.Part.{Part}
+use Rattle.src_tree.specs.Grammar.{seen, allowed, may_begin, place_of, Rest, items, move, due, behind, made, Entry, entry, Joined, joined}
 use Rattle.src_tree.specs.Layout.{Node, node, Parts, end, tok, sub, row_of, place_of_node, due_place}
 
 abbrev pub or_else : {X : Type 0} → Option X → Option X → Option X
@@ -69,7 +74,7 @@ module _ {L : Type 0} where
   step (frame c q at parts ∷ S) t l = act S c q at parts t l
 
 abbrev pub file_place : Place
-file_place = record { sort = AFile; least = 0; head = false; start = Anything }
+file_place = record { sort = Sort.File; least = 0; head = false; start = Start.Anything }
 
 abbrev pub start : {L : Type 0} → L → State L
 start l = frame file_place items l end ∷ []
