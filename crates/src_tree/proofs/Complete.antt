@@ -9,7 +9,7 @@ use Rattle.src_tree.specs.declared.place.Seen.{Seen}
 use Rattle.src_tree.specs.declared.place.Part.{Part}
 use Rattle.src_tree.specs.declared.kind.Kind.{Kind}
 use Rattle.src_tree.specs.Grammar.{seen, allowed, may_begin, place_of, Rest, ends, token, either, part, maybe, list, more, many, items, alternatives, statements, arms, arm_body, after_break, move, due, behind, behind_statement, behind_arm, behind_body, behind_break, made, Entry, entry, Joined, joined, is, comma}
-use Rattle.src_tree.specs.Layout.{Node, node, Parts, end, tok, sub, row_of, parts_of, FileLevelled, spell, spell_parts, due_place, entry_rest, joined_place, joined_rest, Levelled, Begun, Follows}
+use Rattle.src_tree.specs.Layout.{Node, node, Parts, end, tok, sub, row_of, parts_of, ItemsLevelled, spell, spell_parts, due_place, entry_rest, joined_place, joined_rest, Levelled, Begun, Follows}
 use Rattle.src_tree.specs.Reading.{or_else, and_then, only_if, begin_at, opens, joins, with_tok, with_sub, Frame, frame, State, goes_on, is_joined, act, step, close_all, whole, file_place, start}
 use Rattle.src_tree.proofs.Checked.{items_ok}
 use Rattle.src_tree.proofs.Follow.{calm, calm_at, shape, follow, idle, acts, is_none, ok, here, all_ends, good, implies}
@@ -318,15 +318,14 @@ mutual
   reads_rest (sub g rest) = λ c q d S s0 k r k0 st f. by_sub c q d S s0 k g rest r (reads g) (reads_rest rest) k0 st (due q) refl f.0 f.1
 
 -- all items of a text are read
-pub complete : (g : Tree) → FileLevelled g → and_then (run (spell g []) (Some (start tt))) (λ s. whole s) ≡ Some g
-complete (node at r ps) l =
-    let (s, q, run_, at_, made_, ok_) = reads_rest ps file_place items end [] (start tt) [] Row.File items_ok (standing file_place items end []) l.1 in
-    ap (λ o. and_then o (λ s. whole s)) run_ ∙ at_.ending Row.File made_ ∙ ap (λ o. option_map (λ r. node tt r ps) o) made_ ∙ ap (λ z. Some (node tt z ps)) (sym l.0)
+pub complete : (ps : Held) → ItemsLevelled ps → and_then (run (spell_parts ps []) (Some (start tt))) (λ s. whole s) ≡ Some (node tt Row.File ps)
+complete ps l =
+    let (s, q, run_, at_, made_, ok_) = reads_rest ps file_place items end [] (start tt) [] Row.File items_ok (standing file_place items end []) l in
+    ap (λ o. and_then o (λ s. whole s)) run_ ∙ at_.ending Row.File made_ ∙ ap (λ o. option_map (λ r. node tt r ps) o) made_
 
 -- so levelled trees with one spelling are one
-pub unique : (a b : Tree) → FileLevelled a → FileLevelled b → spell a [] ≡ spell b [] → a ≡ b
+pub unique : (a b : Held) → ItemsLevelled a → ItemsLevelled b → spell_parts a [] ≡ spell_parts b [] → a ≡ b
 unique a b l m e =
-    let p = complete a l in
-    let q = complete b m in
-    let f : Some a ≡ Some b = sym p ∙ ap (λ ts. and_then (run ts (Some (start tt))) (λ s. whole s)) e ∙ q in
-    cc
+    let f : Some (node tt Row.File a) ≡ Some (node tt Row.File b) = sym (complete a l) ∙ ap (λ ts. and_then (run ts (Some (start tt))) (λ s. whole s)) e ∙ complete b m in
+    let g : node tt Row.File a ≡ node tt Row.File b = cc in
+    ap (λ z. parts_of z) g

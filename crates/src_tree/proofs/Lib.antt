@@ -4,3 +4,6 @@ pub mod Alike
 pub mod Checked
 pub mod Facts
 pub mod Complete
+pub mod Places
+pub mod Spells
+pub mod Tables

@@ -81,5 +81,5 @@ module _ {L : Type 0} where
     Follows head (Some q) r (sub g rest) = Levelled (due_place head q) g × Follows head (Some (behind q (row_of g))) r rest
 
   -- the items of a text
-  abbrev pub FileLevelled : Node L → Type 0
-  FileLevelled g = (row_of g ≡ Row.File) × Follows false (Some items) Row.File (parts_of g)
+  abbrev pub ItemsLevelled : Parts L → Type 0
+  ItemsLevelled parts = Follows false (Some items) Row.File parts

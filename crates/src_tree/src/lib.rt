@@ -3,9 +3,19 @@
 #![tactic(auto)]
 
 mod kind;
+mod law;
+mod nesting;
+mod node;
 mod place;
 mod row;
+mod spelling;
+mod table;
 
 pub use kind::Kind;
+pub use law::law_of_spelling;
+pub use nesting::{counts, depth};
+pub use node::{Node, Piece, Tree};
 pub use place::{Part, Place, Seen, Start};
 pub use row::{Row, Sort};
+pub use table::Step;
+pub use spelling::{copy_token, spell};
