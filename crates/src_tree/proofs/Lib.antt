@@ -7,3 +7,4 @@ pub mod Complete
 pub mod Places
 pub mod Spells
 pub mod Tables
+pub mod Texts

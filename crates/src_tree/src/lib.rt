@@ -2,6 +2,7 @@
 //! token; how a tree is spelled, and which trees are levelled.
 #![tactic(auto)]
 
+mod grammar;
 mod kind;
 mod law;
 mod nesting;
@@ -11,6 +12,7 @@ mod row;
 mod spelling;
 mod table;
 
+pub use grammar::{allowed, is, may_begin, place_of, seen};
 pub use kind::Kind;
 pub use law::law_of_spelling;
 pub use nesting::{counts, depth};
