@@ -62,7 +62,7 @@ pub record Stands (s : Stack) (c : Place) (q : Rest) (d : Held) (S : Stack) : Ty
 abbrev pub Reads : List Token → List Token → Stack → Place → Row → Held → Stack → Type 0
 Reads ts k s0 c r d S = (s : Stack) × (q : Rest) × (run ts (Some s0) ≡ run k (Some s)) × Stands s c q d S × (made q ≡ Some r) × (ok c.head q ≡ true)
 
-none_or : {X : Type 0} (o : Option X) → is_none o ≡ true → o ≡ None
+pub none_or : {X : Type 0} (o : Option X) → is_none o ≡ true → o ≡ None
 none_or None h = refl
 none_or (Some x) h = absurd (cc)
 
@@ -108,7 +108,7 @@ act_hand : (S : Stack) (c0 : Place) (q0 : Rest) (d0 : Held) (c : Place) (q : Res
 act_hand S c0 q0 d0 c q d t r m o k j a = rw (m, o, k, j, a) refl
 
 -- a node that ended and may stand there is handed on
-handed : (s : Stack) (S : Stack) (c0 : Place) (q0 : Rest) (d0 : Held) (p : Part) (q : Rest) (d : Held) (r : Row) → ok c0.head q0 ≡ true → due q0 ≡ Some p
+pub handed : (s : Stack) (S : Stack) (c0 : Place) (q0 : Rest) (d0 : Held) (p : Part) (q : Rest) (d : Held) (r : Row) → ok c0.head q0 ≡ true → due q0 ≡ Some p
     → Stands s (place_of c0.head p) q d (frame c0 q0 tt d0 ∷ S) → made q ≡ Some r → ok (place_of c0.head p).head q ≡ true → allowed (place_of c0.head p) r ≡ true
     → Stands s c0 (behind q0 r) (with_sub d0 (node tt r d)) S
 handed s S c0 q0 d0 p q d r k0 e st m k a =
@@ -222,11 +222,11 @@ opens_as h q p t e d x m =
     ∙ ap (λ b. only_if b (Some (place_of h p, e.rest))) m
 
 -- the parts that follow, from any state that stands there
-abbrev RestRead : Held → Type 0
+abbrev pub RestRead : Held → Type 0
 RestRead ps = (c : Place) (q : Rest) (d : Held) (S s0 : Stack) (k : List Token) (r : Row) → ok c.head q ≡ true → Stands s0 c q d S → Follows c.head (Some q) r ps
     → Reads (spell_parts ps k) k s0 c r (and_parts_of d ps) S
 
-standing : (c : Place) (q : Rest) (d : Held) (S : Stack) → Stands (frame c q tt d ∷ S) c q d S
+pub standing : (c : Place) (q : Rest) (d : Held) (S : Stack) → Stands (frame c q tt d ∷ S) c q d S
 standing c q d S = record { acting = λ t x. refl; ending = λ r m. refl }
 
 -- a node begins with a token
@@ -244,7 +244,7 @@ by_entry c0 q0 d0 S0 s0 p k t rest r ih k0 d st b (Some x) e f =
     (s, q, ap (run (spell_parts rest k)) (st.acting t (opens_acts c0.head q0 t _ o) ∙ act_open S0 c0 q0 d0 t _ (none_or _ n) o) ∙ run_, at_, made_, ok_)
 
 -- a node begins with a part
-by_join : (c : Place) (S s1 : Stack) (q1 : Rest) (k : List Token) (g : Tree) (t : Token) (rest : Held) (r : Row) → RestRead rest → good c ≡ true
+pub by_join : (c : Place) (S s1 : Stack) (q1 : Rest) (k : List Token) (g : Tree) (t : Token) (rest : Held) (r : Row) → RestRead rest → good c ≡ true
     → Stands s1 c q1 (parts_of g) S → made q1 ≡ Some (row_of g) → ok c.head q1 ≡ true
     → (j : Joined) → joined (seen c) t ≡ Some j → may_begin c j.row ≡ true → allowed j.place (row_of g) ≡ true → calm c.head (row_of g) t ≡ true → Follows c.head (Some j.rest) r rest
     → Reads (t ∷ spell_parts rest k) k s1 c r (sub g (tok t rest)) S
@@ -312,7 +312,7 @@ mutual
   begun (sub g (sub h rest)) c0 q0 d0 S0 s0 p k r k0 d st b m = absurd b
   begun (sub g (tok t rest)) c0 q0 d0 S0 s0 p k r k0 d st b m = by_part c0 q0 d0 S0 s0 p k g t rest r (reads g) (reads_rest rest) k0 d st m (joined (seen (place_of c0.head p)) t) refl b.0 b.1
 
-  reads_rest : (ps : Held) → RestRead ps
+  pub reads_rest : (ps : Held) → RestRead ps
   reads_rest end = λ c q d S s0 k r k0 st f. (s0, q, refl, subst (λ z. Stands s0 c q z S) (sym (and_end d)) st, f, k0)
   reads_rest (tok t rest) = λ c q d S s0 k r k0 st f. by_tok c q d S s0 k t rest r (reads_rest rest) k0 st (move q t) refl f
   reads_rest (sub g rest) = λ c q d S s0 k r k0 st f. by_sub c q d S s0 k g rest r (reads g) (reads_rest rest) k0 st (due q) refl f.0 f.1

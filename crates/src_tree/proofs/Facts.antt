@@ -333,3 +333,7 @@ join_rows c t j w b =
 
 pub join_begins : (c : Place) (t : Token) (j : Joined) → joins_well c t (Some j) ≡ true → all_ends (λ x. implies (may_begin c x) (may_begin c j.row)) j.rest ≡ true
 join_begins c t j w = (and_parts (implies (may_begin c j.row) (same_seen (seen j.place) (seen c) && every (λ y. implies (allowed j.place y) (may_begin c y && calm c.head y t)) rows)) _ w).1
+
+-- a part stands at a place that is known
+pub known_part : (h : Bool) (q : Rest) (p : Part) → here h q ≡ true → due q ≡ Some p → is_known places (place_of h p) ≡ true
+known_part h q p w d = (and_parts (is_known places (place_of h p)) _ (part_here h q p w d)).0

@@ -8,3 +8,4 @@ pub mod Places
 pub mod Spells
 pub mod Tables
 pub mod Texts
+pub mod Named

@@ -432,49 +432,49 @@ pub record Entry : Type 0 where
 abbrev pub by_row : Row → Rest → Option Entry
 by_row r q = Some record { row = r; rest = q }
 
-abbrev mark : Mark → Rest → Rest
+abbrev pub mark : Mark → Rest → Rest
 mark m after = token (Kind.Mark m) after
 
-abbrev word : Word → Rest → Rest
+abbrev pub word : Word → Rest → Rest
 word w after = token (Kind.Word w) after
 
-abbrev if_mark : Mark → Rest → Rest → Rest
+abbrev pub if_mark : Mark → Rest → Rest → Rest
 if_mark m after other = either (Kind.Mark m) after other
 
-abbrev if_word : Word → Rest → Rest → Rest
+abbrev pub if_word : Word → Rest → Rest → Rest
 if_word w after other = either (Kind.Word w) after other
 
 -- Items.
 
-abbrev fields : Rest → Rest
+abbrev pub fields : Rest → Rest
 fields after = listed (of_sort Sort.Field) (Kind.Mark Mark.CloseBrace) after
 
-abbrev types : Rest → Rest
+abbrev pub types : Rest → Rest
 types after = listed a_type (Kind.Mark Mark.CloseParenthesis) after
 
-abbrev struct_rest : Rest
+abbrev pub struct_rest : Rest
 struct_rest =
     part a_name (if_mark Mark.Semi (ends Row.Struct) (if_mark Mark.OpenParenthesis (types (mark Mark.Semi (ends Row.Struct)))
     (mark Mark.OpenBrace (fields (ends Row.Struct)))))
 
-abbrev enum_rest : Rest
+abbrev pub enum_rest : Rest
 enum_rest = part a_name (mark Mark.OpenBrace (listed (of_sort Sort.Variant) (Kind.Mark Mark.CloseBrace) (ends Row.Enum)))
 
-abbrev derived : Rest
+abbrev pub derived : Rest
 derived =
     mark Mark.OpenBracket (token Kind.Derive (mark Mark.OpenParenthesis (listed a_name (Kind.Mark Mark.CloseParenthesis)
     (mark Mark.CloseBracket (if_word Word.Struct struct_rest (word Word.Enum enum_rest))))))
 
 -- a head, with what stands first among its parameters and what follows it
-abbrev head_rest : Bool → Rest → Rest
+abbrev pub head_rest : Bool → Rest → Rest
 head_rest self after =
     part a_name (mark Mark.OpenParenthesis (list (a_param self) (a_param false) false (Kind.Mark Mark.CloseParenthesis)
     (if_mark Mark.RArrow (part a_type after) after)))
 
-abbrev impl_rest : Rest
+abbrev pub impl_rest : Rest
 impl_rest = mark Mark.OpenBrace (many (of_sort Sort.Method) (Kind.Mark Mark.CloseBrace) (ends Row.Impl))
 
-abbrev item : Token → Option Entry
+abbrev pub item : Token → Option Entry
 item (Token.Mark Mark.Pound) = by_row Row.Struct derived
 item (Token.Word Word.Struct) = by_row Row.Struct struct_rest
 item (Token.Word Word.Enum) = by_row Row.Enum enum_rest
@@ -483,34 +483,34 @@ item (Token.Word Word.Impl) = by_row Row.Impl (part a_name (if_word Word.For (pa
 item (Token.Word Word.Fn) = by_row Row.Fn (head_rest false (part block (ends Row.Fn)))
 item _ = None
 
-abbrev method : Token → Option Entry
+abbrev pub method : Token → Option Entry
 method (Token.Word Word.Fn) = by_row Row.Method (head_rest true (part block (ends Row.Method)))
 method _ = None
 
-abbrev head : Token → Option Entry
+abbrev pub head : Token → Option Entry
 head (Token.Word Word.Fn) = by_row Row.Head (head_rest true (mark Mark.Semi (ends Row.Head)))
 head _ = None
 
-abbrev named_field : Token → Option Entry
+abbrev pub named_field : Token → Option Entry
 named_field (Token.Name n) = by_row Row.Field (mark Mark.Colon (part a_type (ends Row.Field)))
 named_field _ = None
 
-abbrev variant : Token → Option Entry
+abbrev pub variant : Token → Option Entry
 variant (Token.Name n) =
     by_row Row.Variant (if_mark Mark.OpenParenthesis (types (ends Row.Variant)) (if_mark Mark.OpenBrace (fields (ends Row.Variant)) (ends Row.Variant)))
 variant _ = None
 
-abbrev name : Token → Option Entry
+abbrev pub name : Token → Option Entry
 name (Token.Name n) = by_row Row.Ident (ends Row.Ident)
 name _ = None
 
-abbrev label : Token → Option Entry
+abbrev pub label : Token → Option Entry
 label (Token.Label n) = by_row Row.LabelName (ends Row.LabelName)
 label _ = None
 
 -- Types.
 
-abbrev type_ : Token → Option Entry
+abbrev pub type_ : Token → Option Entry
 type_ (Token.Name n) =
     by_row Row.NamedType (if_mark Mark.Lt (if_word Word.Dyn (part a_name (mark Mark.Gt (ends Row.DynType))) (part a_type (mark Mark.Gt (ends Row.GenericType)))) (ends Row.NamedType))
 type_ (Token.Word Word.SelfType) = by_row Row.SelfType (ends Row.SelfType)
@@ -522,27 +522,27 @@ type_ _ = None
 
 -- Patterns.
 
-abbrev patterns : Kind → Rest → Rest
+abbrev pub patterns : Kind → Rest → Rest
 patterns close after = list a_pattern a_pattern true close after
 
 -- behind a path, which is this row where it stands alone
-abbrev behind_path : Row → Rest
+abbrev pub behind_path : Row → Rest
 behind_path r =
     if_mark Mark.OpenParenthesis (patterns (Kind.Mark Mark.CloseParenthesis) (ends Row.CallPattern))
     (if_mark Mark.OpenBrace (list (of_sort Sort.FieldPattern) (of_sort Sort.FieldPattern) true (Kind.Mark Mark.CloseBrace) (ends Row.StructPattern)) (ends r))
 
-abbrev path_pattern : Row → Rest
+abbrev pub path_pattern : Row → Rest
 path_pattern r = if_mark Mark.PathSep (part a_name (behind_path Row.PathPattern)) (behind_path r)
 
-abbrev bind_or_self : Bool → Rest
+abbrev pub bind_or_self : Bool → Rest
 bind_or_self false = token Kind.Name (ends Row.BindPattern)
 bind_or_self true = if_word Word.SelfValue (ends Row.SelfParam) (token Kind.Name (ends Row.BindPattern))
 
-abbrev only : Bool → Option Entry → Option Entry
+abbrev pub only : Bool → Option Entry → Option Entry
 only false e = None
 only true e = e
 
-abbrev pattern : Bool → Token → Option Entry
+abbrev pub pattern : Bool → Token → Option Entry
 pattern self (Token.Mark Mark.Underscore) = by_row Row.WildPattern (ends Row.WildPattern)
 pattern self (Token.Word Word.Mut) = by_row Row.BindPattern (bind_or_self self)
 pattern self (Token.Name n) = by_row Row.BindPattern (path_pattern Row.BindPattern)
@@ -557,24 +557,24 @@ pattern self (Token.Word Word.SelfValue) = only self (by_row Row.SelfParam (ends
 pattern self (Token.Mark Mark.And) = only self (by_row Row.SelfParam (if_word Word.Mut (word Word.SelfValue (ends Row.SelfParam)) (word Word.SelfValue (ends Row.SelfParam))))
 pattern self _ = None
 
-abbrev field_pattern : Token → Option Entry
+abbrev pub field_pattern : Token → Option Entry
 field_pattern (Token.Name n) = by_row Row.FieldPattern (if_mark Mark.Colon (part a_pattern (ends Row.FieldPattern)) (ends Row.FieldPattern))
 field_pattern (Token.Word Word.Mut) = by_row Row.FieldPattern (token Kind.Name (ends Row.FieldPattern))
 field_pattern _ = None
 
 -- Expressions.
 
-abbrev exprs : Mark → Rest → Rest
+abbrev pub exprs : Mark → Rest → Rest
 exprs close after = listed any_expr (Kind.Mark close) after
 
-abbrev struct_or_path : Bool → Rest
+abbrev pub struct_or_path : Bool → Rest
 struct_or_path true = ends Row.Path
 struct_or_path false = if_mark Mark.OpenBrace (listed (of_sort Sort.FieldInit) (Kind.Mark Mark.CloseBrace) (ends Row.StructExpr)) (ends Row.Path)
 
-abbrev path : Bool → Rest
+abbrev pub path : Bool → Rest
 path in_head = if_mark Mark.PathSep (part a_name (struct_or_path in_head)) (struct_or_path in_head)
 
-abbrev panic_rest : Rest
+abbrev pub panic_rest : Rest
 panic_rest = mark Mark.OpenParenthesis (either Kind.Text (mark Mark.CloseParenthesis (ends Row.Panic)) (mark Mark.CloseParenthesis (ends Row.Panic)))
 
 abbrev pub is_panic : List ℕ → Bool
@@ -585,39 +585,39 @@ named true in_head = if_mark Mark.Not panic_rest (path in_head)
 named false in_head = path in_head
 
 -- a condition and a block, and what follows the block
-abbrev headed : Rest → Rest
+abbrev pub headed : Rest → Rest
 headed after =
     if_word Word.Let (part a_pattern (mark Mark.Eq (part head_expr (part block after)))) (part head_expr (part block after))
 
-abbrev if_rest : Rest
+abbrev pub if_rest : Rest
 if_rest = headed (if_word Word.Else (part (Part.At (expr false Start.BlockOrIf)) (ends Row.If)) (ends Row.If))
 
-abbrev loop_rest : Rest
+abbrev pub loop_rest : Rest
 loop_rest = part block (ends Row.Loop)
 
-abbrev while_rest : Rest
+abbrev pub while_rest : Rest
 while_rest = headed (ends Row.While)
 
-abbrev labelled : Rest
+abbrev pub labelled : Rest
 labelled = if_mark Mark.Colon (if_word Word.Loop loop_rest (word Word.While while_rest)) (ends Row.LabelName)
 
-abbrev behind_params : Rest
+abbrev pub behind_params : Rest
 behind_params = if_mark Mark.RArrow (part a_type (part block (ends Row.Closure))) (part block (ends Row.Closure))
 
-abbrev closure : Rest
+abbrev pub closure : Rest
 closure =
     mark Mark.OpenBracket (listed a_name (Kind.Mark Mark.CloseBracket) (if_mark Mark.OrOr behind_params
     (mark Mark.Or (listed (a_param false) (Kind.Mark Mark.Or) behind_params))))
 
-abbrev let_rest : Rest
+abbrev pub let_rest : Rest
 let_rest =
     let value = if_mark Mark.Eq (part any_expr (mark Mark.Semi (ends Row.Let))) (mark Mark.Semi (ends Row.Let)) in
     part pattern1 (if_mark Mark.Colon (part a_type value) value)
 
-abbrev operand : Rest
+abbrev pub operand : Rest
 operand = part (Part.Operand 7) (ends Row.Prefix)
 
-abbrev expression : Bool → Token → Option Entry
+abbrev pub expression : Bool → Token → Option Entry
 expression h (Token.Mark Mark.Semi) = by_row Row.Empty (ends Row.Empty)
 expression h (Token.Word Word.Let) = by_row Row.Let let_rest
 expression h (Token.Word Word.Return) = by_row Row.Return (maybe Part.AfterReturn (ends Row.Return) Row.Return)
@@ -644,7 +644,7 @@ expression h (Token.Word Word.While) = by_row Row.While while_rest
 expression h (Token.Label n) = by_row Row.Loop labelled
 expression h _ = None
 
-abbrev field_init : Token → Option Entry
+abbrev pub field_init : Token → Option Entry
 field_init (Token.Name n) = by_row Row.FieldInit (if_mark Mark.Colon (part any_expr (ends Row.FieldInit)) (ends Row.FieldInit))
 field_init _ = None
 
@@ -674,15 +674,15 @@ abbrev pub joined_by : Seen → Row → ℕ → Rest → Option Joined
 joined_by s r least q = Some record { row = r; place = record { sort = s.sort; least = least; head = s.head; start = s.start }; rest = q }
 
 -- an operator with the least levels of its operands
-abbrev infix_ : Seen → Row → ℕ → ℕ → Option Joined
+abbrev pub infix_ : Seen → Row → ℕ → ℕ → Option Joined
 infix_ s r left right = joined_by s r left (part (Part.Operand right) (ends r))
 
-abbrev dot : Rest
+abbrev pub dot : Rest
 dot =
     either Kind.Name (if_mark Mark.OpenParenthesis (exprs Mark.CloseParenthesis (ends Row.MethodCall)) (ends Row.FieldAccess))
     (token Kind.Digits (ends Row.TupleField))
 
-abbrev infix_expr : Seen → Token → Option Joined
+abbrev pub infix_expr : Seen → Token → Option Joined
 infix_expr s (Token.Mark Mark.Eq) = infix_ s Row.Assign 2 0
 infix_expr s (Token.Mark Mark.OrOr) = infix_ s Row.Or 2 3
 infix_expr s (Token.Mark Mark.AndAnd) = infix_ s Row.And 3 4
@@ -703,7 +703,7 @@ infix_expr s (Token.Mark Mark.OpenBracket) = joined_by s Row.Index 8 (part any_e
 infix_expr s (Token.Mark Mark.Semi) = Some record { row = Row.Semi; place = expr s.head Start.Value; rest = ends Row.Semi }
 infix_expr s _ = None
 
-abbrev infix_pattern : Seen → Token → Option Joined
+abbrev pub infix_pattern : Seen → Token → Option Joined
 infix_pattern s (Token.Mark Mark.Or) = joined_by s Row.OrPattern 1 (part pattern1 alternatives)
 infix_pattern s (Token.Mark Mark.Colon) = joined_by s Row.Param 1 (part a_type (ends Row.Param))
 infix_pattern s (Token.Mark Mark.FatArrow) = joined_by s Row.Arm 0 arm_body

@@ -1,9 +1,12 @@
--- What the numbers of the table of steps stand for.
-use Rattle.std.specs.Prelude.{ℕ, List, [], ◌∷◌, ◌++◌, Option, Some, None, slice_get}
+-- What the numbers of the table of steps stand for, and what a point of a row is.
+use Rattle.std.specs.Prelude.{ℕ, List, [], ◌∷◌, ◌++◌, suc, Option, Some, None, option_map, slice_get}
 use Rattle.src_tree.specs.declared.row.Row.{Row}
+use Rattle.src_tree.specs.declared.place.Place.{Place}
 use Rattle.src_tree.specs.declared.table.Step.{Step}
+use Rattle.src_tree.specs.declared.table.Point.{Point}
+use Rattle.src_tree.specs.declared.table.Begun.{Begun}
 use Rattle.src_tree.specs.declared.table.TheConstants.{TABLE}
-use Rattle.src_tree.specs.Grammar.{Rest, ends, token, either, part, maybe, list, many, items, alternatives, statements, arms, arm_body, after_break}
+use Rattle.src_tree.specs.Grammar.{Rest, ends, token, either, part, maybe, list, more, many, items, alternatives, statements, arms, arm_body, after_break, Entry, Joined}
 
 abbrev pub or_end : Option Rest → Rest
 or_end None = ends Row.File
@@ -30,8 +33,38 @@ abbrev pub rests_from : List Rest → List Step → List Rest
 rests_from qs [] = qs
 rests_from qs (s ∷ steps) = rests_from (qs ++ shown (λ i. or_end (slice_get qs i)) s ∷ []) steps
 
-abbrev pub rests : List Rest
+unfoldable pub rests : List Rest
 rests = rests_from [] TABLE
 
-abbrev pub rest_at : ℕ → Rest
+unfoldable pub rest_at : ℕ → Rest
 rest_at i = or_end (slice_get rests i)
+
+-- a list behind a part, behind a comma, and behind `..`
+abbrev pub as_more : Rest → Rest
+as_more (list p later dots close after) = more later dots close after
+as_more q = ends Row.File
+
+abbrev pub as_later : Rest → Rest
+as_later (list p later dots close after) = list later later dots close after
+as_later q = ends Row.File
+
+abbrev pub as_last : Rest → Rest
+as_last (list p later dots close after) = token close after
+as_last q = ends Row.File
+
+abbrev pub rest_of : Point → Rest
+rest_of (Point.At i) = rest_at i
+rest_of (Point.More i) = as_more (rest_at i)
+rest_of (Point.Later i) = as_later (rest_at i)
+rest_of (Point.Last i) = as_last (rest_at i)
+
+abbrev pub entry_of : Row × ℕ → Entry
+entry_of e = record { row = e.0; rest = rest_at e.1 }
+
+abbrev pub joined_of : Begun → Joined
+joined_of b = record { row = b.row; place = b.place; rest = rest_at b.at }
+
+-- how many alternatives are left
+abbrev pub eithers : Rest → ℕ
+eithers (either k after other) = suc (eithers other)
+eithers q = 0

@@ -105,7 +105,7 @@ fn word_number(word: Word) -> u8
     }
 }
 
-fn is_text(name: &Name, text: &str) -> bool
+pub(crate) fn is_text(name: &Name, text: &str) -> bool
     ensures { result ≡ is_text_of name.now text.now }
 {
     name.as_str() == text

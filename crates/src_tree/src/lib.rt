@@ -2,16 +2,19 @@
 //! token; how a tree is spelled, and which trees are levelled.
 #![tactic(auto)]
 
+mod beginnings;
 mod grammar;
 mod kind;
 mod law;
 mod nesting;
 mod node;
 mod place;
+mod points;
 mod row;
 mod spelling;
 mod table;
 
+pub use beginnings::{entry, joined};
 pub use grammar::{allowed, is, may_begin, place_of, seen};
 pub use kind::Kind;
 pub use law::law_of_spelling;
@@ -19,5 +22,6 @@ pub use nesting::{counts, depth};
 pub use node::{Node, Piece, Tree};
 pub use place::{Part, Place, Seen, Start};
 pub use row::{Row, Sort};
-pub use table::Step;
+pub use points::{advance, behind, due, made};
+pub use table::{Begun, Point, Step};
 pub use spelling::{copy_token, spell};

@@ -38,119 +38,171 @@ pub enum Step {
     AfterBreak,
 }
 
-const TYPE_PLACE: Place = Place {
+/// Where a node is: at a step, or in its list behind a part, behind a comma or behind `..`.
+#[derive(Clone, Copy, Debug, PartialEq, Eq)]
+pub enum Point {
+    At(u16),
+    More(u16),
+    Later(u16),
+    Last(u16),
+}
+
+/// How a node begins that begins with a part: its row, the place of the part, and where it is behind the token.
+#[derive(Clone, Copy, Debug, PartialEq, Eq)]
+pub struct Begun {
+    pub row: Row,
+    pub place: Place,
+    pub at: u16,
+}
+
+pub const ITEM_PLACE: Place = Place {
+    sort: Sort::Item,
+    least: 0,
+    head: false,
+    start: Start::Anything,
+};
+
+pub const EXPR_STATEMENT_PLACE: Place = Place {
+    sort: Sort::Expr,
+    least: 0,
+    head: false,
+    start: Start::Statement,
+};
+
+pub const EXPR_NEXT_STATEMENT_PLACE: Place = Place {
+    sort: Sort::Expr,
+    least: 0,
+    head: false,
+    start: Start::NextStatement,
+};
+
+pub const PATTERN_IS_ARM_PLACE: Place = Place {
+    sort: Sort::Pattern,
+    least: 0,
+    head: false,
+    start: Start::IsArm,
+};
+
+pub const EXPR_ARM_BODY_PLACE: Place = Place {
+    sort: Sort::Expr,
+    least: 0,
+    head: false,
+    start: Start::ArmBody,
+};
+
+pub const TYPE_PLACE: Place = Place {
     sort: Sort::Type_,
     least: 0,
     head: false,
     start: Start::Anything,
 };
 
-const FIELD_PLACE: Place = Place {
+pub const FIELD_PLACE: Place = Place {
     sort: Sort::Field,
     least: 0,
     head: false,
     start: Start::Anything,
 };
 
-const NAME_PLACE: Place = Place {
+pub const NAME_PLACE: Place = Place {
     sort: Sort::Name,
     least: 0,
     head: false,
     start: Start::Anything,
 };
 
-const VARIANT_PLACE: Place = Place {
+pub const VARIANT_PLACE: Place = Place {
     sort: Sort::Variant,
     least: 0,
     head: false,
     start: Start::Anything,
 };
 
-const HEAD_PLACE: Place = Place {
+pub const HEAD_PLACE: Place = Place {
     sort: Sort::Head,
     least: 0,
     head: false,
     start: Start::Anything,
 };
 
-const METHOD_PLACE: Place = Place {
+pub const METHOD_PLACE: Place = Place {
     sort: Sort::Method,
     least: 0,
     head: false,
     start: Start::Anything,
 };
 
-const EXPR_ONLY_BLOCK_PLACE: Place = Place {
+pub const EXPR_ONLY_BLOCK_PLACE: Place = Place {
     sort: Sort::Expr,
     least: 0,
     head: false,
     start: Start::OnlyBlock,
 };
 
-const PATTERN_IS_PARAM_1_PLACE: Place = Place {
+pub const PATTERN_IS_PARAM_1_PLACE: Place = Place {
     sort: Sort::Pattern,
     least: 1,
     head: false,
     start: Start::IsParam,
 };
 
-const PATTERN_IS_PARAM_SELF_1_PLACE: Place = Place {
+pub const PATTERN_IS_PARAM_SELF_1_PLACE: Place = Place {
     sort: Sort::Pattern,
     least: 1,
     head: true,
     start: Start::IsParam,
 };
 
-const PATTERN_PLACE: Place = Place {
+pub const PATTERN_PLACE: Place = Place {
     sort: Sort::Pattern,
     least: 0,
     head: false,
     start: Start::Anything,
 };
 
-const FIELD_PATTERN_PLACE: Place = Place {
+pub const FIELD_PATTERN_PLACE: Place = Place {
     sort: Sort::FieldPattern,
     least: 0,
     head: false,
     start: Start::Anything,
 };
 
-const EXPR_PLACE: Place = Place {
+pub const EXPR_PLACE: Place = Place {
     sort: Sort::Expr,
     least: 0,
     head: false,
     start: Start::Anything,
 };
 
-const PATTERN_1_PLACE: Place = Place {
+pub const PATTERN_1_PLACE: Place = Place {
     sort: Sort::Pattern,
     least: 1,
     head: false,
     start: Start::Anything,
 };
 
-const LABEL_ONLY_LABEL_PLACE: Place = Place {
+pub const LABEL_ONLY_LABEL_PLACE: Place = Place {
     sort: Sort::Label,
     least: 0,
     head: false,
     start: Start::OnlyLabel,
 };
 
-const FIELD_INIT_PLACE: Place = Place {
+pub const FIELD_INIT_PLACE: Place = Place {
     sort: Sort::FieldInit,
     least: 0,
     head: false,
     start: Start::Anything,
 };
 
-const EXPR_BLOCK_OR_IF_PLACE: Place = Place {
+pub const EXPR_BLOCK_OR_IF_PLACE: Place = Place {
     sort: Sort::Expr,
     least: 0,
     head: false,
     start: Start::BlockOrIf,
 };
 
-const EXPR_IN_HEAD_PLACE: Place = Place {
+pub const EXPR_IN_HEAD_PLACE: Place = Place {
     sort: Sort::Expr,
     least: 0,
     head: true,
