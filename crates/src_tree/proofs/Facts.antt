@@ -233,7 +233,7 @@ same_bools false false h = refl
 abbrev make : Sort → ℕ → Bool → Start → Place
 make s n h b = record { sort = s; least = n; head = h; start = b }
 
-same_places : (c d : Place) → same_place c d ≡ true → c ≡ d
+pub same_places : (c d : Place) → same_place c d ≡ true → c ≡ d
 same_places c d h =
     let p = and_parts (nat_eq (sort_number c.sort) (sort_number d.sort)) _ h in
     let q = and_parts (nat_eq c.least d.least) _ p.1 in

@@ -1,0 +1,4 @@
+pub mod Alive
+pub mod Sound
+pub mod Finish
+pub mod Answer

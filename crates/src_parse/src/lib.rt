@@ -1,0 +1,2 @@
+//! The parser.
+#![tactic(auto)]
