@@ -2,3 +2,4 @@ pub mod Alive
 pub mod Sound
 pub mod Finish
 pub mod Answer
+pub mod Examples

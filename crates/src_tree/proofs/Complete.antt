@@ -116,11 +116,11 @@ handed s S c0 q0 d0 p q d r k0 e st m k a =
     let w0 = here_of c0.head q0 k0 in
     record {
       acting = λ t x.
-        let f = follows_on c0.head q0 p r t w0 e x in
-        let b = stands_behind c r t (good_part c0.head q0 p w0 e) a f in
-        let i = and_parts (is_none (move q t)) (is_none (opens c.head q t)) (idle_calm c.head q r t (here_of c.head q k) m b.0) in
-        st.acting t (calm_acts c.head q t r m b.0)
-        ∙ act_hand S c0 q0 d0 c q d t r (none_or _ i.0) (none_or _ i.1) m b.1 a;
+          let f = follows_on c0.head q0 p r t w0 e x in
+          let b = stands_behind c r t (good_part c0.head q0 p w0 e) a f in
+          let i = and_parts (is_none (move q t)) (is_none (opens c.head q t)) (idle_calm c.head q r t (here_of c.head q k) m b.0) in
+          st.acting t (calm_acts c.head q t r m b.0)
+          ∙ act_hand S c0 q0 d0 c q d t r (none_or _ i.0) (none_or _ i.1) m b.1 a;
       ending = λ r1 m1. st.ending r m ∙ closes c0.head p e m a;
     }
   where
@@ -251,9 +251,15 @@ pub by_join : (c : Place) (S s1 : Stack) (q1 : Rest) (k : List Token) (g : Tree)
 by_join c S s1 q1 k g t rest r ih gd st m k1 j e b a cm f =
     let i = and_parts (is_none (move q1 t)) (is_none (opens c.head q1 t)) (idle_calm c.head q1 (row_of g) t (here_of c.head q1 k1) m cm) in
     let js : joins c (row_of g) t ≡ Some j.rest = ap (λ o. and_then o (λ j. only_if (may_begin c j.row && allowed j.place (row_of g)) (Some j.rest))) e ∙ ap (λ b. only_if b (Some j.rest)) (and_from _ _ b a) in
-    let (s, q, run_, at_, made_, ok_) = ih c j.rest (sub g (tok t end)) S (frame c j.rest tt (sub g (tok t end)) ∷ S) k r (joined_is_ok c t j e) (standing c j.rest (sub g (tok t end)) S) f in
-    (s, q, ap (run (spell_parts rest k)) (st.acting t (calm_acts c.head q1 t (row_of g) m cm) ∙ act_join S c q1 (parts_of g) t (row_of g) j.rest (none_or _ i.0) (none_or _ i.1) m js
-      ∙ ap (λ z. Some (frame c j.rest tt (sub z (tok t end)) ∷ S)) (node_is g)) ∙ run_, at_, made_, ok_)
+    let (s, q, run_, at_, made_, ok_) = ih c j.rest (sub g (tok t end)) S (frame c j.rest tt (sub g (tok t end)) ∷ S) k r (joined_is_ok c t j e) (standing c j.rest (sub g (tok t end)) S) f in (
+      s,
+      q,
+      ap (run (spell_parts rest k)) (st.acting t (calm_acts c.head q1 t (row_of g) m cm) ∙ act_join S c q1 (parts_of g) t (row_of g) j.rest (none_or _ i.0) (none_or _ i.1) m js
+          ∙ ap (λ z. Some (frame c j.rest tt (sub z (tok t end)) ∷ S)) (node_is g)) ∙ run_,
+      at_,
+      made_,
+      ok_,
+    )
 
 abbrev NodeRead : Tree → Type 0
 NodeRead g = (c0 : Place) (q0 : Rest) (d0 : Held) (S0 s0 : Stack) (p : Part) (k : List Token) → ok c0.head q0 ≡ true → due q0 ≡ Some p → Stands s0 c0 q0 d0 S0

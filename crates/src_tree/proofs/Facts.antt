@@ -327,9 +327,10 @@ begin_if_allowed c r a =
 pub join_rows : (c : Place) (t : Token) (j : Joined) → joins_well c t (Some j) ≡ true → may_begin c j.row ≡ true → (seen j.place ≡ seen c) × ((y : Row) → allowed j.place y ≡ true → (may_begin c y ≡ true) × (calm c.head y t ≡ true))
 join_rows c t j w b =
     let a = and_parts (implies (may_begin c j.row) (same_seen (seen j.place) (seen c) && every (λ y. implies (allowed j.place y) (may_begin c y && calm c.head y t)) rows)) _ w in
-    let p = and_parts (same_seen (seen j.place) (seen c)) _ (implied (may_begin c j.row) _ a.0 b) in
-    (seen_alike (seen j.place) (seen c) p.0,
-     λ y h. and_parts (may_begin c y) (calm c.head y t) (implied (allowed j.place y) _ (of_rows (λ y. implies (allowed j.place y) (may_begin c y && calm c.head y t)) p.1 y) h))
+    let p = and_parts (same_seen (seen j.place) (seen c)) _ (implied (may_begin c j.row) _ a.0 b) in (
+      seen_alike (seen j.place) (seen c) p.0,
+      λ y h. and_parts (may_begin c y) (calm c.head y t) (implied (allowed j.place y) _ (of_rows (λ y. implies (allowed j.place y) (may_begin c y && calm c.head y t)) p.1 y) h),
+    )
 
 pub join_begins : (c : Place) (t : Token) (j : Joined) → joins_well c t (Some j) ≡ true → all_ends (λ x. implies (may_begin c x) (may_begin c j.row)) j.rest ≡ true
 join_begins c t j w = (and_parts (implies (may_begin c j.row) (same_seen (seen j.place) (seen c) && every (λ y. implies (allowed j.place y) (may_begin c y && calm c.head y t)) rows)) _ w).1

@@ -152,8 +152,8 @@ behind_a_pattern c _ y t =
 
 -- it may stand behind a tree there
 abbrev pub follow : Place → Shape → Token → Bool
-follow c y t = elim c.sort
-  [ Sort.File ↦ false
+follow c y t = elim c.sort [
+  | Sort.File ↦ false
   | Sort.Item ↦ true
   | Sort.Method ↦ true
   | Sort.Head ↦ true
@@ -165,7 +165,8 @@ follow c y t = elim c.sort
   | Sort.FieldPattern ↦ among separators t
   | Sort.Expr ↦ behind_an_expr c c.start y t
   | Sort.FieldInit ↦ among separators t
-  | Sort.Label ↦ none_of (Kind.Mark Mark.Colon ∷ []) t ]
+  | Sort.Label ↦ none_of (Kind.Mark Mark.Colon ∷ []) t
+]
 
 abbrev pub implies : Bool → Bool → Bool
 implies a b = not a || b

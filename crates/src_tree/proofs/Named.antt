@@ -332,4 +332,3 @@ behind_label_is = refl
 pub break_end_is : rest_at 226 ≡ ends Row.Break
 unfolding rests rest_at
 break_end_is = refl
-

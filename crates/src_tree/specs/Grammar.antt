@@ -649,8 +649,8 @@ field_init (Token.Name n) = by_row Row.FieldInit (if_mark Mark.Colon (part any_e
 field_init _ = None
 
 abbrev pub entry : Seen → Token → Option Entry
-entry s t = elim s.sort
-  [ Sort.File ↦ None
+entry s t = elim s.sort [
+  | Sort.File ↦ None
   | Sort.Item ↦ item t
   | Sort.Method ↦ method t
   | Sort.Head ↦ head t
@@ -662,7 +662,8 @@ entry s t = elim s.sort
   | Sort.FieldPattern ↦ field_pattern t
   | Sort.Expr ↦ expression s.head t
   | Sort.FieldInit ↦ field_init t
-  | Sort.Label ↦ label t ]
+  | Sort.Label ↦ label t
+]
 
 -- How a node begins that begins with a part: its row, where the part stands, and what follows the token behind it.
 pub record Joined : Type 0 where

@@ -17,8 +17,28 @@ fn sort_of(row: Row) -> Sort
         Row::Field => Sort::Field,
         Row::Variant => Sort::Variant,
         Row::Ident => Sort::Name,
-        Row::NamedType | Row::GenericType | Row::DynType | Row::SelfType | Row::TupleType | Row::ArrayType | Row::NeverType | Row::RefType => Sort::Type_,
-        Row::WildPattern | Row::BindPattern | Row::NumberPattern | Row::BoolPattern | Row::PathPattern | Row::CallPattern | Row::StructPattern | Row::TuplePattern | Row::ArrayPattern | Row::OrPattern | Row::Param | Row::SelfParam | Row::Arm | Row::LastArm => Sort::Pattern,
+        Row::NamedType
+        | Row::GenericType
+        | Row::DynType
+        | Row::SelfType
+        | Row::TupleType
+        | Row::ArrayType
+        | Row::NeverType
+        | Row::RefType => Sort::Type_,
+        Row::WildPattern
+        | Row::BindPattern
+        | Row::NumberPattern
+        | Row::BoolPattern
+        | Row::PathPattern
+        | Row::CallPattern
+        | Row::StructPattern
+        | Row::TuplePattern
+        | Row::ArrayPattern
+        | Row::OrPattern
+        | Row::Param
+        | Row::SelfParam
+        | Row::Arm
+        | Row::LastArm => Sort::Pattern,
         Row::FieldPattern => Sort::FieldPattern,
         Row::FieldInit => Sort::FieldInit,
         Row::LabelName => Sort::Label,
@@ -30,7 +50,16 @@ fn level(row: Row) -> u8
     ensures { result ≡ level_is row }
 {
     match row {
-        Row::Return | Row::Break | Row::Closure | Row::Let | Row::Empty | Row::Semi | Row::LabelName | Row::Arm | Row::LastArm | Row::OrPattern => 0,
+        Row::Return
+        | Row::Break
+        | Row::Closure
+        | Row::Let
+        | Row::Empty
+        | Row::Semi
+        | Row::LabelName
+        | Row::Arm
+        | Row::LastArm
+        | Row::OrPattern => 0,
         Row::Assign => 1,
         Row::Or => 2,
         Row::And => 3,
@@ -131,7 +160,10 @@ pub fn is(kind: Kind, token: &Token) -> bool
 fn is_blocklike(row: Row) -> bool
     ensures { result ≡ is_blocklike_row row }
 {
-    matches!(row, Row::Block | Row::If | Row::Match | Row::Loop | Row::While)
+    matches!(
+        row,
+        Row::Block | Row::If | Row::Match | Row::Loop | Row::While
+    )
 }
 
 /// Whether it may stand where nothing else is asked for.
@@ -156,9 +188,7 @@ fn may_be(start: Start, row: Row) -> bool
 {
     match start {
         Start::Anything | Start::Value | Start::ArmBody => is_plain(row),
-        Start::Statement => {
-            is_plain(row) || matches!(row, Row::Let | Row::Semi | Row::Empty)
-        }
+        Start::Statement => { is_plain(row) || matches!(row, Row::Let | Row::Semi | Row::Empty) }
         Start::NextStatement => is_plain(row) || matches!(row, Row::Let | Row::Semi),
         Start::NotBlocklike => is_plain(row) && !is_blocklike(row),
         Start::NotBlock => is_plain(row) && !matches!(row, Row::Block),
@@ -257,7 +287,14 @@ pub fn place_of(head: bool, part: Part) -> Place
         Part::At(place) => return place,
         Part::Operand(least) => (least, Start::Anything),
         Part::AfterBreak => (0, if head { Start::JumpInHead } else { Start::Jump }),
-        Part::AfterReturn => (0, if head { Start::NotBlock } else { Start::Anything }),
+        Part::AfterReturn => (
+            0,
+            if head {
+                Start::NotBlock
+            } else {
+                Start::Anything
+            },
+        ),
     };
     Place {
         sort: Sort::Expr,

@@ -13,6 +13,8 @@ mod points;
 mod row;
 mod spelling;
 mod table;
+#[cfg(test)]
+mod tests;
 
 pub use beginnings::{entry, joined};
 pub use grammar::{allowed, is, may_begin, place_of, seen};
@@ -21,7 +23,7 @@ pub use law::law_of_spelling;
 pub use nesting::{counts, depth};
 pub use node::{Node, Piece, Tree};
 pub use place::{Part, Place, Seen, Start};
-pub use row::{Row, Sort};
 pub use points::{advance, behind, due, made};
-pub use table::{Begun, Point, Step};
+pub use row::{Row, Sort};
 pub use spelling::{copy_token, spell};
+pub use table::{Begun, Point, Step};

@@ -50,7 +50,10 @@ pub fn advance(point: Point, token: &Token) -> Option<Point>
         },
         Point::Later(at) => match step_at(at) {
             Step::List {
-                dots, close, after, ..
+                dots,
+                close,
+                after,
+                ..
             } => {
                 if is(close, token) {
                     Some(Point::At(after))
@@ -89,7 +92,10 @@ fn advance_at(at: u16, token: &Token) -> Option<Point>
             }
         }
         Step::List {
-            dots, close, after, ..
+            dots,
+            close,
+            after,
+            ..
         } => {
             if is(close, token) {
                 Some(Point::At(after))
@@ -101,9 +107,7 @@ fn advance_at(at: u16, token: &Token) -> Option<Point>
         }
         Step::Alternatives => ahead_if(is(Kind::Mark(Mark::Or), token), ALTERNATIVE),
         Step::Statements(_) => ahead_if(is(Kind::Mark(Mark::CloseBrace), token), BLOCK_END),
-        Step::Arms(some) => {
-            ahead_if(some && is(Kind::Mark(Mark::CloseBrace), token), MATCH_END)
-        }
+        Step::Arms(some) => { ahead_if(some && is(Kind::Mark(Mark::CloseBrace), token), MATCH_END) }
         _ => None,
     }
 }

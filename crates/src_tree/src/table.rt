@@ -212,20 +212,44 @@ pub const EXPR_IN_HEAD_PLACE: Place = Place {
 pub const TABLE: [Step; 228] = [
     Step::Ends(Row::Struct),
     Step::Token(Kind::Mark(Mark::Semi), 0),
-    Step::List { part: Part::At(TYPE_PLACE), later: Part::At(TYPE_PLACE), dots: false, close: Kind::Mark(Mark::CloseParenthesis), after: 1 },
-    Step::List { part: Part::At(FIELD_PLACE), later: Part::At(FIELD_PLACE), dots: false, close: Kind::Mark(Mark::CloseBrace), after: 0 },
+    Step::List {
+        part: Part::At(TYPE_PLACE),
+        later: Part::At(TYPE_PLACE),
+        dots: false,
+        close: Kind::Mark(Mark::CloseParenthesis),
+        after: 1,
+    },
+    Step::List {
+        part: Part::At(FIELD_PLACE),
+        later: Part::At(FIELD_PLACE),
+        dots: false,
+        close: Kind::Mark(Mark::CloseBrace),
+        after: 0,
+    },
     Step::Token(Kind::Mark(Mark::OpenBrace), 3),
     Step::Either(Kind::Mark(Mark::OpenParenthesis), 2, 4),
     Step::Either(Kind::Mark(Mark::Semi), 0, 5),
     Step::Part(Part::At(NAME_PLACE), 6),
     Step::Ends(Row::Enum),
-    Step::List { part: Part::At(VARIANT_PLACE), later: Part::At(VARIANT_PLACE), dots: false, close: Kind::Mark(Mark::CloseBrace), after: 8 },
+    Step::List {
+        part: Part::At(VARIANT_PLACE),
+        later: Part::At(VARIANT_PLACE),
+        dots: false,
+        close: Kind::Mark(Mark::CloseBrace),
+        after: 8,
+    },
     Step::Token(Kind::Mark(Mark::OpenBrace), 9),
     Step::Part(Part::At(NAME_PLACE), 10),
     Step::Token(Kind::Word(Word::Enum), 11),
     Step::Either(Kind::Word(Word::Struct), 7, 12),
     Step::Token(Kind::Mark(Mark::CloseBracket), 13),
-    Step::List { part: Part::At(NAME_PLACE), later: Part::At(NAME_PLACE), dots: false, close: Kind::Mark(Mark::CloseParenthesis), after: 14 },
+    Step::List {
+        part: Part::At(NAME_PLACE),
+        later: Part::At(NAME_PLACE),
+        dots: false,
+        close: Kind::Mark(Mark::CloseParenthesis),
+        after: 14,
+    },
     Step::Token(Kind::Mark(Mark::OpenParenthesis), 15),
     Step::Token(Kind::Derive, 16),
     Step::Token(Kind::Mark(Mark::OpenBracket), 17),
@@ -243,29 +267,59 @@ pub const TABLE: [Step; 228] = [
     Step::Part(Part::At(EXPR_ONLY_BLOCK_PLACE), 29),
     Step::Part(Part::At(TYPE_PLACE), 30),
     Step::Either(Kind::Mark(Mark::RArrow), 31, 30),
-    Step::List { part: Part::At(PATTERN_IS_PARAM_1_PLACE), later: Part::At(PATTERN_IS_PARAM_1_PLACE), dots: false, close: Kind::Mark(Mark::CloseParenthesis), after: 32 },
+    Step::List {
+        part: Part::At(PATTERN_IS_PARAM_1_PLACE),
+        later: Part::At(PATTERN_IS_PARAM_1_PLACE),
+        dots: false,
+        close: Kind::Mark(Mark::CloseParenthesis),
+        after: 32,
+    },
     Step::Token(Kind::Mark(Mark::OpenParenthesis), 33),
     Step::Part(Part::At(NAME_PLACE), 34),
     Step::Ends(Row::Method),
     Step::Part(Part::At(EXPR_ONLY_BLOCK_PLACE), 36),
     Step::Part(Part::At(TYPE_PLACE), 37),
     Step::Either(Kind::Mark(Mark::RArrow), 38, 37),
-    Step::List { part: Part::At(PATTERN_IS_PARAM_SELF_1_PLACE), later: Part::At(PATTERN_IS_PARAM_1_PLACE), dots: false, close: Kind::Mark(Mark::CloseParenthesis), after: 39 },
+    Step::List {
+        part: Part::At(PATTERN_IS_PARAM_SELF_1_PLACE),
+        later: Part::At(PATTERN_IS_PARAM_1_PLACE),
+        dots: false,
+        close: Kind::Mark(Mark::CloseParenthesis),
+        after: 39,
+    },
     Step::Token(Kind::Mark(Mark::OpenParenthesis), 40),
     Step::Part(Part::At(NAME_PLACE), 41),
     Step::Ends(Row::Head),
     Step::Token(Kind::Mark(Mark::Semi), 43),
     Step::Part(Part::At(TYPE_PLACE), 44),
     Step::Either(Kind::Mark(Mark::RArrow), 45, 44),
-    Step::List { part: Part::At(PATTERN_IS_PARAM_SELF_1_PLACE), later: Part::At(PATTERN_IS_PARAM_1_PLACE), dots: false, close: Kind::Mark(Mark::CloseParenthesis), after: 46 },
+    Step::List {
+        part: Part::At(PATTERN_IS_PARAM_SELF_1_PLACE),
+        later: Part::At(PATTERN_IS_PARAM_1_PLACE),
+        dots: false,
+        close: Kind::Mark(Mark::CloseParenthesis),
+        after: 46,
+    },
     Step::Token(Kind::Mark(Mark::OpenParenthesis), 47),
     Step::Part(Part::At(NAME_PLACE), 48),
     Step::Ends(Row::Field),
     Step::Part(Part::At(TYPE_PLACE), 50),
     Step::Token(Kind::Mark(Mark::Colon), 51),
     Step::Ends(Row::Variant),
-    Step::List { part: Part::At(TYPE_PLACE), later: Part::At(TYPE_PLACE), dots: false, close: Kind::Mark(Mark::CloseParenthesis), after: 53 },
-    Step::List { part: Part::At(FIELD_PLACE), later: Part::At(FIELD_PLACE), dots: false, close: Kind::Mark(Mark::CloseBrace), after: 53 },
+    Step::List {
+        part: Part::At(TYPE_PLACE),
+        later: Part::At(TYPE_PLACE),
+        dots: false,
+        close: Kind::Mark(Mark::CloseParenthesis),
+        after: 53,
+    },
+    Step::List {
+        part: Part::At(FIELD_PLACE),
+        later: Part::At(FIELD_PLACE),
+        dots: false,
+        close: Kind::Mark(Mark::CloseBrace),
+        after: 53,
+    },
     Step::Either(Kind::Mark(Mark::OpenBrace), 55, 53),
     Step::Either(Kind::Mark(Mark::OpenParenthesis), 54, 56),
     Step::Ends(Row::Ident),
@@ -281,7 +335,13 @@ pub const TABLE: [Step; 228] = [
     Step::Either(Kind::Mark(Mark::Lt), 66, 67),
     Step::Ends(Row::SelfType),
     Step::Ends(Row::TupleType),
-    Step::List { part: Part::At(TYPE_PLACE), later: Part::At(TYPE_PLACE), dots: false, close: Kind::Mark(Mark::CloseParenthesis), after: 70 },
+    Step::List {
+        part: Part::At(TYPE_PLACE),
+        later: Part::At(TYPE_PLACE),
+        dots: false,
+        close: Kind::Mark(Mark::CloseParenthesis),
+        after: 70,
+    },
     Step::Ends(Row::ArrayType),
     Step::Token(Kind::Mark(Mark::CloseBracket), 72),
     Step::Token(Kind::Number, 73),
@@ -297,9 +357,21 @@ pub const TABLE: [Step; 228] = [
     Step::Ends(Row::SelfParam),
     Step::Either(Kind::Word(Word::SelfValue), 84, 83),
     Step::Ends(Row::CallPattern),
-    Step::List { part: Part::At(PATTERN_PLACE), later: Part::At(PATTERN_PLACE), dots: true, close: Kind::Mark(Mark::CloseParenthesis), after: 86 },
+    Step::List {
+        part: Part::At(PATTERN_PLACE),
+        later: Part::At(PATTERN_PLACE),
+        dots: true,
+        close: Kind::Mark(Mark::CloseParenthesis),
+        after: 86,
+    },
     Step::Ends(Row::StructPattern),
-    Step::List { part: Part::At(FIELD_PATTERN_PLACE), later: Part::At(FIELD_PATTERN_PLACE), dots: true, close: Kind::Mark(Mark::CloseBrace), after: 88 },
+    Step::List {
+        part: Part::At(FIELD_PATTERN_PLACE),
+        later: Part::At(FIELD_PATTERN_PLACE),
+        dots: true,
+        close: Kind::Mark(Mark::CloseBrace),
+        after: 88,
+    },
     Step::Ends(Row::PathPattern),
     Step::Either(Kind::Mark(Mark::OpenBrace), 89, 90),
     Step::Either(Kind::Mark(Mark::OpenParenthesis), 87, 91),
@@ -312,9 +384,21 @@ pub const TABLE: [Step; 228] = [
     Step::Token(Kind::Number, 98),
     Step::Ends(Row::BoolPattern),
     Step::Ends(Row::TuplePattern),
-    Step::List { part: Part::At(PATTERN_PLACE), later: Part::At(PATTERN_PLACE), dots: true, close: Kind::Mark(Mark::CloseParenthesis), after: 101 },
+    Step::List {
+        part: Part::At(PATTERN_PLACE),
+        later: Part::At(PATTERN_PLACE),
+        dots: true,
+        close: Kind::Mark(Mark::CloseParenthesis),
+        after: 101,
+    },
     Step::Ends(Row::ArrayPattern),
-    Step::List { part: Part::At(PATTERN_PLACE), later: Part::At(PATTERN_PLACE), dots: true, close: Kind::Mark(Mark::CloseBracket), after: 103 },
+    Step::List {
+        part: Part::At(PATTERN_PLACE),
+        later: Part::At(PATTERN_PLACE),
+        dots: true,
+        close: Kind::Mark(Mark::CloseBracket),
+        after: 103,
+    },
     Step::Token(Kind::Word(Word::SelfValue), 84),
     Step::Either(Kind::Word(Word::Mut), 105, 105),
     Step::Ends(Row::FieldPattern),
@@ -338,10 +422,22 @@ pub const TABLE: [Step; 228] = [
     Step::Part(Part::At(EXPR_ONLY_BLOCK_PLACE), 124),
     Step::Part(Part::At(TYPE_PLACE), 125),
     Step::Either(Kind::Mark(Mark::RArrow), 126, 125),
-    Step::List { part: Part::At(PATTERN_IS_PARAM_1_PLACE), later: Part::At(PATTERN_IS_PARAM_1_PLACE), dots: false, close: Kind::Mark(Mark::Or), after: 127 },
+    Step::List {
+        part: Part::At(PATTERN_IS_PARAM_1_PLACE),
+        later: Part::At(PATTERN_IS_PARAM_1_PLACE),
+        dots: false,
+        close: Kind::Mark(Mark::Or),
+        after: 127,
+    },
     Step::Token(Kind::Mark(Mark::Or), 128),
     Step::Either(Kind::Mark(Mark::OrOr), 127, 129),
-    Step::List { part: Part::At(NAME_PLACE), later: Part::At(NAME_PLACE), dots: false, close: Kind::Mark(Mark::CloseBracket), after: 130 },
+    Step::List {
+        part: Part::At(NAME_PLACE),
+        later: Part::At(NAME_PLACE),
+        dots: false,
+        close: Kind::Mark(Mark::CloseBracket),
+        after: 130,
+    },
     Step::Token(Kind::Mark(Mark::OpenBracket), 131),
     Step::Ends(Row::Prefix),
     Step::Part(Part::Operand(7), 133),
@@ -350,7 +446,13 @@ pub const TABLE: [Step; 228] = [
     Step::Ends(Row::Truth),
     Step::Ends(Row::SelfValue),
     Step::Ends(Row::StructExpr),
-    Step::List { part: Part::At(FIELD_INIT_PLACE), later: Part::At(FIELD_INIT_PLACE), dots: false, close: Kind::Mark(Mark::CloseBrace), after: 139 },
+    Step::List {
+        part: Part::At(FIELD_INIT_PLACE),
+        later: Part::At(FIELD_INIT_PLACE),
+        dots: false,
+        close: Kind::Mark(Mark::CloseBrace),
+        after: 139,
+    },
     Step::Ends(Row::Path),
     Step::Either(Kind::Mark(Mark::OpenBrace), 140, 141),
     Step::Part(Part::At(NAME_PLACE), 142),
@@ -364,9 +466,21 @@ pub const TABLE: [Step; 228] = [
     Step::Either(Kind::Mark(Mark::Not), 150, 144),
     Step::Either(Kind::Mark(Mark::Not), 150, 146),
     Step::Ends(Row::Round),
-    Step::List { part: Part::At(EXPR_PLACE), later: Part::At(EXPR_PLACE), dots: false, close: Kind::Mark(Mark::CloseParenthesis), after: 153 },
+    Step::List {
+        part: Part::At(EXPR_PLACE),
+        later: Part::At(EXPR_PLACE),
+        dots: false,
+        close: Kind::Mark(Mark::CloseParenthesis),
+        after: 153,
+    },
     Step::Ends(Row::Square),
-    Step::List { part: Part::At(EXPR_PLACE), later: Part::At(EXPR_PLACE), dots: false, close: Kind::Mark(Mark::CloseBracket), after: 155 },
+    Step::List {
+        part: Part::At(EXPR_PLACE),
+        later: Part::At(EXPR_PLACE),
+        dots: false,
+        close: Kind::Mark(Mark::CloseBracket),
+        after: 155,
+    },
     Step::Statements(false),
     Step::Ends(Row::If),
     Step::Part(Part::At(EXPR_BLOCK_OR_IF_PLACE), 158),
@@ -406,9 +520,21 @@ pub const TABLE: [Step; 228] = [
     Step::Ends(Row::Product),
     Step::Part(Part::Operand(7), 193),
     Step::Ends(Row::Call),
-    Step::List { part: Part::At(EXPR_PLACE), later: Part::At(EXPR_PLACE), dots: false, close: Kind::Mark(Mark::CloseParenthesis), after: 195 },
+    Step::List {
+        part: Part::At(EXPR_PLACE),
+        later: Part::At(EXPR_PLACE),
+        dots: false,
+        close: Kind::Mark(Mark::CloseParenthesis),
+        after: 195,
+    },
     Step::Ends(Row::MethodCall),
-    Step::List { part: Part::At(EXPR_PLACE), later: Part::At(EXPR_PLACE), dots: false, close: Kind::Mark(Mark::CloseParenthesis), after: 197 },
+    Step::List {
+        part: Part::At(EXPR_PLACE),
+        later: Part::At(EXPR_PLACE),
+        dots: false,
+        close: Kind::Mark(Mark::CloseParenthesis),
+        after: 197,
+    },
     Step::Ends(Row::FieldAccess),
     Step::Either(Kind::Mark(Mark::OpenParenthesis), 198, 199),
     Step::Ends(Row::TupleField),
@@ -442,83 +568,163 @@ pub const TABLE: [Step; 228] = [
 
 // Where a node is behind its first token, and other points that are named.
 pub const DERIVED: u16 = 18;
+
 pub const STRUCT: u16 = 7;
+
 pub const ENUM: u16 = 11;
+
 pub const TRAIT: u16 = 22;
+
 pub const IMPL: u16 = 28;
+
 pub const FN: u16 = 35;
+
 pub const METHOD: u16 = 42;
+
 pub const HEAD: u16 = 49;
+
 pub const FIELD: u16 = 52;
+
 pub const VARIANT: u16 = 57;
+
 pub const IDENT: u16 = 58;
+
 pub const LABEL_NAME: u16 = 59;
+
 pub const TYPE_NAME: u16 = 68;
+
 pub const SELF_TYPE: u16 = 69;
+
 pub const TUPLE_TYPE: u16 = 71;
+
 pub const ARRAY_TYPE: u16 = 76;
+
 pub const NEVER_TYPE: u16 = 77;
+
 pub const REF_TYPE: u16 = 80;
+
 pub const WILD: u16 = 81;
+
 pub const BIND: u16 = 83;
+
 pub const BIND_OR_SELF: u16 = 85;
+
 pub const PATTERN_NAME: u16 = 96;
+
 pub const PATTERN_SELF_TYPE: u16 = 97;
+
 pub const PATTERN_NUMBER: u16 = 98;
+
 pub const PATTERN_MINUS: u16 = 99;
+
 pub const PATTERN_TRUTH: u16 = 100;
+
 pub const TUPLE_PATTERN: u16 = 102;
+
 pub const ARRAY_PATTERN: u16 = 104;
+
 pub const SELF_PARAM: u16 = 84;
+
 pub const REF_SELF: u16 = 106;
+
 pub const FIELD_PATTERN: u16 = 109;
+
 pub const FIELD_PATTERN_MUT: u16 = 110;
+
 pub const EMPTY: u16 = 111;
+
 pub const LET: u16 = 118;
+
 pub const RETURN: u16 = 120;
+
 pub const BREAK: u16 = 121;
+
 pub const CONTINUE: u16 = 123;
+
 pub const CLOSURE: u16 = 132;
+
 pub const PREFIX: u16 = 134;
+
 pub const REFERENCE: u16 = 135;
+
 pub const NUMBER: u16 = 136;
+
 pub const TRUTH: u16 = 137;
+
 pub const SELF_VALUE: u16 = 138;
+
 pub const PATH: u16 = 144;
+
 pub const PATH_IN_HEAD: u16 = 146;
+
 pub const PANIC: u16 = 151;
+
 pub const PANIC_IN_HEAD: u16 = 152;
+
 pub const ROUND: u16 = 154;
+
 pub const SQUARE: u16 = 156;
+
 pub const BLOCK: u16 = 157;
+
 pub const IF: u16 = 165;
+
 pub const MATCH: u16 = 168;
+
 pub const LOOP: u16 = 170;
+
 pub const WHILE: u16 = 176;
+
 pub const LABELLED: u16 = 179;
+
 pub const FIELD_INIT: u16 = 182;
+
 pub const ASSIGN: u16 = 184;
+
 pub const OR: u16 = 186;
+
 pub const AND: u16 = 188;
+
 pub const COMPARE: u16 = 190;
+
 pub const SUM: u16 = 192;
+
 pub const PRODUCT: u16 = 194;
+
 pub const CALL: u16 = 196;
+
 pub const DOT: u16 = 203;
+
 pub const INDEX: u16 = 206;
+
 pub const SEMI: u16 = 207;
+
 pub const ALTERNATIVE: u16 = 209;
+
 pub const PARAM: u16 = 211;
+
 pub const ARM_BODY: u16 = 212;
+
 pub const GUARD: u16 = 214;
+
 pub const ITEMS: u16 = 215;
+
 pub const BLOCK_END: u16 = 216;
+
 pub const CLOSE_BLOCK: u16 = 217;
+
 pub const NEXT_STATEMENTS: u16 = 218;
+
 pub const MATCH_END: u16 = 219;
+
 pub const NEXT_ARMS: u16 = 220;
+
 pub const CLOSE_MATCH: u16 = 221;
+
 pub const BEHIND_BLOCK: u16 = 223;
+
 pub const BEHIND_BODY: u16 = 225;
+
 pub const BEHIND_LABEL: u16 = 227;
+
 pub const BREAK_END: u16 = 226;
