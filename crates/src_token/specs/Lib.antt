@@ -1,0 +1,10 @@
+pub mod Beginnings
+pub mod Comments
+pub mod Cursors
+pub mod Marks
+pub mod Numbers
+pub mod Places
+pub mod Rows
+pub mod Scanning
+pub mod Tokens
+pub mod Words

@@ -1,5 +1,8 @@
+ghost use Rattle.std.specs.Prelude.{◌≡◌};
+ghost use Rattle.src_token.specs.declared.token.LexError.{LexError};
+
 use crate::{Mark, Word};
-use mir_base::{IntKind, Name, Pos};
+use mir_base::{IntKind, Name, NoMemory, Pos};
 use std::alloc::AllocError;
 use std::error::Error;
 use std::fmt;
@@ -13,10 +16,7 @@ pub enum Token {
     /// A keyword.
     Word(Word),
     /// A decimal number below 2^64, with the integer type that is written behind it.
-    Number {
-        value: u64,
-        suffix: Option<IntKind>,
-    },
+    Number { value: u64, suffix: Option<IntKind> },
     /// `'` and an identifier or a keyword.
     Label(Name),
     /// Characters between double quotes.
@@ -69,7 +69,17 @@ impl fmt::Display for LexError {
 impl Error for LexError {}
 
 impl From<AllocError> for LexError {
+    ghost from_gives = { λ refused error. error ≡ LexError.Memory };
+
     fn from(_refused: AllocError) -> LexError {
+        LexError::Memory
+    }
+}
+
+impl From<NoMemory> for LexError {
+    ghost from_gives = { λ refused error. error ≡ LexError.Memory };
+
+    fn from(_refused: NoMemory) -> LexError {
         LexError::Memory
     }
 }

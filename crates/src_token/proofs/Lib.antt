@@ -1,0 +1,11 @@
+pub mod Advancing
+pub mod Bytes
+pub mod CommentSteps
+pub mod Comments
+pub mod Cuttings
+pub mod Described
+pub mod FirstCharacters
+pub mod Lexing
+pub mod Longest
+pub mod Runs
+pub mod Values
