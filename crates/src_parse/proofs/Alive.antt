@@ -1,8 +1,7 @@
 -- Each rest has a way to its end: checked by computation, at each place where a node may stand.
-use Rattle.std.proofs.Common.{◌≡◌, ℕ, Bool, true, false, ◌&&◌, ◌||◌, not, nat_eq, Option, Some, None, option_map, List, [], ◌∷◌, refl, sym, ap, ◌∙◌, subst, if◌then◌else◌}
+use Rattle.std.proofs.Common.{◌≡◌, ℕ, Bool, true, false, ◌&&◌, ◌||◌, Option, Some, None, List, [], ◌∷◌, refl, sym, ap, ◌∙◌, subst, if◌then◌else◌}
 use Rattle.std.proofs.lemmas.Bool.{and_parts, and_from, eq-eqb}
 use Rattle.src_token.specs.declared.token.Token.{Token}
-use Rattle.src_token.specs.declared.word.Word.{Word}
 use Rattle.src_token.specs.declared.mark.Mark.{Mark}
 use Rattle.src_tree.specs.declared.row.Row.{Row}
 use Rattle.src_tree.specs.declared.row.Sort.{Sort}
@@ -10,8 +9,8 @@ use Rattle.src_tree.specs.declared.place.Place.{Place}
 use Rattle.src_tree.specs.declared.place.Part.{Part}
 use Rattle.src_tree.specs.declared.place.Start.{Start}
 use Rattle.src_tree.specs.declared.kind.Kind.{Kind}
-use Rattle.src_tree.specs.Grammar.{Rest, ends, token, either, part, maybe, list, more, many, items, alternatives, statements, arms, arm_body, after_break, is, comma, close_block, pattern1, seen, allowed, may_begin, place_of, move, due, behind, behind_statement, behind_arm, behind_body, behind_break, made, mark_number, word_number, Entry, entry, Joined, joined}
-use Rattle.src_tree.specs.Layout.{Node, node, Parts, end, tok, sub, Levelled, Follows}
+use Rattle.src_tree.specs.Grammar.{Rest, ends, token, either, part, maybe, list, more, many, items, alternatives, statements, arms, arm_body, after_break, is, comma, close_block, pattern1, seen, allowed, may_begin, place_of, move, due, behind, behind_statement, behind_arm, behind_body, behind_break, mark_number, word_number, Entry, entry, Joined, joined}
+use Rattle.src_tree.specs.Layout.{node, end, tok, sub, Levelled, Follows}
 use Rattle.src_tree.proofs.Samples.{samples, every, like, of_samples}
 use Rattle.src_tree.proofs.Follow.{places, is_known, same_place, implies}
 use Rattle.src_tree.proofs.Facts.{picks, no_more, implied, same_places}
@@ -104,7 +103,7 @@ and_moved P (more p dots close after) t q1 h e =
     let d = and_parts (P (token close after)) (everywhere P after) b.1 in
     picks (λ q. everywhere P q ≡ true) (is close t) after (if is comma t then Some (list p p dots close after) else None) q1 e d.1
     (λ f. picks (λ q. everywhere P q ≡ true) (is comma t) (list p p dots close after) None q1 f
-      (and_from _ _ b.0 (and_from _ _ a.0 (and_from _ _ b.0 b.1))) (no_more _ q1))
+    (and_from _ _ b.0 (and_from _ _ a.0 (and_from _ _ b.0 b.1))) (no_more _ q1))
 and_moved P (many p close after) t q1 h e = picks (λ q. everywhere P q ≡ true) (is close t) after None q1 e (and_parts (P (many p close after)) _ h).1 (no_more _ q1)
 and_moved P items t q1 h e = no_more _ q1 e
 and_moved P alternatives t q1 h e =
@@ -206,11 +205,12 @@ leaf_type = node tt Row.NeverType (tok (Token.Mark Mark.Not) end)
 
 -- a tree that may stand there
 abbrev pub leaf : Place → Tree
-leaf c = elim c.sort
-  [ Sort.Expr ↦ leaf_expr c.start
+leaf c = elim c.sort [
+  | Sort.Expr ↦ leaf_expr c.start
   | Sort.Type_ ↦ leaf_type
   | Sort.Pattern ↦ node tt Row.WildPattern (tok (Token.Mark Mark.Underscore) end)
-  | _ ↦ node tt Row.Ident (tok (Token.Name []) end) ]
+  | _ ↦ node tt Row.Ident (tok (Token.Name []) end)
+]
 
 abbrev leaf_arm : Tree
 leaf_arm = node tt Row.Arm (sub (node tt Row.WildPattern (tok (Token.Mark Mark.Underscore) end)) (tok (Token.Mark Mark.FatArrow) (sub leaf_block end)))
@@ -231,9 +231,43 @@ AllLeaves [] = Unit {0}
 AllLeaves (c ∷ cs) = Levelled (Some c) (leaf c) × AllLeaves cs
 
 all_leaves : AllLeaves leaf_places
-all_leaves =
-    ((refl, refl), ((refl, refl), ((refl, refl), ((refl, refl), ((refl, refl), ((refl, refl), ((refl, refl), ((refl, refl), ((refl, refl), ((refl, refl), ((refl, refl), ((refl, refl),
-    ((refl, refl), ((refl, refl), ((refl, refl), ((refl, refl), ((refl, refl), ((refl, refl), tt))))))))))))))))))
+all_leaves = (
+  (refl, refl),
+  (
+    (refl, refl),
+    (
+      (refl, refl),
+      (
+        (refl, refl),
+        (
+          (refl, refl),
+          (
+            (refl, refl),
+            (
+              (refl, refl),
+              (
+                (refl, refl),
+                (
+                  (refl, refl),
+                  (
+                    (refl, refl),
+                    (
+                      (refl, refl),
+                      (
+                        (refl, refl),
+                        ((refl, refl), ((refl, refl), ((refl, refl), ((refl, refl), ((refl, refl), ((refl, refl), tt)))))),
+                      ),
+                    ),
+                  ),
+                ),
+              ),
+            ),
+          ),
+        ),
+      ),
+    ),
+  ),
+)
 
 leaf_from : (ds : List Place) (c : Place) → AllLeaves ds → is_known ds c ≡ true → Levelled (Some c) (leaf c)
 leaf_from [] c a k = absurd (cc)

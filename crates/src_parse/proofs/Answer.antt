@@ -1,19 +1,18 @@
 -- Tokens that are read begin a levelled tree, and a token that is not goes on with none.
-use Rattle.std.proofs.Common.{◌≡◌, ℕ, suc, Option, Some, None, List, [], ◌∷◌, ◌++◌, length, refl, sym, ap, ◌∙◌, subst, append-nil, append_assoc, arith, length-append}
+use Rattle.std.proofs.Common.{◌≡◌, Option, Some, None, List, [], ◌++◌, refl, sym, ap, ◌∙◌, subst, append-nil}
 use Rattle.src_token.specs.declared.token.Token.{Token}
 use Rattle.src_tree.specs.declared.row.Row.{Row}
-use Rattle.src_tree.specs.Layout.{Node, node, Parts, row_of, parts_of, spell, spell_parts, ItemsLevelled}
-use Rattle.src_tree.specs.Reading.{and_then, step, whole, start}
-use Rattle.src_tree.proofs.Complete.{Tree, Held, Stack, step_if, run, complete, reads_rest}
-use Rattle.src_tree.proofs.Spells.{parts_behind}
-use Rattle.src_parse.proofs.Sound.{Good, start_good, Reached, runs, run_none, Ended, whole_well}
+use Rattle.src_tree.specs.Layout.{node, row_of, parts_of, spell, spell_parts, ItemsLevelled}
+use Rattle.src_tree.specs.Reading.{and_then, whole, start}
+use Rattle.src_tree.proofs.Complete.{Tree, Held, Stack, run, complete}
+use Rattle.src_parse.proofs.Sound.{start_good, Reached, runs, run_none, Ended, whole_well}
 use Rattle.src_parse.proofs.Finish.{run_append, finish}
 
 -- the spelling of the items of a levelled tree begins so
 abbrev pub Begins : List Token → Type 0
 Begins ts = (g : Held) × (rest : List Token) × ItemsLevelled g × (spell_parts g [] ≡ ts ++ rest)
 
-abbrev started : List Token → Option Stack
+abbrev pub started : List Token → Option Stack
 started ts = run ts (Some (start tt))
 
 reached : (ts : List Token) (s : Stack) → started ts ≡ Some s → Reached (start tt) ts (Some s)

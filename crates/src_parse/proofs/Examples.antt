@@ -24,7 +24,7 @@ accepts ts = is_some (and_then (run ts (Some (start tt))) (λ s. whole s))
 accepted_0 : accepts (w Word.Fn ∷ Token.Name (109 ∷ 97 ∷ 105 ∷ 110 ∷ []) ∷ m Mark.OpenParenthesis ∷ m Mark.CloseParenthesis ∷ m Mark.OpenBrace ∷ m Mark.CloseBrace ∷ []) ≡ true
 accepted_0 = refl
 
--- 
+--
 accepted_1 : accepts ([]) ≡ true
 accepted_1 = refl
 
@@ -108,7 +108,7 @@ accepted_20 = refl
 accepted_21 : accepts (w Word.Fn ∷ Token.Name (109 ∷ 97 ∷ 105 ∷ 110 ∷ []) ∷ m Mark.OpenParenthesis ∷ m Mark.CloseParenthesis ∷ m Mark.OpenBrace ∷ m Mark.Semi ∷ m Mark.Semi ∷ m Mark.Semi ∷ Token.Name (83 ∷ []) ∷ m Mark.OpenBrace ∷ Token.Name (120 ∷ []) ∷ m Mark.Comma ∷ Token.Name (121 ∷ []) ∷ m Mark.Colon ∷ Token.Number 1 None ∷ m Mark.CloseBrace ∷ m Mark.Semi ∷ Token.Name (97 ∷ []) ∷ m Mark.Dot ∷ Token.Name (98 ∷ []) ∷ m Mark.Eq ∷ Token.Name (99 ∷ []) ∷ m Mark.Semi ∷ m Mark.OpenParenthesis ∷ Token.Name (97 ∷ []) ∷ m Mark.Dot ∷ Token.Name (98 ∷ []) ∷ m Mark.CloseParenthesis ∷ m Mark.OpenParenthesis ∷ Token.Number 1 None ∷ m Mark.CloseParenthesis ∷ m Mark.Semi ∷ m Mark.CloseBrace ∷ []) ≡ true
 accepted_21 = refl
 
--- fn main() { S {} } 
+-- fn main() { S {} }
 accepted_22 : accepts (w Word.Fn ∷ Token.Name (109 ∷ 97 ∷ 105 ∷ 110 ∷ []) ∷ m Mark.OpenParenthesis ∷ m Mark.CloseParenthesis ∷ m Mark.OpenBrace ∷ Token.Name (83 ∷ []) ∷ m Mark.OpenBrace ∷ m Mark.CloseBrace ∷ m Mark.CloseBrace ∷ []) ≡ true
 accepted_22 = refl
 
@@ -251,4 +251,3 @@ refused_32 = refl
 -- Box<T>= x
 refused_33 : accepts (Token.Name (66 ∷ 111 ∷ 120 ∷ []) ∷ m Mark.Lt ∷ Token.Name (84 ∷ []) ∷ m Mark.Ge ∷ Token.Name (120 ∷ []) ∷ []) ≡ false
 refused_33 = refl
-

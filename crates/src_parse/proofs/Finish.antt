@@ -1,17 +1,17 @@
 -- Each state that was reached comes to an end on some tokens.
-use Rattle.std.proofs.Common.{◌≡◌, Bool, true, false, ◌&&◌, ◌||◌, Option, Some, None, option_map, List, [], ◌∷◌, ◌++◌, refl, sym, ap, ◌∙◌, subst}
-use Rattle.std.proofs.lemmas.Bool.{and_parts, and_from}
+use Rattle.std.proofs.Common.{◌≡◌, Bool, true, false, ◌||◌, Option, Some, None, option_map, List, [], ◌∷◌, ◌++◌, refl, sym, ap, ◌∙◌, subst}
+use Rattle.std.proofs.lemmas.Bool.{and_parts}
 use Rattle.src_token.specs.declared.token.Token.{Token}
 use Rattle.src_tree.specs.declared.row.Row.{Row}
 use Rattle.src_tree.specs.declared.place.Place.{Place}
 use Rattle.src_tree.specs.declared.place.Part.{Part}
-use Rattle.src_tree.specs.Grammar.{seen, allowed, may_begin, place_of, Rest, items, due, behind, made, Joined, joined}
-use Rattle.src_tree.specs.Layout.{Node, node, Parts, end, tok, sub, row_of, parts_of, spell, spell_parts, Levelled, Begun, Follows}
-use Rattle.src_tree.specs.Reading.{and_then, with_sub, Frame, frame, close_all, whole, file_place}
+use Rattle.src_tree.specs.Grammar.{seen, allowed, may_begin, place_of, Rest, due, behind, made, Joined, joined}
+use Rattle.src_tree.specs.Layout.{node, tok, sub, spell_parts, Levelled, Begun, Follows}
+use Rattle.src_tree.specs.Reading.{and_then, with_sub, frame, whole}
 use Rattle.src_tree.proofs.Follow.{ok, calm}
 use Rattle.src_tree.proofs.Facts.{here_of, good_part, joins_as, join_rows}
-use Rattle.src_tree.proofs.Complete.{Tree, Held, Stack, step_if, run, and_parts_of, Stands, Reads, handed, standing, by_join, reads_rest}
-use Rattle.src_parse.proofs.Alive.{everywhere, alive, at_once, leaves, way_row, way, way_follows, ender, joinable, joinable_by}
+use Rattle.src_tree.proofs.Complete.{Tree, Held, Stack, step_if, run, and_parts_of, Stands, handed, standing, by_join, reads_rest}
+use Rattle.src_parse.proofs.Alive.{alive, at_once, leaves, way_row, way, way_follows, ender, joinable, joinable_by}
 use Rattle.src_parse.proofs.Sound.{Good, ok_good, placed}
 
 pub run_append : (ts us : List Token) (o : Option Stack) → run (ts ++ us) o ≡ run us (run ts o)
@@ -35,7 +35,7 @@ up : (c0 : Place) (q0 : Rest) (d0 : Held) (S : Stack) → Ready S → (c : Place
 up c0 q0 d0 S ih c p e x g s q d r st m k a b =
     ih c0 (behind q0 r) (with_sub d0 (node tt r d)) s (placed c c0 q0 d0 S (node tt r d) (p, e, x) (a, b) g)
     (handed s S c0 q0 d0 p q d r (ok_good c0 q0 d0 S g) e
-      (subst (λ z. Stands s z q d (frame c0 q0 tt d0 ∷ S)) (sym x) st) m (subst (λ z. ok z.head q ≡ true) (sym x) k) (subst (λ z. allowed z r ≡ true) (sym x) a))
+    (subst (λ z. Stands s z q d (frame c0 q0 tt d0 ∷ S)) (sym x) st) m (subst (λ z. ok z.head q ≡ true) (sym x) k) (subst (λ z. allowed z r ≡ true) (sym x) a))
 
 -- a node that is complete, and the first part of one that may stand there
 up_joined : (c0 : Place) (q0 : Rest) (d0 : Held) (S : Stack) → Ready S → (c : Place) (p : Part) → due q0 ≡ Some p → place_of c0.head p ≡ c → Good (frame c0 q0 tt d0 ∷ S)
@@ -72,8 +72,8 @@ ready (frame c0 q0 a0 d0 ∷ S) c q d s g st = go (ready S) g.1 (and_parts (leav
         let b = g.0 (way_row q) ps w in
         ends_by (spell_parts ps []) s s1 run1
         (or_case (allowed c (way_row q)) (joinable c (way_row q) (ender c.start)) (Ends s1) l.1
-          (λ a. up c0 q0 d0 S ih c p e x g.4 s1 q1 (and_parts_of d ps) (way_row q) at1 made1 ok1 a b)
-          (by_ender (ender c.start) s1 q1 (and_parts_of d ps) (way_row q) p e x at1 made1 ok1 b ih))
+        (λ a. up c0 q0 d0 S ih c p e x g.4 s1 q1 (and_parts_of d ps) (way_row q) at1 made1 ok1 a b)
+        (by_ender (ender c.start) s1 q1 (and_parts_of d ps) (way_row q) p e x at1 made1 ok1 b ih))
       where
         by_ender : (o : Option Token) (s1 : Stack) (q1 : Rest) (d1 : Held) (r : Row) (p : Part) → due q0 ≡ Some p → place_of c0.head p ≡ c → Stands s1 c q1 d1 (frame c0 q0 a0 d0 ∷ S) → made q1 ≡ Some r → ok c.head q1 ≡ true → Begun (seen c) r d1
             → Ready S → joinable c r o ≡ true → Ends s1

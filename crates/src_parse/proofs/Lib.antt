@@ -3,3 +3,4 @@ pub mod Sound
 pub mod Finish
 pub mod Answer
 pub mod Examples
+pub mod Laws

@@ -1,18 +1,17 @@
 -- What a state has read is the beginning of a levelled tree.
-use Rattle.std.proofs.Common.{◌≡◌, Bool, true, false, ◌&&◌, Option, Some, None, option_map, List, [], ◌∷◌, ◌++◌, refl, sym, ap, ◌∙◌, subst, append-nil}
-use Rattle.std.proofs.lemmas.Bool.{and_parts}
+use Rattle.std.proofs.Common.{◌≡◌, Bool, true, false, ◌&&◌, Option, Some, None, option_map, List, [], ◌∷◌, ◌++◌, refl, sym, ap, ◌∙◌, subst}
 use Rattle.src_token.specs.declared.token.Token.{Token}
 use Rattle.src_tree.specs.declared.row.Row.{Row}
 use Rattle.src_tree.specs.declared.place.Place.{Place}
 use Rattle.src_tree.specs.declared.place.Part.{Part}
 use Rattle.src_tree.specs.Grammar.{seen, allowed, may_begin, place_of, Rest, items, move, due, behind, made, Entry, entry, Joined, joined}
-use Rattle.src_tree.specs.Layout.{Node, node, Parts, end, tok, sub, row_of, parts_of, spell, spell_parts, due_place, Levelled, Begun, Follows, ItemsLevelled}
-use Rattle.src_tree.specs.Reading.{or_else, and_then, only_if, begin_at, opens, joins, with_tok, with_sub, Frame, frame, State, goes_on, is_joined, act, step, close_all, whole, file_place, start}
+use Rattle.src_tree.specs.Layout.{node, end, tok, sub, row_of, parts_of, spell, spell_parts, due_place, Levelled, Begun, Follows, ItemsLevelled}
+use Rattle.src_tree.specs.Reading.{or_else, and_then, only_if, begin_at, opens, joins, with_tok, with_sub, Frame, frame, goes_on, is_joined, act, step, close_all, whole, file_place, start}
 use Rattle.src_tree.proofs.Follow.{ok, good, places, is_known}
 use Rattle.src_tree.proofs.Facts.{here_of, ok_move, ok_behind, good_part, known_part, joins_as, entry_is_ok, joined_is_ok, join_rows}
 use Rattle.src_tree.proofs.Checked.{items_ok}
 use Rattle.src_parse.proofs.Alive.{everywhere, alive, and_moved, and_behind, entry_alive, joined_alive}
-use Rattle.src_tree.proofs.Complete.{Tree, Held, Stack, step_if, run, and_parts_of, with_tok_and, with_sub_and, and_end}
+use Rattle.src_tree.proofs.Complete.{Tree, Held, Stack, run, and_parts_of, with_tok_and, with_sub_and, and_end}
 
 pub spell_with_tok : (d : Held) (t : Token) (k : List Token) → spell_parts (with_tok d t) k ≡ spell_parts d (t ∷ k)
 spell_with_tok end t k = refl
@@ -64,10 +63,16 @@ moves : (c : Place) (q : Rest) (d : Held) (S : Stack) (t : Token) (o : Option Re
 moves c q d S t None e g = tt
 moves c q d [] t (Some q1) e g =
     let n : None ≡ Some q1 = ap (λ z. move z t) (sym g.1) ∙ e in absurd (cc)
-moves c q d (frame c0 q0 a0 d0 ∷ S) t (Some q1) e g =
-    ((λ r ps f. subst (λ z. Begun (seen c) r z) (sym (with_tok_and d t ps)) (g.0 r (tok t ps) (subst (λ o. Follows c.head o r ps) (sym e) f)),
-      g.1, ok_move c.head q t q1 g.2 e, and_moved (alive c) q t q1 g.3 e, g.4),
-     λ k. ap (told (frame c0 q0 a0 d0 ∷ S)) (spell_with_tok d t k))
+moves c q d (frame c0 q0 a0 d0 ∷ S) t (Some q1) e g = (
+  (
+    λ r ps f. subst (λ z. Begun (seen c) r z) (sym (with_tok_and d t ps)) (g.0 r (tok t ps) (subst (λ o. Follows c.head o r ps) (sym e) f)),
+    g.1,
+    ok_move c.head q t q1 g.2 e,
+    and_moved (alive c) q t q1 g.3 e,
+    g.4,
+  ),
+  λ k. ap (told (frame c0 q0 a0 d0 ∷ S)) (spell_with_tok d t k),
+)
 
 -- a part begins
 begun_by : (c : Place) (q : Rest) (d : Held) (S : Stack) (t : Token) (p : Part) → due q ≡ Some p → Good (frame c q tt d ∷ S) → (o : Option Entry) → entry (seen (place_of c.head p)) t ≡ o
@@ -77,11 +82,16 @@ begun_by c q d S t p e g (Some b) x = go (may_begin (place_of c.head p) b.row) r
   where
     go : (m : Bool) → may_begin (place_of c.head p) b.row ≡ m → Ok (frame c q tt d ∷ S) t (option_map {T = Place × Rest} (λ e. frame e.0 e.1 tt (tok t end) ∷ frame c q tt d ∷ S) (only_if m (Some (place_of c.head p, b.rest))))
     go false y = tt
-    go true y =
-        ((λ r ps f. subst (λ o. Follows (place_of c.head p).head (option_map (λ e. e.rest) o) r ps) (sym x) f,
-          (p, e, refl), entry_is_ok (place_of c.head p) t b x,
-          entry_alive (place_of c.head p) t b (known_part c.head q p (here_of c.head q (ok_good c q d S g)) e) x y, g),
-         λ k. refl)
+    go true y = (
+      (
+        λ r ps f. subst (λ o. Follows (place_of c.head p).head (option_map (λ e. e.rest) o) r ps) (sym x) f,
+        (p, e, refl),
+        entry_is_ok (place_of c.head p) t b x,
+        entry_alive (place_of c.head p) t b (known_part c.head q p (here_of c.head q (ok_good c q d S g)) e) x y,
+        g,
+      ),
+      λ k. refl,
+    )
 
 parts_begin : (c : Place) (q : Rest) (d : Held) (S : Stack) (t : Token) (o : Option Part) → due q ≡ o → Good (frame c q tt d ∷ S)
     → Ok (frame c q tt d ∷ S) t (option_map {T = Place × Rest} (λ e. frame e.0 e.1 tt (tok t end) ∷ frame c q tt d ∷ S) (and_then (option_map (place_of c.head) o) (begin_at t)))
@@ -105,12 +115,19 @@ joins_good c q d (frame c0 q0 a0 d0) S t r m g gd k (Some j) x = go (may_begin c
     go true false ea eb = tt
     go true true ea eb =
         let same = (join_rows c t j (joins_as c t j gd x) ea).0 in
-        let whole_ : Begun (seen c) r d = subst (λ z. Begun (seen c) r z) (and_end d) (g.0 r end m) in
-        ((λ r1 ps w.
-            (subst (λ o. Levelled (option_map (λ j. j.place) o) (node tt r d)) (sym x) (eb, subst (λ z. Begun z r d) (sym same) whole_),
-             subst (λ o. Follows c.head (option_map (λ j. j.rest) o) r1 ps) (sym x) w),
-          g.1, joined_is_ok c t j x, joined_alive c t j k x ea, g.4),
-         λ k. refl)
+        let whole_ : Begun (seen c) r d = subst (λ z. Begun (seen c) r z) (and_end d) (g.0 r end m) in (
+          (
+            λ r1 ps w. (
+              subst (λ o. Levelled (option_map (λ j. j.place) o) (node tt r d)) (sym x) (eb, subst (λ z. Begun z r d) (sym same) whole_),
+              subst (λ o. Follows c.head (option_map (λ j. j.rest) o) r1 ps) (sym x) w,
+            ),
+            g.1,
+            joined_is_ok c t j x,
+            joined_alive c t j k x ea,
+            g.4,
+          ),
+          λ k. refl,
+        )
 
 good_place : (c c0 : Place) (q0 : Rest) (d0 : Held) (S : Stack) → Good (frame c0 q0 tt d0 ∷ S) → ((p : Part) × (due q0 ≡ Some p) × (place_of c0.head p ≡ c)) → good c ≡ true
 good_place c c0 q0 d0 S g (p, e, s) = ap good (sym s) ∙ good_part c0.head q0 p (here_of c0.head q0 (ok_good c0 q0 d0 S g)) e
@@ -121,17 +138,23 @@ known_place c c0 q0 d0 S g (p, e, s) = ap (is_known places) (sym s) ∙ known_pa
 -- a node that may stand there is a part of the one below
 pub placed : (c c0 : Place) (q0 : Rest) (d0 : Held) (S : Stack) (g : Tree) → ((p : Part) × (due q0 ≡ Some p) × (place_of c0.head p ≡ c)) → Levelled (Some c) g
     → Good (frame c0 q0 tt d0 ∷ S) → Good (frame c0 (behind q0 (row_of g)) tt (with_sub d0 g) ∷ S)
-placed c c0 q0 d0 [] g (p, e, s) l b =
-    (b.0, ap (λ z. behind z (row_of g)) b.1,
-     λ ps f. subst (λ z. Follows false (Some items) Row.File z) (sym (with_sub_and d0 g ps))
-       (b.2 (sub g ps) (subst (λ o. Levelled o g) (sym x) l, f)))
+placed c c0 q0 d0 [] g (p, e, s) l b = (
+  b.0,
+  ap (λ z. behind z (row_of g)) b.1,
+  λ ps f. subst (λ z. Follows false (Some items) Row.File z) (sym (with_sub_and d0 g ps))
+      (b.2 (sub g ps) (subst (λ o. Levelled o g) (sym x) l, f)),
+)
   where
     x : due_place false items ≡ Some c
     x = ap (due_place false) (sym b.1) ∙ ap (λ z. option_map (place_of false) z) e ∙ ap (λ z. Some (place_of z.head p)) (sym b.0) ∙ ap (λ z. Some z) s
-placed c c0 q0 d0 (frame c1 q1 a1 d1 ∷ S) g (p, e, s) l b =
-    ((λ r1 ps f. subst (λ z. Begun (seen c0) r1 z) (sym (with_sub_and d0 g ps))
-       (b.0 r1 (sub g ps) (subst (λ o. Levelled o g) (sym x) l, f))),
-     b.1, ok_behind c0.head q0 (row_of g) b.2, and_behind (alive c0) q0 p (row_of g) b.3 e, b.4)
+placed c c0 q0 d0 (frame c1 q1 a1 d1 ∷ S) g (p, e, s) l b = (
+  (λ r1 ps f. subst (λ z. Begun (seen c0) r1 z) (sym (with_sub_and d0 g ps))
+      (b.0 r1 (sub g ps) (subst (λ o. Levelled o g) (sym x) l, f))),
+  b.1,
+  ok_behind c0.head q0 (row_of g) b.2,
+  and_behind (alive c0) q0 p (row_of g) b.3 e,
+  b.4,
+)
   where
     x : due_place c0.head q0 ≡ Some c
     x = ap (λ z. option_map (place_of c0.head) z) e ∙ ap (λ z. Some z) s
