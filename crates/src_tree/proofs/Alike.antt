@@ -1,21 +1,18 @@
 -- The grammar tells tokens apart only as far as the samples do.
-use Rattle.std.proofs.Common.{◌≡◌, ℕ, Bool, true, false, ◌&&◌, ◌||◌, not, nat_eq, Option, Some, None, option_map, List, [], ◌∷◌, refl, sym, ap, ◌∙◌, subst}
+use Rattle.std.proofs.Common.{◌≡◌, ℕ, Bool, true, false, ◌&&◌, not, nat_eq, Option, Some, None, List, [], ◌∷◌, refl, ap}
 use Rattle.std.proofs.lemmas.Bool.{and_parts, eqb-true}
 use Rattle.src_token.specs.declared.token.Token.{Token}
-use Rattle.src_token.specs.declared.word.Word.{Word}
 use Rattle.src_token.specs.declared.mark.Mark.{Mark}
 use Rattle.src_tree.specs.declared.row.Row.{Row}
 use Rattle.src_tree.specs.declared.row.Sort.{Sort}
 use Rattle.src_tree.specs.declared.place.Start.{Start}
 use Rattle.src_tree.specs.declared.place.Place.{Place}
-use Rattle.src_tree.specs.declared.place.Seen.{Seen}
-use Rattle.src_tree.specs.declared.place.Part.{Part}
 use Rattle.src_tree.specs.declared.kind.Kind.{Kind}
 use Rattle.src_tree.specs.Grammar.{seen, place_of, Rest, ends, token, either, part, maybe, list, more, many, items, alternatives, statements, arms, arm_body, after_break, is, is_text, is_panic, named, move, due, made, Entry, entry, by_row, Joined, joined}
 use Rattle.src_tree.specs.Layout.{due_place}
 use Rattle.src_tree.specs.Reading.{and_then, only_if, begin_at, opens, joins}
 use Rattle.src_tree.proofs.Samples.{like, like_name, panic_text, derive_text}
-use Rattle.src_tree.proofs.Follow.{among, quiet, calm, calm_at, Shape, Ended, Brace, Braced, Labelled, OneArm, OneLastArm, Open, follow, idle, acts, is_none}
+use Rattle.src_tree.proofs.Follow.{among, quiet, calm, calm_at, Shape, Ended, follow, idle, acts}
 
 text_is : (n m : List ℕ) → is_text n m ≡ true → n ≡ m
 text_is [] [] h = refl

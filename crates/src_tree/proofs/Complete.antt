@@ -1,18 +1,17 @@
 -- A levelled tree is read: by induction on the tree, one lemma for what begins a node and one for what follows.
-use Rattle.std.proofs.Common.{◌≡◌, ℕ, Bool, true, false, ◌&&◌, ◌||◌, not, Option, Some, None, option_map, List, [], ◌∷◌, refl, sym, ap, ◌∙◌, subst, if◌then◌else◌}
+use Rattle.std.proofs.Common.{◌≡◌, Bool, true, false, ◌&&◌, ◌||◌, not, Option, Some, None, option_map, List, [], ◌∷◌, refl, sym, ap, ◌∙◌, subst, if◌then◌else◌}
 use Rattle.std.proofs.lemmas.Bool.{and_parts, and_from}
 use Rattle.src_token.specs.declared.token.Token.{Token}
 use Rattle.src_token.specs.declared.mark.Mark.{Mark}
 use Rattle.src_tree.specs.declared.row.Row.{Row}
 use Rattle.src_tree.specs.declared.place.Place.{Place}
-use Rattle.src_tree.specs.declared.place.Seen.{Seen}
 use Rattle.src_tree.specs.declared.place.Part.{Part}
 use Rattle.src_tree.specs.declared.kind.Kind.{Kind}
 use Rattle.src_tree.specs.Grammar.{seen, allowed, may_begin, place_of, Rest, ends, token, either, part, maybe, list, more, many, items, alternatives, statements, arms, arm_body, after_break, move, due, behind, behind_statement, behind_arm, behind_body, behind_break, made, Entry, entry, Joined, joined, is, comma}
-use Rattle.src_tree.specs.Layout.{Node, node, Parts, end, tok, sub, row_of, parts_of, ItemsLevelled, spell, spell_parts, due_place, entry_rest, joined_place, joined_rest, Levelled, Begun, Follows}
-use Rattle.src_tree.specs.Reading.{or_else, and_then, only_if, begin_at, opens, joins, with_tok, with_sub, Frame, frame, State, goes_on, is_joined, act, step, close_all, whole, file_place, start}
+use Rattle.src_tree.specs.Layout.{Node, node, Parts, end, tok, sub, row_of, parts_of, ItemsLevelled, spell, spell_parts, Levelled, Begun, Follows}
+use Rattle.src_tree.specs.Reading.{and_then, only_if, begin_at, opens, joins, with_tok, with_sub, frame, State, act, step, close_all, whole, file_place, start}
 use Rattle.src_tree.proofs.Checked.{items_ok}
-use Rattle.src_tree.proofs.Follow.{calm, calm_at, shape, follow, idle, acts, is_none, ok, here, all_ends, good, implies}
+use Rattle.src_tree.proofs.Follow.{calm, calm_at, idle, acts, is_none, ok, all_ends, good, implies}
 use Rattle.src_tree.proofs.Facts.{picks, no_more, here_of, ok_move, ok_behind, idle_calm, opens_alone, follows_on, good_part, stands_behind, joins_as, begins_as, entry_is_ok, joined_is_ok, begin_if_allowed, join_rows, join_begins, implied}
 
 -- trees without places

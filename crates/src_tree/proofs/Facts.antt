@@ -1,5 +1,5 @@
 -- What the checks say, of every token and every row.
-use Rattle.std.proofs.Common.{◌≡◌, ℕ, Bool, true, false, ◌&&◌, ◌||◌, not, nat_le, nat_eq, Option, Some, None, option_map, List, [], ◌∷◌, refl, sym, ap, ◌∙◌, subst, if◌then◌else◌}
+use Rattle.std.proofs.Common.{◌≡◌, ℕ, Bool, true, false, ◌&&◌, ◌||◌, not, nat_le, nat_eq, Option, Some, None, List, [], ◌∷◌, refl, sym, ap, ◌∙◌, subst, if◌then◌else◌}
 use Rattle.std.proofs.lemmas.Bool.{and_parts, and_from, eqb-true}
 use Rattle.src_token.specs.declared.token.Token.{Token}
 use Rattle.src_token.specs.declared.mark.Mark.{Mark}
@@ -11,8 +11,7 @@ use Rattle.src_tree.specs.declared.place.Seen.{Seen}
 use Rattle.src_tree.specs.declared.place.Part.{Part}
 use Rattle.src_tree.specs.declared.kind.Kind.{Kind}
 use Rattle.src_tree.specs.Grammar.{sort_number, seen, allowed, may_begin, may_be, begins_by, place_of, Rest, ends, token, either, part, maybe, list, more, many, items, alternatives, statements, arms, arm_body, after_break, is, comma, move, due, behind, behind_statement, behind_arm, behind_body, behind_break, made, Entry, entry, Joined, joined}
-use Rattle.src_tree.specs.Layout.{due_place}
-use Rattle.src_tree.specs.Reading.{and_then, only_if, begin_at, opens, joins}
+use Rattle.src_tree.specs.Reading.{opens, joins}
 use Rattle.src_tree.proofs.Samples.{samples, rows, every, nth, like, of_samples, of_rows}
 use Rattle.src_tree.proofs.Follow.{calm, calm_at, shape, example, follow, idle, acts, is_none, implies, shapes, Shape, Ended, Brace, Braced, Labelled, OneArm, OneLastArm, Open, places, start_number, same_bool, same_place, is_known, ends_well, part_well, parts_well, here, ok, all_ends, stands, same_seen, joins_well, begins_well, good, entry_ok, joined_ok}
 use Rattle.src_tree.proofs.Alike.{move_like, opens_like, joins_like, calm_like, follow_like, idle_like, acts_like, entry_alike, joined_alike}

@@ -6,7 +6,7 @@ use Rattle.src_tree.specs.declared.row.Row.{Row}
 use Rattle.src_tree.specs.declared.row.Sort.{Sort}
 use Rattle.src_tree.specs.declared.place.Part.{Part}
 use Rattle.src_tree.specs.declared.kind.Kind.{Kind}
-use Rattle.src_tree.specs.Grammar.{Rest, ends, token, either, part, maybe, many, items, alternatives, statements, arms, arm_body, after_break, close_block, comma, pattern1, a_name, a_type, a_pattern, a_label, any_expr, head_expr, block, of_sort, named, item, struct_rest, enum_rest, derived, head_rest, impl_rest, path_pattern, bind_or_self, if_rest, loop_rest, while_rest, labelled, closure, let_rest, operand, dot, exprs, patterns, fields, types, mark, word, if_mark, if_word}
+use Rattle.src_tree.specs.Grammar.{ends, token, either, part, maybe, many, items, alternatives, statements, arms, arm_body, after_break, close_block, comma, pattern1, a_name, a_type, a_pattern, a_label, any_expr, head_expr, block, of_sort, named, struct_rest, enum_rest, derived, head_rest, impl_rest, path_pattern, bind_or_self, if_rest, loop_rest, while_rest, labelled, closure, let_rest, operand, dot, exprs, patterns, fields, types, mark, word, if_mark, if_word}
 use Rattle.src_tree.specs.Table.{rests, rest_at}
 
 pub derived_is : rest_at 18 ≡ derived

@@ -5,7 +5,7 @@ use Rattle.src_tree.specs.declared.row.Row.{Row}
 use Rattle.src_tree.specs.declared.place.Place.{Place}
 use Rattle.src_tree.specs.declared.place.Seen.{Seen}
 use Rattle.src_tree.specs.Grammar.{Rest, move, behind, seen, items}
-use Rattle.src_tree.specs.Layout.{Node, node, Parts, end, tok, sub, row_of, spell, spell_parts, due_place, entry_rest, joined_place, joined_rest, Levelled, Begun, Follows, ItemsLevelled}
+use Rattle.src_tree.specs.Layout.{Node, node, Parts, end, tok, sub, row_of, spell, spell_parts, due_place, entry_rest, joined_place, joined_rest, Levelled, Begun, Follows}
 use Rattle.src_tree.specs.Laws.{unplaced, unplaced_parts, SpelledOnce}
 use Rattle.src_tree.proofs.Complete.{unique}
 

@@ -1,11 +1,11 @@
 -- One token of each kind, and all rows: what holds of these holds of every token and every row.
-use Rattle.std.proofs.Common.{◌≡◌, ℕ, zero, suc, Bool, true, false, ◌&&◌, Option, Some, None, List, [], ◌∷◌, refl, ap, ◌∙◌, sym, if◌then◌else◌, nat_eq}
+use Rattle.std.proofs.Common.{◌≡◌, ℕ, zero, suc, Bool, true, false, ◌&&◌, Option, Some, None, List, [], ◌∷◌, refl, ap, ◌∙◌, sym}
 use Rattle.mir_base.specs.declared.int_kind.IntKind.{IntKind}
 use Rattle.src_token.specs.declared.token.Token.{Token}
 use Rattle.src_token.specs.declared.word.Word.{Word}
 use Rattle.src_token.specs.declared.mark.Mark.{Mark}
 use Rattle.src_tree.specs.declared.row.Row.{Row}
-use Rattle.src_tree.specs.Grammar.{is_text, is_panic}
+use Rattle.src_tree.specs.Grammar.{is_text}
 
 abbrev pub derive_text : List ℕ
 derive_text = 100 ∷ 101 ∷ 114 ∷ 105 ∷ 118 ∷ 101 ∷ []

@@ -1,5 +1,5 @@
 -- Each number of the table stands for its step.
-use Rattle.std.proofs.Common.{◌≡◌, ℕ, List, Option, Some, None, option_map, map, slice_get, refl, sym, ap, ◌∙◌}
+use Rattle.std.proofs.Common.{◌≡◌, ℕ, Option, Some, None, option_map, map, slice_get, refl, sym, ap, ◌∙◌}
 use Rattle.std.proofs.lemmas.Option.{slice_get-map}
 use Rattle.src_tree.specs.declared.row.Row.{Row}
 use Rattle.src_tree.specs.declared.table.Step.{Step}

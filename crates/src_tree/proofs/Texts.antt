@@ -1,5 +1,5 @@
 -- Texts are equal where their bytes are.
-use Rattle.std.proofs.Common.{◌≡◌, ℕ, Bool, true, false, ◌&&◌, nat_eq, List, [], ◌∷◌, refl, ap}
+use Rattle.std.proofs.Common.{◌≡◌, ℕ, ◌&&◌, nat_eq, List, [], ◌∷◌, refl, ap}
 use Rattle.std.specs.Cmp.Lexicographic.{pointwise}
 use Rattle.src_tree.specs.Grammar.{is_text}
 

@@ -1,8 +1,6 @@
 -- The law of spelling.
-use Rattle.std.specs.Prelude.{◌≡◌, [], Some, false}
+use Rattle.std.specs.Prelude.{◌≡◌, []}
 use Rattle.mir_base.specs.declared.place_in_text.Pos.{Pos}
-use Rattle.src_tree.specs.declared.row.Row.{Row}
-use Rattle.src_tree.specs.Grammar.{items}
 use Rattle.src_tree.specs.Layout.{Node, node, Parts, end, tok, sub, spell_parts, ItemsLevelled}
 
 -- a tree without its places

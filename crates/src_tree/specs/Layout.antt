@@ -4,8 +4,7 @@ use Rattle.src_token.specs.declared.token.Token.{Token}
 use Rattle.src_tree.specs.declared.row.Row.{Row}
 use Rattle.src_tree.specs.declared.place.Place.{Place}
 use Rattle.src_tree.specs.declared.place.Seen.{Seen}
-use Rattle.src_tree.specs.declared.place.Part.{Part}
-use Rattle.src_tree.specs.Grammar.{counts, seen, allowed, place_of, Rest, items, move, due, behind, made, Entry, entry, Joined, joined}
+use Rattle.src_tree.specs.Grammar.{counts, seen, allowed, place_of, Rest, items, move, due, behind, made, entry, joined}
 
 mutual
   pub data Node (L : Type 0) : Type 0 where

@@ -1,13 +1,12 @@
 -- The parser, one token after the other: a stack of nodes of which a part may still come.
-use Rattle.std.specs.Prelude.{ℕ, Bool, true, false, ◌&&◌, Option, Some, None, option_map, List, [], ◌∷◌, if◌then◌else◌}
+use Rattle.std.specs.Prelude.{Bool, true, false, ◌&&◌, Option, Some, None, option_map, List, [], ◌∷◌}
 use Rattle.src_token.specs.declared.token.Token.{Token}
 use Rattle.src_tree.specs.declared.row.Row.{Row}
 use Rattle.src_tree.specs.declared.place.Start.{Start}
 use Rattle.src_tree.specs.declared.row.Sort.{Sort}
 use Rattle.src_tree.specs.declared.place.Place.{Place}
-use Rattle.src_tree.specs.declared.place.Part.{Part}
-use Rattle.src_tree.specs.Grammar.{seen, allowed, may_begin, place_of, Rest, items, move, due, behind, made, Entry, entry, Joined, joined}
-use Rattle.src_tree.specs.Layout.{Node, node, Parts, end, tok, sub, row_of, place_of_node, due_place}
+use Rattle.src_tree.specs.Grammar.{seen, allowed, may_begin, Rest, items, move, behind, made, entry, joined}
+use Rattle.src_tree.specs.Layout.{Node, node, Parts, end, tok, sub, due_place}
 
 abbrev pub or_else : {X : Type 0} → Option X → Option X → Option X
 or_else None o = o

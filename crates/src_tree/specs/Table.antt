@@ -1,7 +1,6 @@
 -- What the numbers of the table of steps stand for, and what a point of a row is.
-use Rattle.std.specs.Prelude.{ℕ, List, [], ◌∷◌, ◌++◌, suc, Option, Some, None, option_map, slice_get}
+use Rattle.std.specs.Prelude.{ℕ, List, [], ◌∷◌, ◌++◌, suc, Option, Some, None, slice_get}
 use Rattle.src_tree.specs.declared.row.Row.{Row}
-use Rattle.src_tree.specs.declared.place.Place.{Place}
 use Rattle.src_tree.specs.declared.table.Step.{Step}
 use Rattle.src_tree.specs.declared.table.Point.{Point}
 use Rattle.src_tree.specs.declared.table.Begun.{Begun}

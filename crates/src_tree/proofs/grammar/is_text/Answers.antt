@@ -1,4 +1,4 @@
-use Rattle.std.proofs.Common.{rules, ◌≡◌, sym, ap, ◌∙◌}
+use Rattle.std.proofs.Common.{ap, ◌∙◌}
 use Rattle.src_tree.specs.Grammar.{is_text}
 use Rattle.src_tree.proofs.Texts.{texts}
 use Rattle.src_tree.proofs.grammar.is_text.Goals as goal
