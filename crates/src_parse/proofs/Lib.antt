@@ -4,3 +4,4 @@ pub mod Finish
 pub mod Answer
 pub mod Examples
 pub mod Laws
+pub mod Depth
