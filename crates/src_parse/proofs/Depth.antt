@@ -255,3 +255,135 @@ total_made c (statements o) d r m p = absurd (cc)
 total_made c (arms o) d r m p = absurd (cc)
 total_made c arm_body d r m p = absurd (cc)
 total_made c after_break d r m p = let e : Row.Break ≡ r = cc in (ap (possible c) e ∙ p, subst (λ z. settle c Row.Break (1 + d) ≤ settle c z (counts z + d)) e (omega arith))
+
+-- What a rest has to be for its parts to be counted rightly.
+abbrev pub fit : Place → Rest → Bool
+fit c (maybe p after r) = allowed c r && all_ends (λ x. nat_le (counts r) (counts x)) after
+fit c arm_body = allowed c Row.Arm
+fit c (either k after other) = (is_none (due other) || poss c other) && fit c other
+fit c _ = true
+
+settle_is : (c : Place) (r : Row) (n : ℕ) → allowed c r ≡ true → settle c r n ≡ n
+settle_is c r n a = ap (λ b. settle_by b c.start n) a
+
+pub total_heavy : (c : Place) (q : Rest) (d k : ℕ) → all_ends (λ x. nat_le k (counts x)) q ≡ true → k + d ≤ total c q d
+total_heavy c (ends r) d k a = let h = settle_up c r (counts r + d) in let l = leb-true k (counts r) a in omega arith
+total_heavy c (token x after) d k a = total_heavy c after d k a
+total_heavy c (either x after other) d k a =
+    let b = and_parts (all_ends (λ x. nat_le k (counts x)) after) (all_ends (λ x. nat_le k (counts x)) other) a in
+    pick_up (poss c after) (poss c other) (k + d) (total c after d) (total c other d) (total_heavy c after d k b.0) (total_heavy c other d k b.1)
+total_heavy c (part p after) d k a = let h = total_heavy c after (max d (least_place (place_of c.head p))) k a in omega arith
+total_heavy c (maybe p after r) d k a =
+    let b = and_parts (nat_le k (counts r)) (all_ends (λ x. nat_le k (counts x)) after) a in
+    let h = settle_up c r (counts r + d) in let l = leb-true k (counts r) b.0 in omega arith
+total_heavy c (list p later dots close after) d k a = total_heavy c after d k a
+total_heavy c (more p dots close after) d k a = total_heavy c after d k a
+total_heavy c (many p close after) d k a = total_heavy c after d k a
+total_heavy c items d k a = let h = settle_up c Row.File (0 + d) in let l = leb-true k 0 a in omega arith
+total_heavy c alternatives d k a = let h = settle_up c Row.OrPattern (1 + d) in let l = leb-true k 1 a in omega arith
+total_heavy c (statements o) d k a = let h = settle_up c Row.Block (1 + d) in let l = leb-true k 1 a in omega arith
+total_heavy c (arms o) d k a = let h = settle_up c Row.Match (1 + arms_depth o d) in let u = arms_up o d in let l = leb-true k 1 a in omega arith
+total_heavy c arm_body d k a =
+    let b = and_parts (nat_le k 1) (nat_le k 1) a in
+    let h = settle_up c Row.Arm (1 + max d 1) in let l = leb-true k 1 b.0 in omega arith
+total_heavy c after_break d k a = let h = settle_up c Row.Break (1 + d) in let l = leb-true k 1 a in omega arith
+
+or_from_false : (a b : Bool) → a ≡ false → (a || b) ≡ true → b ≡ true
+or_from_false true b e h = absurd (cc)
+or_from_false false b e h = h
+
+-- a part that is placed takes nothing away
+pub total_part : (c : Place) (q : Rest) (p : Part) (d n : ℕ) → due q ≡ Some p → fit c q ≡ true → least_place (place_of c.head p) ≤ n → total c q d ≤ total_behind c q (max d n)
+total_part c (ends r) p d n e f h = absurd (cc)
+total_part c (token k after) p d n e f h = absurd (cc)
+total_part c (either k after other) p d n e f h =
+    let g = and_parts (is_none (due other) || poss c other) (fit c other) f in
+    let o = or_from_false (is_none (due other)) (poss c other) (ap (λ z. is_none z) e) g.0 in
+    let m = pick_other (poss c after) (poss c other) (total c after d) (total c other d) o in
+    let i = total_part c other p d n e g.1 h in omega arith
+total_part c (part x after) p d n e f h =
+    let s : x ≡ p = cc in
+    let l : least_place (place_of c.head x) ≤ n = subst (λ z. least_place (place_of c.head z) ≤ n) (sym s) h in
+    total_mono c after (max d (least_place (place_of c.head x))) (max d n) (omega arith)
+total_part c (maybe x after r) p d n e f h =
+    let g = and_parts (allowed c r) (all_ends (λ x. nat_le (counts r) (counts x)) after) f in
+    let s = settle_is c r (counts r + d) g.0 in
+    let l = total_heavy c after (max d n) (counts r) g.1 in omega arith
+total_part c (list x later dots close after) p d n e f h = total_mono c after d (max d n) (omega arith)
+total_part c (more x dots close after) p d n e f h = absurd (cc)
+total_part c (many x close after) p d n e f h = total_mono c after d (max d n) (omega arith)
+total_part c items p d n e f h = settle_mono c Row.File (0 + d) (0 + max d n) (omega arith)
+total_part c alternatives p d n e f h = absurd (cc)
+total_part c (statements o) p d n e f h = settle_mono c Row.Block (1 + d) (1 + max d n) (omega arith)
+total_part c (arms o) p d n e f h =
+    let s : Part.At record { sort = Sort.Pattern; least = 0; head = false; start = Start.IsArm } ≡ p = cc in
+    let l : 2 ≤ n = subst (λ z. least_place (place_of c.head z) ≤ n) (sym s) h in
+    settle_mono c Row.Match (1 + arms_depth o d) (1 + max d n) (arms_below o d n l)
+  where
+    arms_below : (o : Bool) (d n : ℕ) → 2 ≤ n → 1 + arms_depth o d ≤ 1 + max d n
+    arms_below false d n l = omega arith
+    arms_below true d n l = omega arith
+total_part c arm_body p d n e f h =
+    let s : Part.At (Rattle.src_tree.specs.Grammar.expr false Start.ArmBody) ≡ p = cc in
+    let l : 1 ≤ n = subst (λ z. least_place (place_of c.head z) ≤ n) (sym s) h in
+    settle_mono c Row.Arm (1 + max d 1) (1 + max d n) (omega arith)
+total_part c after_break p d n e f h = settle_mono c Row.Break (1 + d) (1 + max d n) (omega arith)
+
+behind_statement_total : (c : Place) (r : Row) (m : ℕ) → total c (behind_statement r) m ≡ settle c Row.Block (1 + m)
+behind_statement_total c Row.Let m = refl
+behind_statement_total c _ m = refl
+
+behind_arm_total : (c : Place) (r : Row) (m : ℕ) → total c (behind_arm r) m ≡ settle c Row.Match (1 + m)
+behind_arm_total c Row.Arm m = refl
+behind_arm_total c _ m = refl
+
+behind_break_total : (c : Place) (r : Row) (m : ℕ) → total c (behind_break r) m ≡ settle c Row.Break (1 + m)
+behind_break_total c Row.LabelName m = refl
+behind_break_total c _ m = refl
+
+pick_same : (a : Bool) (x : ℕ) → pick a a x x ≡ x
+pick_same true x = omega arith
+pick_same false x = refl
+
+pick_low : (a b : Bool) (x y : ℕ) → a ≡ true → x ≤ y → pick a b x y ≡ x
+pick_low true true x y e h = omega arith
+pick_low true false x y e h = refl
+pick_low false b x y e h = absurd (cc)
+
+behind_body_total : (c : Place) (r : Row) (m : ℕ) → allowed c Row.Arm ≡ true → total c (behind_body r) m ≡ settle c Row.Arm (1 + m)
+behind_body_total c Row.Block m a = pick_same (possible c Row.Arm) (settle c Row.Arm (1 + m))
+behind_body_total c _ m a =
+    pick_low (possible c Row.Arm) (possible c Row.LastArm) (settle c Row.Arm (1 + m)) (settle c Row.LastArm (1 + m)) (or_left (allowed c Row.Arm) (joinable c Row.Arm (ender c.start)) a)
+    (let s = settle_is c Row.Arm (1 + m) a in let u = settle_up c Row.LastArm (1 + m) in omega arith)
+
+pub behind_total : (c : Place) (q : Rest) (p : Part) (r : Row) (m : ℕ) → due q ≡ Some p → fit c q ≡ true → total c (behind q r) m ≡ total_behind c q m
+behind_total c (ends x) p r m e f = absurd (cc)
+behind_total c (token k after) p r m e f = absurd (cc)
+behind_total c (either k after other) p r m e f = behind_total c other p r m e (and_parts (is_none (due other) || poss c other) (fit c other) f).1
+behind_total c (part x after) p r m e f = refl
+behind_total c (maybe x after y) p r m e f = refl
+behind_total c (list x later dots close after) p r m e f = refl
+behind_total c (more x dots close after) p r m e f = absurd (cc)
+behind_total c (many x close after) p r m e f = refl
+behind_total c items p r m e f = refl
+behind_total c alternatives p r m e f = absurd (cc)
+behind_total c (statements o) p r m e f = behind_statement_total c r m
+behind_total c (arms o) p r m e f = behind_arm_total c r m
+behind_total c arm_body p r m e f = behind_body_total c r m f
+behind_total c after_break p r m e f = behind_break_total c r m
+
+pub total_behind_mono : (c : Place) (q : Rest) (p : Part) (d e : ℕ) → due q ≡ Some p → fit c q ≡ true → d ≤ e → total_behind c q d ≤ total_behind c q e
+total_behind_mono c q p d e x f h =
+    let a = behind_total c q p Row.File d x f in
+    let b = behind_total c q p Row.File e x f in
+    let m = total_mono c (behind q Row.File) d e h in omega arith
+
+-- The least depth of a tree that goes on from a state.
+
+abbrev pub below : Stack → ℕ → ℕ
+below [] n = n
+below (frame c q at d ∷ S) n = below S (total_behind c q (max (parts_depth d) n))
+
+abbrev pub need : Stack → ℕ
+need [] = 0
+need (frame c q at d ∷ S) = below S (total c q (parts_depth d))
