@@ -5,3 +5,4 @@ pub mod Answer
 pub mod Examples
 pub mod Laws
 pub mod Depth
+pub mod Lower

@@ -132,7 +132,7 @@ joins_good c q d (frame c0 q0 a0 d0) S t r m g gd k (Some j) x = go (may_begin c
 good_place : (c c0 : Place) (q0 : Rest) (d0 : Held) (S : Stack) → Good (frame c0 q0 tt d0 ∷ S) → ((p : Part) × (due q0 ≡ Some p) × (place_of c0.head p ≡ c)) → good c ≡ true
 good_place c c0 q0 d0 S g (p, e, s) = ap good (sym s) ∙ good_part c0.head q0 p (here_of c0.head q0 (ok_good c0 q0 d0 S g)) e
 
-known_place : (c c0 : Place) (q0 : Rest) (d0 : Held) (S : Stack) → Good (frame c0 q0 tt d0 ∷ S) → ((p : Part) × (due q0 ≡ Some p) × (place_of c0.head p ≡ c)) → is_known places c ≡ true
+pub known_place : (c c0 : Place) (q0 : Rest) (d0 : Held) (S : Stack) → Good (frame c0 q0 tt d0 ∷ S) → ((p : Part) × (due q0 ≡ Some p) × (place_of c0.head p ≡ c)) → is_known places c ≡ true
 known_place c c0 q0 d0 S g (p, e, s) = ap (is_known places) (sym s) ∙ known_part c0.head q0 p (here_of c0.head q0 (ok_good c0 q0 d0 S g)) e
 
 -- a node that may stand there is a part of the one below
@@ -160,7 +160,7 @@ placed c c0 q0 d0 (frame c1 q1 a1 d1 ∷ S) g (p, e, s) l b = (
     x = ap (λ z. option_map (place_of c0.head) z) e ∙ ap (λ z. Some z) s
 
 -- the node is complete
-handed_on : (c : Place) (q : Rest) (d : Held) (c0 : Place) (q0 : Rest) (d0 : Held) (S : Stack) (r : Row) → made q ≡ Some r → allowed c r ≡ true
+pub handed_on : (c : Place) (q : Rest) (d : Held) (c0 : Place) (q0 : Rest) (d0 : Held) (S : Stack) (r : Row) → made q ≡ Some r → allowed c r ≡ true
     → Good (frame c q tt d ∷ frame c0 q0 tt d0 ∷ S) → Good (frame c0 (behind q0 r) tt (with_sub d0 (node tt r d)) ∷ S)
 handed_on c q d c0 q0 d0 S r m a g =
     placed c c0 q0 d0 S (node tt r d) g.1 (a, subst (λ z. Begun (seen c) r z) (and_end d) (g.0 r end m)) g.4
