@@ -1,6 +1,6 @@
 -- How deep a levelled tree is at least that goes on from a state.
-use Rattle.std.proofs.Common.{◌≡◌, ℕ, suc, ◌+◌, ◌≤◌, max, min, nat_le, Bool, true, false, ◌&&◌, ◌||◌, not, Option, Some, None, option_map, List, [], ◌∷◌, refl, sym, ap, ◌∙◌, subst, arith, if◌then◌else◌}
-use Rattle.std.proofs.lemmas.Bool.{and_parts, leb-true, leb-false, or_cases}
+use Rattle.std.proofs.Common.{◌≡◌, ℕ, suc, ◌+◌, ◌≤◌, max, min, nat_le, Bool, true, false, ◌&&◌, ◌||◌, Some, None, [], ◌∷◌, refl, sym, ap, ◌∙◌, subst, arith, if◌then◌else◌}
+use Rattle.std.proofs.lemmas.Bool.{and_parts, leb-true}
 use Rattle.src_token.specs.declared.token.Token.{Token}
 use Rattle.src_token.specs.declared.mark.Mark.{Mark}
 use Rattle.src_tree.specs.declared.row.Row.{Row}
@@ -10,12 +10,12 @@ use Rattle.src_tree.specs.declared.place.Part.{Part}
 use Rattle.src_tree.specs.declared.place.Start.{Start}
 use Rattle.src_tree.specs.declared.kind.Kind.{Kind}
 use Rattle.src_tree.specs.Grammar.{Rest, ends, token, either, part, maybe, list, more, many, items, alternatives, statements, arms, arm_body, after_break, is, comma, pattern1, allowed, place_of, counts, move, due, behind, behind_statement, behind_arm, behind_body, behind_break, made}
-use Rattle.src_tree.specs.Layout.{Node, node, Parts, end, tok, sub, row_of, parts_of, depth, parts_depth, Follows}
-use Rattle.src_tree.specs.Reading.{Frame, frame, State, with_tok, with_sub}
+use Rattle.src_tree.specs.Layout.{parts_depth}
+use Rattle.src_tree.specs.Reading.{frame}
 use Rattle.src_tree.proofs.Follow.{all_ends, is_none}
 use Rattle.src_tree.proofs.Facts.{picks, no_more}
-use Rattle.src_tree.proofs.Complete.{Tree, Held, Stack, and_parts_of}
-use Rattle.src_parse.proofs.Alive.{sample, is_sample, leaf, joinable, ender}
+use Rattle.src_tree.proofs.Complete.{Stack}
+use Rattle.src_parse.proofs.Alive.{joinable, ender}
 
 -- a node that may not stand there as it is becomes the first part of a parameter or an arm
 abbrev pub by_start : Start → ℕ → ℕ
@@ -87,14 +87,15 @@ least_pattern head _ = 1
 
 -- the least depth of a tree there
 abbrev pub least_place : Place → ℕ
-least_place c = elim c.sort
-  [ Sort.Item ↦ 1
+least_place c = elim c.sort [
+  | Sort.Item ↦ 1
   | Sort.Method ↦ 1
   | Sort.Field ↦ 1
   | Sort.Type_ ↦ 1
   | Sort.Pattern ↦ least_pattern c.head c.start
   | Sort.Expr ↦ least_expr c.start
-  | _ ↦ 0 ]
+  | _ ↦ 0
+]
 
 abbrev pub pick : Bool → Bool → ℕ → ℕ → ℕ
 pick true true x y = min x y
@@ -216,7 +217,7 @@ total_move c (either k after other) d t q1 e =
     picks (Falls c (either k after other) d) (is k t) after (move other t) q1 e
     (λ p. (or_left (poss c after) (poss c other) p, pick_first (poss c after) (poss c other) (total c after d) (total c other d) p))
     (λ f p. let h = total_move c other d t q1 f p in let m = pick_other (poss c after) (poss c other) (total c after d) (total c other d) h.0 in let n = h.1 in
-      (or_right (poss c after) (poss c other) h.0, omega arith))
+    (or_right (poss c after) (poss c other) h.0, omega arith))
 total_move c (part p after) d t q1 e = no_more _ q1 e
 total_move c (maybe p after r) d t q1 e = no_more _ q1 e
 total_move c (list p later dots close after) d t q1 e =

@@ -1,5 +1,5 @@
 -- No tree that goes on from a state is less deep than it needs.
-use Rattle.std.proofs.Common.{◌≡◌, ℕ, suc, ◌+◌, ◌≤◌, max, nat_le, Bool, true, false, ◌&&◌, ◌||◌, not, Option, Some, None, option_map, List, [], ◌∷◌, ◌++◌, refl, sym, ap, ◌∙◌, subst, arith}
+use Rattle.std.proofs.Common.{◌≡◌, ℕ, ◌+◌, ◌≤◌, max, nat_le, Bool, true, false, ◌&&◌, ◌||◌, Option, Some, None, option_map, List, [], ◌∷◌, refl, sym, ap, ◌∙◌, subst, arith}
 use Rattle.std.proofs.lemmas.Bool.{and_parts, leb-true}
 use Rattle.src_token.specs.declared.token.Token.{Token}
 use Rattle.src_tree.specs.declared.row.Row.{Row}
@@ -7,16 +7,16 @@ use Rattle.src_tree.specs.declared.place.Place.{Place}
 use Rattle.src_tree.specs.declared.place.Part.{Part}
 use Rattle.src_tree.specs.declared.place.Start.{Start}
 use Rattle.src_tree.specs.Grammar.{Rest, ends, token, either, part, maybe, list, more, many, items, alternatives, statements, arms, arm_body, after_break, seen, allowed, may_begin, place_of, counts, move, due, behind, made, Entry, entry, Joined, joined}
-use Rattle.src_tree.specs.Layout.{Node, node, Parts, end, tok, sub, row_of, parts_of, depth, parts_depth}
-use Rattle.src_tree.specs.Reading.{or_else, and_then, only_if, begin_at, opens, joins, with_tok, with_sub, Frame, frame, State, goes_on, is_joined, act, step, close_all, whole, file_place, start}
+use Rattle.src_tree.specs.Layout.{node, end, tok, sub, depth, parts_depth}
+use Rattle.src_tree.specs.Reading.{or_else, and_then, only_if, begin_at, opens, joins, with_tok, with_sub, frame, goes_on, is_joined, act, step}
 use Rattle.src_tree.proofs.Samples.{samples, rows, every, like, of_samples, of_rows}
 use Rattle.src_tree.proofs.Follow.{places, is_known, same_place, implies, all_ends}
 use Rattle.src_tree.proofs.Facts.{here_of, implied, same_places, known_part}
 use Rattle.src_tree.proofs.Alike.{entry_alike, joined_alike}
-use Rattle.src_tree.proofs.Complete.{Tree, Held, Stack, step_if, run}
+use Rattle.src_tree.proofs.Complete.{Tree, Held, Stack, run}
 use Rattle.src_parse.proofs.Alive.{everywhere, alive, leaves, way_row, at_once, and_moved, and_behind, joinable, ender}
 use Rattle.src_parse.proofs.Depth.{by_start, settle_by, settle, settle_up, possible, poss, least_place, total, total_behind, total_up, total_mono, total_move, total_made, total_heavy, total_part, behind_total, total_behind_mono, fit, below, need}
-use Rattle.src_parse.proofs.Sound.{Good, ok_good, handed_on, known_place, steps_well, acts_well, Goes, Ok, start_good}
+use Rattle.src_parse.proofs.Sound.{Good, ok_good, handed_on, known_place, steps_well, Ok}
 
 -- each join makes a parameter or an arm as deep as it has to be
 abbrev deepens : Place → ℕ → Rest → Bool
@@ -154,10 +154,11 @@ up_move : (S : Stack) (c : Place) (q : Rest) (d : Held) (t : Token) (o : Option 
 up_move S c q d t None e g f = tt
 up_move [] c q d t (Some q1) e g f = let n : None ≡ Some q1 = ap (λ z. move z t) (sym g.1) ∙ e in absurd (cc)
 up_move (frame c0 q0 a0 d0 ∷ S) c q d t (Some q1) e g f =
-    let m = total_move c q (parts_depth d) t q1 e (alive_poss c q1 (and_moved (alive c) q t q1 g.3 e)) in
-    ((and_moved (fit c) q t q1 f.0 e, f.1),
-     below_mono (frame c0 q0 a0 d0 ∷ S) c q d (total c q (parts_depth d)) (total c q1 (parts_depth (with_tok d t))) g f
-     (subst (λ z. total c q (parts_depth d) ≤ total c q1 z) (sym (depth_with_tok d t)) m.1))
+    let m = total_move c q (parts_depth d) t q1 e (alive_poss c q1 (and_moved (alive c) q t q1 g.3 e)) in (
+      (and_moved (fit c) q t q1 f.0 e, f.1),
+      below_mono (frame c0 q0 a0 d0 ∷ S) c q d (total c q (parts_depth d)) (total c q1 (parts_depth (with_tok d t))) g f
+          (subst (λ z. total c q (parts_depth d) ≤ total c q1 z) (sym (depth_with_tok d t)) m.1),
+    )
 
 fitted_top : (S : Stack) (c cg : Place) (q qg : Rest) (d dg : Held) → Fitted (frame c q tt d ∷ S) → everywhere (fit cg) qg ≡ true → Fitted (frame cg qg tt dg ∷ frame c q tt d ∷ S)
 fitted_top S c cg q qg d dg f e = (e, f)
@@ -171,10 +172,11 @@ up_entry S c q d t p e g f (Some b) x = go (may_begin (place_of c.head p) b.row)
     go false y = tt
     go true y =
         let k = known_part c.head q p (here_of c.head q (ok_good c q d S g)) e in
-        let h = entry_deep (place_of c.head p) t b k x y in
-        (fitted_top S c (place_of c.head p) q b.rest d (tok t end) f h.1,
-         below_mono S c q d (total c q (parts_depth d)) (total_behind c q (max (parts_depth d) (total (place_of c.head p) b.rest 0))) g f
-         (total_part c q p (parts_depth d) (total (place_of c.head p) b.rest 0) e (fit_of c q d S g f) h.0))
+        let h = entry_deep (place_of c.head p) t b k x y in (
+          fitted_top S c (place_of c.head p) q b.rest d (tok t end) f h.1,
+          below_mono S c q d (total c q (parts_depth d)) (total_behind c q (max (parts_depth d) (total (place_of c.head p) b.rest 0))) g f
+              (total_part c q p (parts_depth d) (total (place_of c.head p) b.rest 0) e (fit_of c q d S g f) h.0),
+        )
 
 up_open : (S : Stack) (c : Place) (q : Rest) (d : Held) (t : Token) (o : Option Part) → due q ≡ o → Good (frame c q tt d ∷ S) → Fitted (frame c q tt d ∷ S)
     → Up (frame c q tt d ∷ S) (option_map {T = Place × Rest} (λ e. frame e.0 e.1 tt (tok t end) ∷ frame c q tt d ∷ S) (and_then (option_map (place_of c.head) o) (begin_at t)))
@@ -210,7 +212,7 @@ up_hand c0 q0 d0 S c q d r m a g f =
     let w = depth_with_sub d0 (node tt r d) in
     below_mono S c0 q0 d0 (total_behind c0 q0 (max (parts_depth d0) (total c q (parts_depth d)))) (total c0 (behind q0 r) (parts_depth (with_sub d0 (node tt r d)))) g.4 f.1
     (subst (λ z. total_behind c0 q0 (max (parts_depth d0) (total c q (parts_depth d))) ≤ z) (sym e)
-      (total_behind_mono c0 q0 g.1.0 (max (parts_depth d0) (total c q (parts_depth d))) (parts_depth (with_sub d0 (node tt r d))) g.1.1 (fit_of c0 q0 d0 S g.4 f.1) (omega arith)))
+    (total_behind_mono c0 q0 g.1.0 (max (parts_depth d0) (total c q (parts_depth d))) (parts_depth (with_sub d0 (node tt r d))) g.1.1 (fit_of c0 q0 d0 S g.4 f.1) (omega arith)))
   where
     or_left : (a b : Bool) → a ≡ true → (a || b) ≡ true
     or_left true b h = refl
@@ -224,7 +226,7 @@ pub ups : (S : Stack) (c : Place) (q : Rest) (d : Held) (t : Token) → Good (fr
 ups [] c q d t g f =
     up_or (frame c q tt d ∷ []) (goes_on c q tt d [] t tt) (and_then (made q) (λ r. is_joined c tt d [] t r))
     (up_or (frame c q tt d ∷ []) (option_map (λ r. frame c r tt (with_tok d t) ∷ []) (move q t)) (option_map {T = Place × Rest} (λ e. frame e.0 e.1 tt (tok t end) ∷ frame c q tt d ∷ []) (opens c.head q t))
-      (up_move [] c q d t (move q t) refl g f) (up_open [] c q d t (due q) refl g f))
+    (up_move [] c q d t (move q t) refl g f) (up_open [] c q d t (due q) refl g f))
     (no_join (made q))
   where
     no_join : (o : Option Row) → Up (frame c q tt d ∷ []) (and_then o (λ r. is_joined c tt d [] t r))
@@ -234,7 +236,7 @@ ups (frame c0 q0 a0 d0 ∷ S) c q d t g f =
     up_or (frame c q tt d ∷ frame c0 q0 a0 d0 ∷ S) (goes_on c q tt d (frame c0 q0 a0 d0 ∷ S) t tt)
     (and_then (made q) (λ r. or_else (is_joined c tt d (frame c0 q0 a0 d0 ∷ S) t r) (only_if (allowed c r) (act S c0 (behind q0 r) tt (with_sub d0 (node tt r d)) t tt))))
     (up_or (frame c q tt d ∷ frame c0 q0 a0 d0 ∷ S) (option_map (λ r. frame c r tt (with_tok d t) ∷ frame c0 q0 a0 d0 ∷ S) (move q t)) (option_map {T = Place × Rest} (λ e. frame e.0 e.1 tt (tok t end) ∷ frame c q tt d ∷ frame c0 q0 a0 d0 ∷ S) (opens c.head q t))
-      (up_move (frame c0 q0 a0 d0 ∷ S) c q d t (move q t) refl g f) (up_open (frame c0 q0 a0 d0 ∷ S) c q d t (due q) refl g f))
+    (up_move (frame c0 q0 a0 d0 ∷ S) c q d t (move q t) refl g f) (up_open (frame c0 q0 a0 d0 ∷ S) c q d t (due q) refl g f))
     (ended (made q) refl (λ r. ups S c0 (behind q0 r) (with_sub d0 (node tt r d)) t))
   where
     handing : (r : Row) → made q ≡ Some r
