@@ -17,6 +17,8 @@ mod listings;
 #[cfg(test)]
 mod program;
 #[cfg(test)]
+mod syntax;
+#[cfg(test)]
 mod tokens;
 #[cfg(test)]
 mod trees;

@@ -1,0 +1,322 @@
+-- Which tokens may stand behind a tree, and that the grammar lets a token do one thing only: checked by computation.
+use Rattle.std.proofs.Common.{ℕ, Bool, true, false, ◌&&◌, ◌||◌, not, nat_le, nat_eq, Option, Some, None, List, [], ◌∷◌}
+use Rattle.src_token.specs.declared.token.Token.{Token}
+use Rattle.src_token.specs.declared.word.Word.{Word}
+use Rattle.src_token.specs.declared.mark.Mark.{Mark}
+use Rattle.src_tree.specs.declared.row.Row.{Row}
+use Rattle.src_tree.specs.declared.row.Sort.{Sort}
+use Rattle.src_tree.specs.declared.place.Start.{Start}
+use Rattle.src_tree.specs.declared.place.Place.{Place}
+use Rattle.src_tree.specs.declared.place.Seen.{Seen}
+use Rattle.src_tree.specs.declared.place.Part.{Part}
+use Rattle.src_tree.specs.declared.kind.Kind.{Kind}
+use Rattle.src_tree.specs.Grammar.{sort_number, seen, allowed, may_begin, place_of, Rest, ends, token, either, part, maybe, list, more, many, items, alternatives, statements, arms, arm_body, after_break, is, comma, pattern1, move, due, behind, made, Entry, entry, Joined, joined}
+use Rattle.src_tree.specs.Reading.{opens, joins}
+use Rattle.src_tree.proofs.Samples.{samples, rows, every}
+
+abbrev pub among : List Kind → Token → Bool
+among [] t = false
+among (k ∷ ks) t = is k t || among ks t
+
+abbrev pub none_of : List Kind → Token → Bool
+none_of ks t = not (among ks t)
+
+-- a token that lets an expression be whose last operand has this least level
+abbrev pub quiet : ℕ → Bool → Token → Bool
+quiet right head (Token.Mark Mark.Comma) = true
+quiet right head (Token.Mark Mark.Semi) = true
+quiet right head (Token.Mark Mark.CloseBrace) = true
+quiet right head (Token.Mark Mark.CloseBracket) = true
+quiet right head (Token.Mark Mark.CloseParenthesis) = true
+quiet right head (Token.Mark Mark.FatArrow) = true
+quiet right head (Token.Mark Mark.OpenBrace) = head
+quiet right head (Token.Mark Mark.Eq) = nat_le 2 right
+quiet right head (Token.Mark Mark.OrOr) = nat_le 3 right
+quiet right head (Token.Mark Mark.AndAnd) = nat_le 4 right
+quiet right head (Token.Mark Mark.EqEq) = nat_le 5 right
+quiet right head (Token.Mark Mark.Ne) = nat_le 5 right
+quiet right head (Token.Mark Mark.Lt) = nat_le 5 right
+quiet right head (Token.Mark Mark.Le) = nat_le 5 right
+quiet right head (Token.Mark Mark.Gt) = nat_le 5 right
+quiet right head (Token.Mark Mark.Ge) = nat_le 5 right
+quiet right head (Token.Mark Mark.Plus) = nat_le 6 right
+quiet right head (Token.Mark Mark.Minus) = nat_le 6 right
+quiet right head (Token.Mark Mark.Star) = nat_le 7 right
+quiet right head (Token.Mark Mark.Slash) = nat_le 7 right
+quiet right head (Token.Mark Mark.Percent) = nat_le 7 right
+quiet right head _ = false
+
+abbrev open_brace : Kind
+open_brace = Kind.Mark Mark.OpenBrace
+
+abbrev separators : List Kind
+separators = comma ∷ Kind.Mark Mark.CloseBrace ∷ []
+
+abbrev behind_patterns : List Kind
+behind_patterns =
+    comma ∷ Kind.Mark Mark.CloseParenthesis ∷ Kind.Mark Mark.CloseBracket ∷ Kind.Mark Mark.CloseBrace ∷ Kind.Mark Mark.FatArrow ∷ Kind.Word Word.If ∷ Kind.Mark Mark.Eq ∷ []
+
+-- it goes on with no node inside a node of this row
+abbrev pub calm : Bool → Row → Token → Bool
+calm h Row.File t = false
+calm h Row.Field t = none_of (Kind.Mark Mark.Lt ∷ []) t
+calm h Row.Variant t = among separators t
+calm h Row.NamedType t = none_of (Kind.Mark Mark.Lt ∷ []) t
+calm h Row.RefType t = none_of (Kind.Mark Mark.Lt ∷ []) t
+calm h Row.Param t = none_of (Kind.Mark Mark.Lt ∷ []) t
+calm h Row.BindPattern t = none_of (Kind.Mark Mark.PathSep ∷ Kind.Mark Mark.OpenParenthesis ∷ open_brace ∷ []) t
+calm h Row.PathPattern t = none_of (Kind.Mark Mark.PathSep ∷ Kind.Mark Mark.OpenParenthesis ∷ open_brace ∷ []) t
+calm h Row.OrPattern t = among behind_patterns t
+calm h Row.FieldPattern t = among separators t
+calm h Row.FieldInit t = among separators t
+calm h Row.If t = none_of (Kind.Word Word.Else ∷ []) t
+calm h Row.Arm t = none_of (comma ∷ []) t
+calm h Row.LastArm t = is (Kind.Mark Mark.CloseBrace) t
+calm h Row.Return t = quiet 0 h t
+calm h Row.Break t = quiet 0 h t
+calm h Row.Continue t = none_of (Kind.Label ∷ Kind.Mark Mark.Colon ∷ []) t
+calm h Row.LabelName t = none_of (Kind.Mark Mark.Colon ∷ []) t
+calm h Row.Assign t = quiet 0 h t
+calm h Row.Or t = quiet 3 h t
+calm h Row.And t = quiet 4 h t
+calm h Row.Compare t = quiet 5 h t
+calm h Row.Sum t = quiet 6 h t
+calm h Row.Product t = quiet 7 h t
+calm h Row.Prefix t = quiet 7 h t
+calm h Row.FieldAccess t = none_of (Kind.Mark Mark.OpenParenthesis ∷ []) t
+calm false Row.Path t = none_of (Kind.Mark Mark.PathSep ∷ Kind.Mark Mark.Not ∷ open_brace ∷ []) t
+calm true Row.Path t = none_of (Kind.Mark Mark.PathSep ∷ Kind.Mark Mark.Not ∷ []) t
+calm h _ t = true
+
+-- rows behind which the same may stand
+pub data Shape : Type 0 where
+  Ended Brace Braced Labelled OneArm OneLastArm Open : Shape
+
+abbrev pub shape : Row → Shape
+shape Row.Let = Ended
+shape Row.Semi = Ended
+shape Row.Empty = Ended
+shape Row.Block = Brace
+shape Row.If = Braced
+shape Row.Match = Braced
+shape Row.Loop = Braced
+shape Row.While = Braced
+shape Row.LabelName = Labelled
+shape Row.Arm = OneArm
+shape Row.LastArm = OneLastArm
+shape _ = Open
+
+abbrev pub example : Shape → Row
+example Ended = Row.Semi
+example Brace = Row.Block
+example Braced = Row.If
+example Labelled = Row.LabelName
+example OneArm = Row.Arm
+example OneLastArm = Row.LastArm
+example Open = Row.Path
+
+abbrev behind_a_statement : Shape → Token → Bool
+behind_a_statement Ended t = true
+behind_a_statement Brace t = none_of (Kind.Mark Mark.Semi ∷ Kind.Word Word.Else ∷ []) t
+behind_a_statement Braced t = none_of (Kind.Mark Mark.Semi ∷ Kind.Word Word.Else ∷ []) t
+behind_a_statement _ t = is (Kind.Mark Mark.CloseBrace) t
+
+abbrev behind_a_body : Shape → Token → Bool
+behind_a_body Brace t = true
+behind_a_body _ t = among separators t
+
+abbrev behind_a_jump : ℕ → Bool → Shape → Token → Bool
+behind_a_jump least head Labelled t = none_of (Kind.Mark Mark.Colon ∷ []) t
+behind_a_jump least head _ t = quiet least head t
+
+abbrev behind_an_arm : Shape → Token → Bool
+behind_an_arm OneArm t = none_of (comma ∷ []) t
+behind_an_arm _ t = is (Kind.Mark Mark.CloseBrace) t
+
+abbrev behind_an_expr : Place → Start → Shape → Token → Bool
+behind_an_expr c Start.Statement y t = behind_a_statement y t
+behind_an_expr c Start.NextStatement y t = behind_a_statement y t
+behind_an_expr c Start.ArmBody y t = behind_a_body y t
+behind_an_expr c Start.OnlyBlock y t = true
+behind_an_expr c Start.BlockOrIf y t = none_of (Kind.Word Word.Else ∷ []) t
+behind_an_expr c Start.Jump y t = behind_a_jump c.least c.head y t
+behind_an_expr c Start.JumpInHead y t = behind_a_jump c.least c.head y t
+behind_an_expr c _ y t = quiet c.least c.head t
+
+abbrev behind_a_pattern : Place → Start → Shape → Token → Bool
+behind_a_pattern c Start.IsArm y t = behind_an_arm y t
+behind_a_pattern c Start.IsParam y t = among (comma ∷ Kind.Mark Mark.CloseParenthesis ∷ Kind.Mark Mark.Or ∷ []) t
+behind_a_pattern c _ y t =
+    among behind_patterns t || (nat_le 1 c.least && among (Kind.Mark Mark.Or ∷ Kind.Mark Mark.Colon ∷ Kind.Mark Mark.Semi ∷ []) t)
+
+-- it may stand behind a tree there
+abbrev pub follow : Place → Shape → Token → Bool
+follow c y t = elim c.sort [
+  | Sort.File ↦ false
+  | Sort.Item ↦ true
+  | Sort.Method ↦ true
+  | Sort.Head ↦ true
+  | Sort.Field ↦ among separators t
+  | Sort.Variant ↦ among separators t
+  | Sort.Name ↦ true
+  | Sort.Type_ ↦ none_of (Kind.Mark Mark.Lt ∷ []) t
+  | Sort.Pattern ↦ behind_a_pattern c c.start y t
+  | Sort.FieldPattern ↦ among separators t
+  | Sort.Expr ↦ behind_an_expr c c.start y t
+  | Sort.FieldInit ↦ among separators t
+  | Sort.Label ↦ none_of (Kind.Mark Mark.Colon ∷ []) t
+]
+
+abbrev pub implies : Bool → Bool → Bool
+implies a b = not a || b
+
+abbrev pub is_none : {X : Type 0} → Option X → Bool
+is_none None = true
+is_none (Some x) = false
+
+-- it does nothing there, and it does something there or lets what ends there be
+abbrev pub idle : Bool → Rest → Token → Bool
+idle h q t = is_none (move q t) && is_none (opens h q t)
+
+abbrev pub calm_at : Bool → Option Row → Token → Bool
+calm_at h None t = false
+calm_at h (Some x) t = calm h x t
+
+abbrev pub acts : Bool → Rest → Token → Bool
+acts h q t = not (idle h q t) || calm_at h (made q) t
+
+abbrev pub shapes : List Shape
+shapes = Ended ∷ Brace ∷ Braced ∷ Labelled ∷ OneArm ∷ OneLastArm ∷ Open ∷ []
+
+-- Places where a part may stand.
+
+abbrev in_place : Sort → ℕ → Bool → Start → Place
+in_place s n h b = record { sort = s; least = n; head = h; start = b }
+
+abbrev pub places : List Place
+places =
+    in_place Sort.Item 0 false Start.Anything ∷ in_place Sort.Method 0 false Start.Anything ∷ in_place Sort.Head 0 false Start.Anything ∷ in_place Sort.Field 0 false Start.Anything
+    ∷ in_place Sort.Variant 0 false Start.Anything ∷ in_place Sort.Name 0 false Start.Anything ∷ in_place Sort.Type_ 0 false Start.Anything ∷ in_place Sort.Pattern 0 false Start.Anything
+    ∷ in_place Sort.Pattern 1 false Start.Anything ∷ in_place Sort.Pattern 1 false Start.IsParam ∷ in_place Sort.Pattern 1 true Start.IsParam ∷ in_place Sort.Pattern 0 false Start.IsArm
+    ∷ in_place Sort.FieldPattern 0 false Start.Anything ∷ in_place Sort.FieldInit 0 false Start.Anything ∷ in_place Sort.Label 0 false Start.OnlyLabel
+    ∷ in_place Sort.Expr 0 false Start.Anything ∷ in_place Sort.Expr 0 true Start.Anything ∷ in_place Sort.Expr 0 false Start.Statement ∷ in_place Sort.Expr 0 false Start.NextStatement
+    ∷ in_place Sort.Expr 0 false Start.ArmBody ∷ in_place Sort.Expr 0 true Start.NotBlock ∷ in_place Sort.Expr 0 false Start.Jump ∷ in_place Sort.Expr 0 true Start.JumpInHead
+    ∷ in_place Sort.Expr 0 false Start.OnlyBlock ∷ in_place Sort.Expr 0 false Start.BlockOrIf
+    ∷ in_place Sort.Expr 3 false Start.Anything ∷ in_place Sort.Expr 4 false Start.Anything ∷ in_place Sort.Expr 5 false Start.Anything ∷ in_place Sort.Expr 6 false Start.Anything
+    ∷ in_place Sort.Expr 7 false Start.Anything ∷ in_place Sort.Expr 3 true Start.Anything ∷ in_place Sort.Expr 4 true Start.Anything ∷ in_place Sort.Expr 5 true Start.Anything
+    ∷ in_place Sort.Expr 6 true Start.Anything ∷ in_place Sort.Expr 7 true Start.Anything ∷ []
+
+abbrev pub start_number : Start → ℕ
+start_number Start.Anything = 0
+start_number Start.Statement = 1
+start_number Start.NextStatement = 2
+start_number Start.Value = 3
+start_number Start.NotBlocklike = 4
+start_number Start.ArmBody = 5
+start_number Start.NotBlock = 6
+start_number Start.Jump = 7
+start_number Start.JumpInHead = 8
+start_number Start.OnlyBlock = 9
+start_number Start.BlockOrIf = 10
+start_number Start.OnlyLabel = 11
+start_number Start.IsArm = 12
+start_number Start.IsParam = 13
+
+abbrev pub same_bool : Bool → Bool → Bool
+same_bool true b = b
+same_bool false b = not b
+
+abbrev pub same_place : Place → Place → Bool
+same_place c d =
+    nat_eq (sort_number c.sort) (sort_number d.sort) && (nat_eq c.least d.least && (same_bool c.head d.head && nat_eq (start_number c.start) (start_number d.start)))
+
+abbrev pub is_known : List Place → Place → Bool
+is_known [] c = false
+is_known (d ∷ ds) c = same_place d c || is_known ds c
+
+-- One rest: what ends there is left alone by a calm token; a token that begins a part goes on with nothing else; and
+-- what follows the part may stand behind it.
+
+abbrev pub ends_well : Bool → Rest → Bool
+ends_well h q = every (λ t. implies (calm_at h (made q) t) (idle h q t)) samples
+
+abbrev pub part_well : Bool → Rest → Part → Bool
+part_well h q p =
+    is_known places (place_of h p)
+    && (every (λ t. implies (not (is_none (opens h q t))) (is_none (move q t))) samples
+    && every (λ y. every (λ t. implies (acts h (behind q (example y)) t) (follow (place_of h p) y t)) samples) shapes)
+
+abbrev pub parts_well : Bool → Rest → Option Part → Bool
+parts_well h q None = true
+parts_well h q (Some p) = part_well h q p
+
+abbrev pub here : Bool → Rest → Bool
+here h q = ends_well h q && parts_well h q (due q)
+
+-- a rest and all that comes of it
+abbrev pub ok : Bool → Rest → Bool
+ok h (ends r) = true
+ok h (token k after) = ok h after
+ok h (either k after other) = here h (either k after other) && (ok h after && ok h other)
+ok h (part p after) = here h (part p after) && ok h after
+ok h (maybe p after r) = here h (maybe p after r) && ok h after
+ok h (list p later dots close after) =
+    here h (list p later dots close after) && (here h (more later dots close after) && (here h (list later later dots close after) && ok h after))
+ok h (more p dots close after) = here h (more p dots close after) && (here h (list p p dots close after) && ok h after)
+ok h (many p close after) = here h (many p close after) && ok h after
+ok h items = here h items
+ok h alternatives = here h alternatives && here h (part pattern1 alternatives)
+ok h (statements o) = here h (statements false) && here h (statements true)
+ok h (arms s) = here h (arms false) && here h (arms true)
+ok h arm_body = here h arm_body && (here h (either comma (ends Row.Arm) (ends Row.Arm)) && here h (either comma (ends Row.Arm) (ends Row.LastArm)))
+ok h after_break = here h after_break && here h (maybe Part.AfterReturn (ends Row.Break) Row.Break)
+
+-- all rows that it may end as
+abbrev pub all_ends : (Row → Bool) → Rest → Bool
+all_ends f (ends r) = f r
+all_ends f (token k after) = all_ends f after
+all_ends f (either k after other) = all_ends f after && all_ends f other
+all_ends f (part p after) = all_ends f after
+all_ends f (maybe p after r) = f r && all_ends f after
+all_ends f (list p later dots close after) = all_ends f after
+all_ends f (more p dots close after) = all_ends f after
+all_ends f (many p close after) = all_ends f after
+all_ends f items = f Row.File
+all_ends f alternatives = f Row.OrPattern
+all_ends f (statements o) = f Row.Block
+all_ends f (arms s) = f Row.Match
+all_ends f arm_body = f Row.Arm && f Row.LastArm
+all_ends f after_break = f Row.Break
+
+-- One place: what may stand behind a tree there lets its inside be, and joins it to nothing; a token that joins it to
+-- something lets its inside be; and a row that begins there may begin by its first name.
+
+abbrev pub stands : Place → Row → Token → Bool
+stands c y t = implies (allowed c y && follow c (shape y) t) (calm c.head y t && is_none (joins c y t))
+
+abbrev pub same_seen : Seen → Seen → Bool
+same_seen a b = nat_eq (sort_number a.sort) (sort_number b.sort) && (same_bool a.head b.head && nat_eq (start_number a.start) (start_number b.start))
+
+abbrev pub joins_well : Place → Token → Option Joined → Bool
+joins_well c t None = true
+joins_well c t (Some j) =
+    implies (may_begin c j.row)
+    (same_seen (seen j.place) (seen c) && every (λ y. implies (allowed j.place y) (may_begin c y && calm c.head y t)) rows)
+    && all_ends (λ x. implies (may_begin c x) (may_begin c j.row)) j.rest
+
+abbrev pub begins_well : Place → Option Entry → Bool
+begins_well c None = true
+begins_well c (Some e) = all_ends (λ x. implies (may_begin c x) (may_begin c e.row)) e.rest
+
+abbrev pub good : Place → Bool
+good c =
+    every (λ y. every (stands c y) samples) rows
+    && every (λ t. joins_well c t (joined (seen c) t) && begins_well c (entry (seen c) t)) samples
+
+abbrev pub entry_ok : Bool → Option Entry → Bool
+entry_ok h None = true
+entry_ok h (Some e) = ok h e.rest
+
+abbrev pub joined_ok : Bool → Option Joined → Bool
+joined_ok h None = true
+joined_ok h (Some j) = ok h j.rest

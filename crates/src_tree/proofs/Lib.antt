@@ -1,0 +1,11 @@
+pub mod Samples
+pub mod Follow
+pub mod Alike
+pub mod Checked
+pub mod Facts
+pub mod Complete
+pub mod Places
+pub mod Spells
+pub mod Tables
+pub mod Texts
+pub mod Named

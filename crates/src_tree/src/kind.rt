@@ -1,0 +1,16 @@
+use src_token::{Mark, Word};
+
+/// A kind of token that a row names.
+#[derive(Clone, Copy, Debug, PartialEq, Eq)]
+pub enum Kind {
+    Mark(Mark),
+    Word(Word),
+    Name,
+    Number,
+    /// A number without a type.
+    Digits,
+    Label,
+    Text,
+    /// The name `derive`.
+    Derive,
+}

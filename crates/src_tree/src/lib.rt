@@ -1,0 +1,26 @@
+//! The syntax tree of a text: nodes of the rows of the grammar, each with its parts and the place of its first
+//! token; how a tree is spelled, and which trees are levelled.
+#![tactic(auto)]
+
+mod beginnings;
+mod grammar;
+mod kind;
+mod law;
+mod nesting;
+mod node;
+mod place;
+mod points;
+mod row;
+mod spelling;
+mod table;
+pub use beginnings::{entry, joined};
+pub use grammar::{allowed, is, may_begin, place_of, seen};
+pub use kind::Kind;
+pub use law::law_of_spelling;
+pub use nesting::{counts, depth};
+pub use node::{Node, Piece, Tree};
+pub use place::{Part, Place, Seen, Start};
+pub use points::{advance, behind, due, made};
+pub use row::{Row, Sort};
+pub use spelling::{copy_token, spell};
+pub use table::{Begun, Point, Step};
