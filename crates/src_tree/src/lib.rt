@@ -13,6 +13,7 @@ mod points;
 mod row;
 mod spelling;
 mod table;
+
 pub use beginnings::{entry, joined};
 pub use grammar::{allowed, is, may_begin, place_of, seen};
 pub use kind::Kind;
