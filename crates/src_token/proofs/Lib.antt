@@ -5,6 +5,7 @@ pub mod Comments
 pub mod Cuttings
 pub mod Described
 pub mod FirstCharacters
+pub mod Keywords
 pub mod Lexing
 pub mod Longest
 pub mod Runs

@@ -122,7 +122,19 @@ pub fn spells(text: &str, piece: &[char]) -> bool
 pub fn keyword(piece: &[char]) -> Option<Word>
     ensures { result ≡ keyword_of piece.now }
 {
-    keyword_in(&KEYWORDS, piece)
+    if piece.len() > 8 {
+        return None;
+    }
+    match piece.len() {
+        0 | 1 => None,
+        2 => keyword_in(&KEYWORDS[0..5], piece),
+        3 => keyword_in(&KEYWORDS[5..16], piece),
+        4 => keyword_in(&KEYWORDS[16..26], piece),
+        5 => keyword_in(&KEYWORDS[26..40], piece),
+        6 => keyword_in(&KEYWORDS[40..47], piece),
+        7 => keyword_in(&KEYWORDS[47..49], piece),
+        _ => keyword_in(&KEYWORDS[49..52], piece),
+    }
 }
 
 fn keyword_in(table: &[(&str, Word)], piece: &[char]) -> Option<Word>
