@@ -31,7 +31,8 @@ drop_text (Some body) = codes " drop " ++ decimal body
 -- a struct has one variant
 abbrev pub shape_text : ItemTable → Bool → Adt → List ℕ
 shape_text items true adt = codes "enum " ++ adt.name ++ codes " " ++ in_braces (map (variant_text items) adt.variants)
-shape_text items false adt = codes "struct " ++ adt.name ++ codes " " ++ types_text items (fields_of (slice_get adt.variants 0))
+shape_text items false adt =
+    codes "struct " ++ adt.name ++ codes " " ++ types_text items (fields_of (slice_get adt.variants 0))
 
 abbrev pub adt_line : ItemTable → Adt → List ℕ
 adt_line items adt = line (shape_text items adt.is_enum adt ++ copy_text adt.copy ++ drop_text adt.drop_body)
@@ -44,10 +45,12 @@ trait_line items def = line (codes "trait " ++ def.name ++ codes " " ++ in_brace
 
 abbrev pub impl_line : ItemTable → ImplDef → List ℕ
 impl_line items def =
-    line (codes "impl " ++ trait_name items def.trait_no ++ codes " for " ++ adt_name items def.adt ++ flat_map (λ body. codes " " ++ decimal body) def.bodies)
+    line (codes "impl " ++ trait_name items def.trait_no ++ codes " for " ++ adt_name items def.adt ++
+    flat_map (λ body. codes " " ++ decimal body) def.bodies)
 
 abbrev pub closure_line : ItemTable → ℕ → ClosureDef → List ℕ
-closure_line items n def = line (codes "closure " ++ decimal n ++ codes " " ++ types_text items def.captures ++ codes " " ++ decimal def.body)
+closure_line items n def =
+    line (codes "closure " ++ decimal n ++ codes " " ++ types_text items def.captures ++ codes " " ++ decimal def.body)
 
 -- things that are counted from a number on, one after the other
 abbrev pub counted : {X : Type 0} → (ℕ → X → List ℕ) → ℕ → List X → List ℕ
@@ -56,5 +59,6 @@ counted text n (x ∷ xs) = text n x ++ counted text (suc n) xs
 
 abbrev pub items_text : ItemTable → List ℕ
 items_text items =
-    flat_map (adt_line items) items.adts ++ flat_map (trait_line items) items.traits ++ flat_map (impl_line items) items.impls
+    flat_map (adt_line items) items.adts ++ flat_map (trait_line items) items.traits ++
+    flat_map (impl_line items) items.impls
     ++ counted (closure_line items) 0 items.closures

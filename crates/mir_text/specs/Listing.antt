@@ -24,19 +24,23 @@ local_line items n id = line (codes "local " ++ decimal n ++ codes " " ++ type_t
 -- the lines of a body and of its locals
 abbrev pub body_text : ItemTable → ℕ → ℕ → List TyId → List ℕ
 body_text items body params locals =
-    line (codes "body " ++ decimal body ++ codes " " ++ body_name items body ++ codes " " ++ decimal params) ++ counted (local_line items) 0 locals
+    line (codes "body " ++ decimal body ++ codes " " ++ body_name items body ++ codes " " ++ decimal params) ++
+    counted (local_line items) 0 locals
 
 abbrev pub block_line : ℕ → Block → List ℕ
-block_line n block = line (codes "block " ++ decimal n ++ codes " " ++ kind_word block.kind ++ codes " rank " ++ decimal block.rank)
+block_line n block =
+    line (codes "block " ++ decimal n ++ codes " " ++ kind_word block.kind ++ codes " rank " ++ decimal block.rank)
 
 abbrev pub block_text : ItemTable → ℕ → Block → List ℕ
-block_text items n block = block_line n block ++ flat_map (λ stmt. line (stmt_text items stmt)) block.stmts ++ line (term_text items block.term)
+block_text items n block = block_line n block ++ flat_map (λ stmt. line (stmt_text items stmt)) block.stmts ++
+    line (term_text items block.term)
 
 abbrev pub whole_body_text : ItemTable → ℕ → Body → List ℕ
 whole_body_text items n body = body_text items n body.params body.locals ++ counted (block_text items) 0 body.blocks
 
 abbrev pub listing : Graph → List ℕ
-listing graph = line (codes "mirdrop 1") ++ items_text graph.items ++ counted (whole_body_text graph.items) 0 graph.bodies ++ line (codes "end")
+listing graph = line (codes "mirdrop 1") ++ items_text graph.items ++
+    counted (whole_body_text graph.items) 0 graph.bodies ++ line (codes "end")
 
 -- the lists of a graph have fewer members than a number of 32 bits can count
 pub record IsShortBody (body : Body) : Type 0 where

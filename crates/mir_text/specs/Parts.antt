@@ -60,15 +60,19 @@ borrow_text false = codes " = & "
 abbrev pub stmt_text : ItemTable → Stmt → List ℕ
 stmt_text items (Stmt.Put to from) = place_text to ++ codes " = " ++ operand_text from
 stmt_text items (Stmt.Compare to op left right) =
-    place_text to ++ codes " = " ++ comparison_text op ++ codes " " ++ operand_text left ++ codes " " ++ operand_text right
+    place_text to ++ codes " = " ++ comparison_text op ++ codes " " ++ operand_text left ++ codes " " ++
+    operand_text right
 stmt_text items (Stmt.Not to operand) = place_text to ++ codes " = not " ++ operand_text operand
 stmt_text items (Stmt.Tuple to parts) = place_text to ++ codes " = tuple " ++ operands_text parts
 stmt_text items (Stmt.Array to parts) = place_text to ++ codes " = array " ++ operands_text parts
 stmt_text items (Stmt.Make to adt variant parts) =
-    place_text to ++ codes " = make " ++ adt_name items adt ++ codes " " ++ decimal variant ++ codes " " ++ operands_text parts
-stmt_text items (Stmt.Close to closure parts) = place_text to ++ codes " = close " ++ decimal closure ++ codes " " ++ operands_text parts
+    place_text to ++ codes " = make " ++ adt_name items adt ++ codes " " ++ decimal variant ++ codes " " ++
+    operands_text parts
+stmt_text items (Stmt.Close to closure parts) =
+    place_text to ++ codes " = close " ++ decimal closure ++ codes " " ++ operands_text parts
 stmt_text items (Stmt.NewBox to operand) = place_text to ++ codes " = box " ++ operand_text operand
-stmt_text items (Stmt.Unsize to trait_no from) = place_text to ++ codes " = unsize " ++ trait_name items trait_no ++ codes " " ++ operand_text from
+stmt_text items (Stmt.Unsize to trait_no from) =
+    place_text to ++ codes " = unsize " ++ trait_name items trait_no ++ codes " " ++ operand_text from
 stmt_text items (Stmt.Borrow to unique of) = place_text to ++ borrow_text unique ++ place_text of
 stmt_text items (Stmt.Touch place) = codes "touch " ++ place_text place
 stmt_text items (Stmt.Print operand) = codes "print " ++ operand_text operand
@@ -86,17 +90,23 @@ ways_text next unwind = codes " then " ++ decimal next ++ codes " unwind " ++ un
 
 abbrev pub term_text : ItemTable → Term → List ℕ
 term_text items (Term.Goto block) = codes "goto " ++ decimal block
-term_text items (Term.If on if_true if_false) = codes "if " ++ operand_text on ++ codes " " ++ decimal if_true ++ codes " " ++ decimal if_false
+term_text items (Term.If on if_true if_false) =
+    codes "if " ++ operand_text on ++ codes " " ++ decimal if_true ++ codes " " ++ decimal if_false
 term_text items (Term.Case on variant if_true if_false) =
-    codes "case " ++ place_text on ++ codes " " ++ decimal variant ++ codes " " ++ decimal if_true ++ codes " " ++ decimal if_false
+    codes "case " ++ place_text on ++ codes " " ++ decimal variant ++ codes " " ++ decimal if_true ++ codes " " ++
+    decimal if_false
 term_text items (Term.Math to op left right next unwind) =
-    place_text to ++ codes " = " ++ math_text op ++ codes " " ++ operand_text left ++ codes " " ++ operand_text right ++ ways_text next unwind
-term_text items (Term.Negate to of next unwind) = place_text to ++ codes " = neg " ++ operand_text of ++ ways_text next unwind
-term_text items (Term.Bounds index count next unwind) = codes "bounds " ++ operand_text index ++ codes " " ++ decimal count ++ ways_text next unwind
+    place_text to ++ codes " = " ++ math_text op ++ codes " " ++ operand_text left ++ codes " " ++
+    operand_text right ++ ways_text next unwind
+term_text items (Term.Negate to of next unwind) =
+    place_text to ++ codes " = neg " ++ operand_text of ++ ways_text next unwind
+term_text items (Term.Bounds index count next unwind) =
+    codes "bounds " ++ operand_text index ++ codes " " ++ decimal count ++ ways_text next unwind
 term_text items (Term.Call to body args next unwind) =
     place_text to ++ codes " = call " ++ decimal body ++ codes " " ++ operands_text args ++ ways_text next unwind
 term_text items (Term.Virtual to trait_no method args next unwind) =
-    place_text to ++ codes " = virtual " ++ trait_name items trait_no ++ codes " " ++ decimal method ++ codes " " ++ operands_text args ++ ways_text next unwind
+    place_text to ++ codes " = virtual " ++ trait_name items trait_no ++ codes " " ++ decimal method ++ codes " " ++
+    operands_text args ++ ways_text next unwind
 term_text items (Term.Ask to next unwind) = place_text to ++ codes " = ask" ++ ways_text next unwind
 term_text items (Term.DropAt place next unwind) = codes "drop " ++ place_text place ++ ways_text next unwind
 term_text items (Term.Panic why unwind) = codes "panic " ++ why_word why ++ codes " unwind " ++ unwind_text unwind

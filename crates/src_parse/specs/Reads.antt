@@ -30,4 +30,5 @@ abbrev pub ReadsBeginnings : Type 0
 ReadsBeginnings = (ts : List Token) → (is_some (state_behind ts) ≡ true) ↔ Begins ts
 
 abbrev pub ReadsTrees : Type 0
-ReadsTrees = (ts : List Token) (g : Items) → (and_then (state_behind ts) (λ s. whole s) ≡ Some (node tt Row.File g)) ↔ IsItems ts g
+ReadsTrees = (ts : List Token) (g : Items) → (and_then (state_behind ts) (λ s. whole s) ≡ Some (node tt Row.File g)) ↔
+    IsItems ts g

@@ -18,4 +18,5 @@ is_at_mark (c ∷ d ∷ cs) = opens c d || closes c d
 pub data EndsComment : List ℕ → Type 0 where
   at_once : EndsComment (byte "*" ∷ byte "/" ∷ [])
   past : (c : ℕ) (cs : List ℕ) → is_at_mark (c ∷ cs) ≡ false → EndsComment cs → EndsComment (c ∷ cs)
-  past_inner : (inner cs : List ℕ) → EndsComment inner → EndsComment cs → EndsComment (byte "/" ∷ byte "*" ∷ (inner ++ cs))
+  past_inner : (inner cs : List ℕ) → EndsComment inner → EndsComment cs →
+      EndsComment (byte "/" ∷ byte "*" ∷ (inner ++ cs))

@@ -11,7 +11,8 @@ cursor_after before = record { at = place_after before; bytes = length (encode_u
 
 -- the place of what follows a character at a place
 abbrev pub place_past : Pos → ℕ → Pos
-place_past at c = if is_line_feed c then record { line = at.line + 1; col = 1 } else record { line = at.line; col = at.col + 1 }
+place_past at c =
+    if is_line_feed c then record { line = at.line + 1; col = 1 } else record { line = at.line; col = at.col + 1 }
 
 abbrev pub past_char : Cursor → ℕ → Cursor
 past_char cursor c = record { at = place_past cursor.at c; bytes = cursor.bytes + len_utf8 c }

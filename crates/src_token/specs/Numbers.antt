@@ -40,4 +40,5 @@ number_of (Some value) (Some suffix) = Reading.Reads (Token.Number value suffix)
 
 -- what a run that begins by a digit is
 unfoldable pub number_reading : List ℕ → Reading
-number_reading run = number_of (limited (numeral_value (take_while is_numeral run))) (suffix_of (drop (prefix_len is_numeral run) run))
+number_reading run =
+    number_of (limited (numeral_value (take_while is_numeral run))) (suffix_of (drop (prefix_len is_numeral run) run))

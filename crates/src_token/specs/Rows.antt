@@ -42,11 +42,15 @@ pub data Row : List ℕ → Reading → Type 0 where
   comment : (inside : List ℕ) → EndsComment inside → Row (byte "/" ∷ byte "*" ∷ inside) Skipped
   open_comment : Row (byte "/" ∷ byte "*" ∷ []) (Fails Fault.OpenComment 0)
   slash : Row (byte "/" ∷ []) (Reads (Token.Mark Mark.Slash))
-  mark : (c : ℕ) (cs : List ℕ) (m : Mark) → beginning_of c ≡ Beginning.Sign → mark_of (c ∷ cs) ≡ Some m → Row (c ∷ cs) (Reads (Token.Mark m))
-  word : (c : ℕ) (cs : List ℕ) → beginning_of c ≡ Beginning.Letter → IsTrue (list_all is_xid_continue cs) → Row (c ∷ cs) (Reads (word_token (c ∷ cs)))
-  number : (c : ℕ) (cs : List ℕ) → beginning_of c ≡ Beginning.Digit → IsTrue (list_all is_xid_continue cs) → Row (c ∷ cs) (number_reading (c ∷ cs))
+  mark : (c : ℕ) (cs : List ℕ) (m : Mark) → beginning_of c ≡ Beginning.Sign → mark_of (c ∷ cs) ≡ Some m →
+      Row (c ∷ cs) (Reads (Token.Mark m))
+  word : (c : ℕ) (cs : List ℕ) → beginning_of c ≡ Beginning.Letter → IsTrue (list_all is_xid_continue cs) →
+      Row (c ∷ cs) (Reads (word_token (c ∷ cs)))
+  number : (c : ℕ) (cs : List ℕ) → beginning_of c ≡ Beginning.Digit → IsTrue (list_all is_xid_continue cs) →
+      Row (c ∷ cs) (number_reading (c ∷ cs))
   label : (cs : List ℕ) → IsTrue (is_identifier cs) → Row (byte "'" ∷ cs) (Reads (Token.Label (encode_utf8_all cs)))
   no_label : Row (byte "'" ∷ []) (Fails Fault.BadChar 0)
-  text : (inside : List ℕ) → IsTrue (list_all is_inside_text inside) → Row (quote ∷ (inside ++ quote ∷ [])) (text_reading inside)
+  text : (inside : List ℕ) → IsTrue (list_all is_inside_text inside) →
+      Row (quote ∷ (inside ++ quote ∷ [])) (text_reading inside)
   open_text : Row (quote ∷ []) (Fails Fault.OpenText 0)
   other : (c : ℕ) → beginning_of c ≡ Beginning.Other → Row (c ∷ []) (Fails Fault.BadChar 0)

@@ -36,14 +36,16 @@ label_if true name length = piece length (Reads (Token.Label (encode_utf8_all na
 label_if false name length = piece 1 (Fails Fault.BadChar 0)
 
 abbrev pub label_piece : List ℕ → Piece
-label_piece rest = let name = take (run_length rest) (drop 1 rest) in label_if (is_identifier name) name (1 + run_length rest)
+label_piece rest =
+    let name = take (run_length rest) (drop 1 rest) in label_if (is_identifier name) name (1 + run_length rest)
 
 abbrev pub text_length : List ℕ → ℕ
 text_length rest = prefix_len is_inside_text (drop 1 rest)
 
 abbrev pub text_piece : List ℕ → Piece
 text_piece rest =
-    if slice_index rest (1 + text_length rest) == 34 then piece (2 + text_length rest) (text_reading (take (text_length rest) (drop 1 rest)))
+    if slice_index rest (1 + text_length rest) == 34 then piece (2 + text_length rest)
+    (text_reading (take (text_length rest) (drop 1 rest)))
     else piece 1 (Fails Fault.OpenText 0)
 
 -- one of two more comments is closed: the outermost one, or another

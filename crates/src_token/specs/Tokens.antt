@@ -21,7 +21,8 @@ pub record Cut : Type 0 where
 pub record Begins (text : List ℕ) (cut : Cut) (rest : List ℕ) : Type 0 where
   pub joined : text ≡ cut.piece ++ rest
   pub described : Row cut.piece cut.reading
-  pub longest : (longer others : List ℕ) (reading : Reading) → text ≡ longer ++ others → Row longer reading → length longer ≤ length cut.piece
+  pub longest : (longer others : List ℕ) (reading : Reading) → text ≡ longer ++ others → Row longer reading →
+      length longer ≤ length cut.piece
 
 -- the pieces of a text, in their order
 abbrev pub Cutting : List ℕ → List Cut → Type 0

@@ -454,11 +454,13 @@ types after = listed a_type (Kind.Mark Mark.CloseParenthesis) after
 
 abbrev pub struct_rest : Rest
 struct_rest =
-    part a_name (if_mark Mark.Semi (ends Row.Struct) (if_mark Mark.OpenParenthesis (types (mark Mark.Semi (ends Row.Struct)))
+    part a_name (if_mark Mark.Semi (ends Row.Struct)
+    (if_mark Mark.OpenParenthesis (types (mark Mark.Semi (ends Row.Struct)))
     (mark Mark.OpenBrace (fields (ends Row.Struct)))))
 
 abbrev pub enum_rest : Rest
-enum_rest = part a_name (mark Mark.OpenBrace (listed (of_sort Sort.Variant) (Kind.Mark Mark.CloseBrace) (ends Row.Enum)))
+enum_rest =
+    part a_name (mark Mark.OpenBrace (listed (of_sort Sort.Variant) (Kind.Mark Mark.CloseBrace) (ends Row.Enum)))
 
 abbrev pub derived : Rest
 derived =
@@ -478,7 +480,8 @@ abbrev pub item : Token → Option Entry
 item (Token.Mark Mark.Pound) = by_row Row.Struct derived
 item (Token.Word Word.Struct) = by_row Row.Struct struct_rest
 item (Token.Word Word.Enum) = by_row Row.Enum enum_rest
-item (Token.Word Word.Trait) = by_row Row.Trait (part a_name (mark Mark.OpenBrace (many (of_sort Sort.Head) (Kind.Mark Mark.CloseBrace) (ends Row.Trait))))
+item (Token.Word Word.Trait) = by_row Row.Trait
+    (part a_name (mark Mark.OpenBrace (many (of_sort Sort.Head) (Kind.Mark Mark.CloseBrace) (ends Row.Trait))))
 item (Token.Word Word.Impl) = by_row Row.Impl (part a_name (if_word Word.For (part a_name impl_rest) impl_rest))
 item (Token.Word Word.Fn) = by_row Row.Fn (head_rest false (part block (ends Row.Fn)))
 item _ = None
@@ -497,7 +500,8 @@ named_field _ = None
 
 abbrev pub variant : Token → Option Entry
 variant (Token.Name n) =
-    by_row Row.Variant (if_mark Mark.OpenParenthesis (types (ends Row.Variant)) (if_mark Mark.OpenBrace (fields (ends Row.Variant)) (ends Row.Variant)))
+    by_row Row.Variant (if_mark Mark.OpenParenthesis (types (ends Row.Variant))
+    (if_mark Mark.OpenBrace (fields (ends Row.Variant)) (ends Row.Variant)))
 variant _ = None
 
 abbrev pub name : Token → Option Entry
@@ -512,12 +516,17 @@ label _ = None
 
 abbrev pub type_ : Token → Option Entry
 type_ (Token.Name n) =
-    by_row Row.NamedType (if_mark Mark.Lt (if_word Word.Dyn (part a_name (mark Mark.Gt (ends Row.DynType))) (part a_type (mark Mark.Gt (ends Row.GenericType)))) (ends Row.NamedType))
+    by_row Row.NamedType (if_mark Mark.Lt
+    (if_word Word.Dyn (part a_name (mark Mark.Gt (ends Row.DynType)))
+    (part a_type (mark Mark.Gt (ends Row.GenericType)))) (ends Row.NamedType))
 type_ (Token.Word Word.SelfType) = by_row Row.SelfType (ends Row.SelfType)
 type_ (Token.Mark Mark.OpenParenthesis) = by_row Row.TupleType (types (ends Row.TupleType))
-type_ (Token.Mark Mark.OpenBracket) = by_row Row.ArrayType (part a_type (mark Mark.Semi (token Kind.Number (mark Mark.CloseBracket (ends Row.ArrayType)))))
+type_ (Token.Mark Mark.OpenBracket) =
+    by_row Row.ArrayType (part a_type (mark Mark.Semi
+    (token Kind.Number (mark Mark.CloseBracket (ends Row.ArrayType)))))
 type_ (Token.Mark Mark.Not) = by_row Row.NeverType (ends Row.NeverType)
-type_ (Token.Mark Mark.And) = by_row Row.RefType (if_word Word.Mut (part a_type (ends Row.RefType)) (part a_type (ends Row.RefType)))
+type_ (Token.Mark Mark.And) =
+    by_row Row.RefType (if_word Word.Mut (part a_type (ends Row.RefType)) (part a_type (ends Row.RefType)))
 type_ _ = None
 
 -- Patterns.
@@ -529,7 +538,8 @@ patterns close after = list a_pattern a_pattern true close after
 abbrev pub behind_path : Row → Rest
 behind_path r =
     if_mark Mark.OpenParenthesis (patterns (Kind.Mark Mark.CloseParenthesis) (ends Row.CallPattern))
-    (if_mark Mark.OpenBrace (list (of_sort Sort.FieldPattern) (of_sort Sort.FieldPattern) true (Kind.Mark Mark.CloseBrace) (ends Row.StructPattern)) (ends r))
+    (if_mark Mark.OpenBrace (list (of_sort Sort.FieldPattern) (of_sort Sort.FieldPattern) true
+    (Kind.Mark Mark.CloseBrace) (ends Row.StructPattern)) (ends r))
 
 abbrev pub path_pattern : Row → Rest
 path_pattern r = if_mark Mark.PathSep (part a_name (behind_path Row.PathPattern)) (behind_path r)
@@ -551,14 +561,19 @@ pattern self (Token.Number value suffix) = by_row Row.NumberPattern (ends Row.Nu
 pattern self (Token.Mark Mark.Minus) = by_row Row.NumberPattern (token Kind.Number (ends Row.NumberPattern))
 pattern self (Token.Word Word.True) = by_row Row.BoolPattern (ends Row.BoolPattern)
 pattern self (Token.Word Word.False) = by_row Row.BoolPattern (ends Row.BoolPattern)
-pattern self (Token.Mark Mark.OpenParenthesis) = by_row Row.TuplePattern (patterns (Kind.Mark Mark.CloseParenthesis) (ends Row.TuplePattern))
-pattern self (Token.Mark Mark.OpenBracket) = by_row Row.ArrayPattern (patterns (Kind.Mark Mark.CloseBracket) (ends Row.ArrayPattern))
+pattern self (Token.Mark Mark.OpenParenthesis) =
+    by_row Row.TuplePattern (patterns (Kind.Mark Mark.CloseParenthesis) (ends Row.TuplePattern))
+pattern self (Token.Mark Mark.OpenBracket) =
+    by_row Row.ArrayPattern (patterns (Kind.Mark Mark.CloseBracket) (ends Row.ArrayPattern))
 pattern self (Token.Word Word.SelfValue) = only self (by_row Row.SelfParam (ends Row.SelfParam))
-pattern self (Token.Mark Mark.And) = only self (by_row Row.SelfParam (if_word Word.Mut (word Word.SelfValue (ends Row.SelfParam)) (word Word.SelfValue (ends Row.SelfParam))))
+pattern self (Token.Mark Mark.And) =
+    only self (by_row Row.SelfParam (if_word Word.Mut (word Word.SelfValue (ends Row.SelfParam))
+    (word Word.SelfValue (ends Row.SelfParam))))
 pattern self _ = None
 
 abbrev pub field_pattern : Token → Option Entry
-field_pattern (Token.Name n) = by_row Row.FieldPattern (if_mark Mark.Colon (part a_pattern (ends Row.FieldPattern)) (ends Row.FieldPattern))
+field_pattern (Token.Name n) =
+    by_row Row.FieldPattern (if_mark Mark.Colon (part a_pattern (ends Row.FieldPattern)) (ends Row.FieldPattern))
 field_pattern (Token.Word Word.Mut) = by_row Row.FieldPattern (token Kind.Name (ends Row.FieldPattern))
 field_pattern _ = None
 
@@ -569,13 +584,15 @@ exprs close after = listed any_expr (Kind.Mark close) after
 
 abbrev pub struct_or_path : Bool → Rest
 struct_or_path true = ends Row.Path
-struct_or_path false = if_mark Mark.OpenBrace (listed (of_sort Sort.FieldInit) (Kind.Mark Mark.CloseBrace) (ends Row.StructExpr)) (ends Row.Path)
+struct_or_path false = if_mark Mark.OpenBrace
+    (listed (of_sort Sort.FieldInit) (Kind.Mark Mark.CloseBrace) (ends Row.StructExpr)) (ends Row.Path)
 
 abbrev pub path : Bool → Rest
 path in_head = if_mark Mark.PathSep (part a_name (struct_or_path in_head)) (struct_or_path in_head)
 
 abbrev pub panic_rest : Rest
-panic_rest = mark Mark.OpenParenthesis (either Kind.Text (mark Mark.CloseParenthesis (ends Row.Panic)) (mark Mark.CloseParenthesis (ends Row.Panic)))
+panic_rest = mark Mark.OpenParenthesis
+    (either Kind.Text (mark Mark.CloseParenthesis (ends Row.Panic)) (mark Mark.CloseParenthesis (ends Row.Panic)))
 
 abbrev pub is_panic : List ℕ → Bool
 is_panic n = is_text n (112 ∷ 97 ∷ 110 ∷ 105 ∷ 99 ∷ [])
@@ -587,7 +604,8 @@ named false in_head = path in_head
 -- a condition and a block, and what follows the block
 abbrev pub headed : Rest → Rest
 headed after =
-    if_word Word.Let (part a_pattern (mark Mark.Eq (part head_expr (part block after)))) (part head_expr (part block after))
+    if_word Word.Let (part a_pattern (mark Mark.Eq (part head_expr (part block after))))
+    (part head_expr (part block after))
 
 abbrev pub if_rest : Rest
 if_rest = headed (if_word Word.Else (part (Part.At (expr false Start.BlockOrIf)) (ends Row.If)) (ends Row.If))
@@ -645,7 +663,8 @@ expression h (Token.Label n) = by_row Row.Loop labelled
 expression h _ = None
 
 abbrev pub field_init : Token → Option Entry
-field_init (Token.Name n) = by_row Row.FieldInit (if_mark Mark.Colon (part any_expr (ends Row.FieldInit)) (ends Row.FieldInit))
+field_init (Token.Name n) =
+    by_row Row.FieldInit (if_mark Mark.Colon (part any_expr (ends Row.FieldInit)) (ends Row.FieldInit))
 field_init _ = None
 
 abbrev pub entry : Seen → Token → Option Entry
@@ -672,7 +691,8 @@ pub record Joined : Type 0 where
   pub rest : Rest
 
 abbrev pub joined_by : Seen → Row → ℕ → Rest → Option Joined
-joined_by s r least q = Some record { row = r; place = record { sort = s.sort; least = least; head = s.head; start = s.start }; rest = q }
+joined_by s r least q =
+    Some record { row = r; place = record { sort = s.sort; least = least; head = s.head; start = s.start }; rest = q }
 
 -- an operator with the least levels of its operands
 abbrev pub infix_ : Seen → Row → ℕ → ℕ → Option Joined
@@ -680,7 +700,8 @@ infix_ s r left right = joined_by s r left (part (Part.Operand right) (ends r))
 
 abbrev pub dot : Rest
 dot =
-    either Kind.Name (if_mark Mark.OpenParenthesis (exprs Mark.CloseParenthesis (ends Row.MethodCall)) (ends Row.FieldAccess))
+    either Kind.Name (if_mark Mark.OpenParenthesis (exprs Mark.CloseParenthesis (ends Row.MethodCall))
+    (ends Row.FieldAccess))
     (token Kind.Digits (ends Row.TupleField))
 
 abbrev pub infix_expr : Seen → Token → Option Joined
@@ -700,8 +721,10 @@ infix_expr s (Token.Mark Mark.Slash) = infix_ s Row.Product 6 7
 infix_expr s (Token.Mark Mark.Percent) = infix_ s Row.Product 6 7
 infix_expr s (Token.Mark Mark.OpenParenthesis) = joined_by s Row.Call 9 (exprs Mark.CloseParenthesis (ends Row.Call))
 infix_expr s (Token.Mark Mark.Dot) = joined_by s Row.TupleField 8 dot
-infix_expr s (Token.Mark Mark.OpenBracket) = joined_by s Row.Index 8 (part any_expr (mark Mark.CloseBracket (ends Row.Index)))
-infix_expr s (Token.Mark Mark.Semi) = Some record { row = Row.Semi; place = expr s.head Start.Value; rest = ends Row.Semi }
+infix_expr s (Token.Mark Mark.OpenBracket) =
+    joined_by s Row.Index 8 (part any_expr (mark Mark.CloseBracket (ends Row.Index)))
+infix_expr s (Token.Mark Mark.Semi) =
+    Some record { row = Row.Semi; place = expr s.head Start.Value; rest = ends Row.Semi }
 infix_expr s _ = None
 
 abbrev pub infix_pattern : Seen → Token → Option Joined

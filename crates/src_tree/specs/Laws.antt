@@ -16,4 +16,5 @@ module _ {L : Type 0} where
 
 -- levelled trees with one spelling are one tree but for the places
 abbrev pub SpelledOnce : Type 0
-SpelledOnce = (a b : Parts Pos) → ItemsLevelled a → ItemsLevelled b → spell_parts a [] ≡ spell_parts b [] → unplaced_parts a ≡ unplaced_parts b
+SpelledOnce = (a b : Parts Pos) → ItemsLevelled a → ItemsLevelled b → spell_parts a [] ≡ spell_parts b [] →
+    unplaced_parts a ≡ unplaced_parts b

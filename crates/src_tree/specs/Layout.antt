@@ -77,7 +77,8 @@ module _ {L : Type 0} where
     Follows head None r parts = ⊥
     Follows head (Some q) r end = made q ≡ Some r
     Follows head (Some q) r (tok t rest) = Follows head (move q t) r rest
-    Follows head (Some q) r (sub g rest) = Levelled (due_place head q) g × Follows head (Some (behind q (row_of g))) r rest
+    Follows head (Some q) r (sub g rest) =
+        Levelled (due_place head q) g × Follows head (Some (behind q (row_of g))) r rest
 
   -- the items of a text
   abbrev pub ItemsLevelled : Parts L → Type 0

@@ -83,7 +83,8 @@ module _ {L : Type 0} where
   abbrev pub close_all : State L → Place → Rest → L → Parts L → Option (Node L)
   close_all [] c q at parts = option_map (λ r. node at r parts) (made q)
   close_all (frame c0 q0 at0 parts0 ∷ S) c q at parts =
-      and_then (made q) (λ r. only_if (allowed c r) (close_all S c0 (behind q0 r) at0 (with_sub parts0 (node at r parts))))
+      and_then (made q) (λ r. only_if (allowed c r)
+      (close_all S c0 (behind q0 r) at0 (with_sub parts0 (node at r parts))))
 
   abbrev pub whole : State L → Option (Node L)
   whole [] = None
