@@ -26,7 +26,7 @@ fn plain(cell: &str) -> &str {
 }
 
 /// The row that a line is, if its first cell is in backticks.
-fn row(line: &str) -> Option<Row<'_>> {
+fn row_in(line: &str) -> Option<Row<'_>> {
     if !line.starts_with("| `") {
         return None;
     }
@@ -45,7 +45,7 @@ struct Ended {
     written: MemSink,
 }
 
-fn ended(alloc: Global, words: &str, text: String) -> Result<Ended, NoMemory> {
+fn outcome(alloc: Global, words: &str, text: String) -> Result<Ended, NoMemory> {
     let mut all = Vec::new(alloc);
     for word in words.split(' ') {
         all.push(String::from_str(alloc, word)?)?;
@@ -63,7 +63,7 @@ fn verdict(rt: &(impl Files + AllocGlobal), row: &Row<'_>) -> io::Result<&'stati
     let alloc = rt.alloc();
     let text = fs::read_to_string(rt, format!(in alloc; "{}.rs", row.name)?.as_str())?;
     let wanted = fs::read_to_string(rt, format!(in alloc; "{}.trace", row.name)?.as_str())?;
-    let Ok(ended) = ended(alloc, row.words, text) else {
+    let Ok(ended) = outcome(alloc, row.words, text) else {
         return Err(io::Error::from(io::ErrorKind::OutOfMemory));
     };
     let status = format!(in alloc; "{}", ended.status)?;
@@ -79,7 +79,7 @@ fn verdict(rt: &(impl Files + AllocGlobal), row: &Row<'_>) -> io::Result<&'stati
 fn main(rt: HostRuntime) -> io::Result<()> {
     let table = fs::read_to_string(&rt, "README.md")?;
     for line in table.lines() {
-        if let Some(row) = row(line) {
+        if let Some(row) = row_in(line) {
             println!(rt; "{}: {}", row.name, verdict(&rt, &row)?)?;
         }
     }

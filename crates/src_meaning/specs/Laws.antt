@@ -13,7 +13,7 @@ use Rattle.src_meaning.specs.Locals.Effects.{at_locals}
 use Rattle.src_meaning.specs.Locals.OfBody.{local_of}
 use Rattle.src_meaning.specs.Programs.{activation, setting_of, code_of, source}
 
--- two amounts of fuel for the turns of loops that are greater than the number of choices give the same free run of a body
+-- two amounts of fuel for the turns of loops that are greater than the number of choices give the same free run
 abbrev pub FuelOfFreeRunsIsIrrelevant : Type 0
 FuelOfFreeRunsIsIrrelevant =
     (items : ItemTable) (body : BodyTree) (local_ty : ℕ → Option TyId) (fuel other : ℕ) (w : AbstractState) →

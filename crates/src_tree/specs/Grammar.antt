@@ -1,5 +1,5 @@
 -- The grammar: which tokens and parts make a node. A row is followed token by token and part by part (`Rest`); `entry`
--- says how a node begins that begins with a token, and `joined` how one begins that begins with a part, as `a + b` does.
+-- says how a node begins that begins with a token, `joined` how one begins that begins with a part, as `a + b` does.
 use Rattle.std.specs.Prelude.{ℕ, Bool, true, false, ◌&&◌, ◌||◌, not, nat_le, nat_eq, Option, Some, None, if◌then◌else◌, List, [], ◌∷◌}
 use Rattle.src_token.specs.declared.token.Token.{Token}
 use Rattle.src_tree.specs.declared.row.Row.{Row}

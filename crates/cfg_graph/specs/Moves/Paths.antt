@@ -22,7 +22,8 @@ pub record Way : Type 0 where
 abbrev each_way : List Exit → List Way
 each_way [] = []
 each_way (only ∷ []) = record { choices = []; exit = only } ∷ []
-each_way (none ∷ one ∷ rest) = record { choices = false ∷ []; exit = none } ∷ record { choices = true ∷ []; exit = one } ∷ []
+each_way (none ∷ one ∷ rest) =
+    record { choices = false ∷ []; exit = none } ∷ record { choices = true ∷ []; exit = one } ∷ []
 
 -- the first way alone, without a choice
 abbrev first_alone : List Exit → List Way
@@ -75,7 +76,8 @@ module _ (items : ItemTable) (body : Body) where
 
   -- the choices of a way, if it leads to this block, and if it leads out of the body
   abbrev choices_to : ℕ → Way → List (List Bool)
-  choices_to block way = elim way.exit [ ToBlock next ↦ if next == block then way.choices ∷ [] else [] | LeavesBody ↦ [] ]
+  choices_to block way =
+      elim way.exit [ ToBlock next ↦ if next == block then way.choices ∷ [] else [] | LeavesBody ↦ [] ]
 
   abbrev choices_out : Way → List (List Bool)
   choices_out way = elim way.exit [ ToBlock next ↦ [] | LeavesBody ↦ way.choices ∷ [] ]
