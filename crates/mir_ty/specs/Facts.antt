@@ -21,7 +21,8 @@ is_scalar (Ty.Shared to) = true
 is_scalar (Ty.Unique to) = true
 is_scalar _ = false
 
--- a type is Copy where it is a scalar, a struct or enum that derives Copy, or a tuple, an array or a closure all of whose parts are Copy
+-- a type is Copy where it is a scalar, a struct or enum that derives Copy, or a tuple, an array or a closure all of
+-- whose parts are Copy
 pub data IsCopy (items : ItemTable) : TyId → Type 0 where
   scalar : {id : TyId} {ty : Ty} → type_at items id ≡ Some ty → IsTrue (is_scalar ty) → IsCopy items id
   derives : {id : TyId} {n : ℕ} {adt : Adt} → type_at items id ≡ Some (Ty.Adt n) → slice_get items.adts n ≡ Some adt →

@@ -38,7 +38,8 @@ parts_of items _ variant = []
 abbrev pub field_ty : ItemTable → TyId → ℕ → ℕ → Option TyId
 field_ty items id variant part = option_and_then (λ ty. slice_get (parts_of items ty variant) part) (type_at items id)
 
--- what a type holds at once, neither behind a box nor behind a reference; an array holds its element's type, whatever its length
+-- what a type holds at once, neither behind a box nor behind a reference; an array holds its element's type, whatever
+-- its length
 abbrev pub held_by : ItemTable → Ty → List TyId
 held_by items (Ty.Adt n) = flat_map (λ variant. variant.fields) (variants_of (slice_get items.adts n))
 held_by items (Ty.Tuple parts) = parts
