@@ -7,22 +7,12 @@
 #[cfg(test)]
 mod base;
 #[cfg(test)]
-mod bits;
-#[cfg(test)]
 mod edge;
 #[cfg(test)]
 mod graphs;
 #[cfg(test)]
-mod listings;
-#[cfg(test)]
 mod program;
 #[cfg(test)]
-mod syntax;
-#[cfg(test)]
-mod tokens;
-#[cfg(test)]
 mod trees;
-#[cfg(test)]
-mod types;
 #[cfg(test)]
 mod values;

@@ -3,7 +3,7 @@ use Rattle.std.proofs.lemmas.Grind.{common_steps}
 use Rattle.std.proofs.lemmas.List.Elements.{All-cons, All-nil}
 use Rattle.std.proofs.lemmas.Option.{gets}
 use Rattle.mir_ty.specs.AreItems.{IsMethod}
-use Rattle.layer_tests.proofs.types.add_first_trait.Goals as goal
+use Rattle.type_tests.proofs.types.add_first_trait.Goals as goal
 
 pub add_trait-requires : goal.add_trait-requires
 add_trait-requires g c =

@@ -2,7 +2,7 @@ use Rattle.std.proofs.Common.{All, subst}
 use Rattle.std.proofs.lemmas.List.{take_all}
 use Rattle.std.proofs.lemmas.List.Elements.{All-more}
 use Rattle.mir_ty.specs.AreItems.{IsVariant}
-use Rattle.layer_tests.proofs.types.are_variants.Goals as goal
+use Rattle.type_tests.proofs.types.are_variants.Goals as goal
 
 pub loop-variant-preserved : goal.loop-variant-preserved
 loop-variant-preserved c =

@@ -1,0 +1,12 @@
+//! Tests of the layers of text, and of rows of bits, of what no contract says: that a call succeeds when memory is
+//! there, and rows of the documents as they are written.
+#![tactic(auto)]
+
+#[cfg(test)]
+mod bits;
+#[cfg(test)]
+mod listings;
+#[cfg(test)]
+mod syntax;
+#[cfg(test)]
+mod tokens;
