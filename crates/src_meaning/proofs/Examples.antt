@@ -1,4 +1,5 @@
 -- Programs that were worked out by hand, and runs of them closed by computation.
+mod AreWellTyped
 mod Assignments
 mod Boxes
 mod Closures

@@ -1,0 +1,10 @@
+use Rattle.well_typed.specs.Program.{program}
+use Rattle.well_typed.proofs.ClaimLemmas.{so_where_holds, holds_where_so}
+use Rattle.well_typed.proofs.NumberLemmas.{numbers_differ}
+use Rattle.well_typed.proofs.law.law_of_typing.Goals as goal
+
+pub returns-clause-test : goal.returns-clause-test
+returns-clause-test c = λ p. (so_where_holds (program p), holds_where_so (program p))
+
+pub returns-clause-numbers : goal.returns-clause-numbers
+returns-clause-numbers c = numbers_differ
