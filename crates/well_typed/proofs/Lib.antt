@@ -1,2 +1,3 @@
 pub mod ClaimLemmas
+mod Examples
 pub mod NumberLemmas
