@@ -29,7 +29,7 @@ is_kind IntKind.U64 IntKind.U64 = true
 is_kind IntKind.Usize IntKind.Usize = true
 is_kind _ _ = false
 
-abbrev is_equal : Ty → Ty → Bool
+abbrev pub is_equal : Ty → Ty → Bool
 is_equal (Ty.Int a) (Ty.Int b) = is_kind a b
 is_equal Ty.Bool Ty.Bool = true
 is_equal Ty.Unit Ty.Unit = true

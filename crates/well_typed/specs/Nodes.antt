@@ -12,7 +12,7 @@ use Rattle.typed_tree.specs.Tree.{Node, node, Form, Nodes, no_node, a_node, Fiel
 use Rattle.well_typed.specs.Claim.{Claim, fact, ◌&◌, some, nothing}
 use Rattle.well_typed.specs.Names.{are_distinct, are_distinct_numbers}
 use Rattle.well_typed.specs.Patterns.{Matched, pattern, names_of, entries_of, field_numbers, count_of}
-use Rattle.well_typed.specs.Places.{InScope, LoopAround, Context, with_entries, within, in_guard, entry_with, loop_with, ty_of, form_of, may_move, is_behind_shared, borrow_by, Standing, Taken, Wanted, Passed, Base, Used, Stored, stands}
+use Rattle.well_typed.specs.Places.{InScope, LoopAround, Context, with_entries, within, in_guard, entry_with, loop_with, ty_of, form_of, is_place, may_move, is_behind_shared, borrow_by, Standing, Taken, Wanted, Passed, Base, Used, Stored, stands}
 use Rattle.well_typed.specs.Types.{is_same, is_unit, is_bool, is_never, is_int, is_signed, is_i32, is_usize, is_number_of, is_dyn, fits, is_common, adt_of, tuple_of, array_of, boxed_of, closure_of, reference_of, inside_of, is_reference, trait_of, has_fields, variant_at, implements}
 
 -- only what makes a box is coerced: blocks, branches and loops pass the type that is required of them on
@@ -29,9 +29,13 @@ abbrev is_one_name : Node → Bool
 is_one_name (node id at ty by (Binding name)) = true
 is_one_name _ = false
 
+-- a place that a pattern without names takes apart is not used
+abbrev is_unused_place : Node → Bool
+is_unused_place (node id at ty by form) = is_place form && is_none by
+
 -- a statement whose expression or initialiser has the type `!`
 abbrev ends_by : ItemTable → Form → Bool
-ends_by items (Let pattern (present value)) = is_never items (ty_of value)
+ends_by items (Let p (present value)) = is_never items (ty_of value) && not (is_unused_place value)
 ends_by items (Evaluate expression) = is_never items (ty_of expression)
 ends_by items _ = false
 

@@ -1,0 +1,12 @@
+pub mod Bodies
+pub mod Check
+pub mod Named
+pub mod Numbered
+pub mod Patterns
+pub mod Places
+pub mod Rows
+pub mod Scope
+pub mod Syntax
+pub mod Typed
+pub mod View
+pub mod Written
