@@ -1,1 +1,2 @@
-mod Trial
+mod Accepted
+pub mod Words

@@ -22,7 +22,7 @@ use Rattle.typing_rules.specs.Written as types_
 use Rattle.typing_rules.specs.Written.{written, written_param}
 
 abbrev pub all_rules : Env → types_.Around
-all_rules env = record { has_limits = true; self_adt = env.self_adt }
+all_rules env = record { has_limits = true; self_adt = env.self_adt; adts = env.adts; traits = env.traits }
 
 -- the type that is written, or `()`
 abbrev pub answer_of : Env → MaybeSyn → Check TyId

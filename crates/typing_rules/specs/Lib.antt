@@ -1,9 +1,12 @@
 pub mod Bodies
 pub mod Check
+pub mod Collected
+pub mod Items
 pub mod Named
 pub mod Numbered
 pub mod Patterns
 pub mod Places
+pub mod Program
 pub mod Rows
 pub mod Scope
 pub mod Syntax

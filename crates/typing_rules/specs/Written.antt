@@ -1,5 +1,6 @@
 -- Types as they are written (The Rust Reference, "Types").
 use Rattle.std.specs.Prelude.{ℕ, Bool, true, false, ◌==◌, ◌&&◌, ◌||◌, not, List, [], ◌∷◌, length, nat_le, Option, Some, None, if◌then◌else◌, codes, Result, Ok, Err}
+use Rattle.std.specs.List.{position as position_of}
 use Rattle.std.specs.Str.{bytes_eq}
 use Rattle.mir_base.specs.declared.int_kind.IntKind.{IntKind}
 use Rattle.mir_base.specs.declared.place_in_text.Pos.{Pos}
@@ -8,7 +9,6 @@ use Rattle.mir_ty.specs.declared.ty.Ty.{Ty}
 use Rattle.mir_ty.specs.declared.ty.TyId.{TyId}
 use Rattle.typing_rules.specs.Check.{Check, State, Broken, ◌>>=◌, ◌>>◌, pure, breaks, obeys, known, the_items, interned}
 use Rattle.typing_rules.specs.Places.{unit, bool, never, int}
-use Rattle.typing_rules.specs.Scope.{adt_named, trait_named}
 use Rattle.typing_rules.specs.Syntax.{Word, Named, Syn, syn, Shape, NamedType, GenericType, DynType, SelfType, ParensType, TupleType, ArrayType, NeverType, RefType, Syns, no_syn, a_syn}
 
 abbrev scalar_among : List (Word × TyId) → Word → Option TyId
@@ -23,11 +23,10 @@ scalar_named = scalar_among ((codes "i32", int IntKind.I32) ∷ (codes "i64", in
 abbrev pub is_box : Word → Bool
 is_box name = bytes_eq name (codes "Box")
 
-abbrev named_by : Pos → Word → Option TyId → Check TyId
-named_by at name (Some ty) = pure ty
-named_by at name None = do
-  items ← the_items
-  n ← known Rule.T01 at (adt_named items name)
+abbrev named_by : Pos → Option ℕ → Option TyId → Check TyId
+named_by at adt (Some ty) = pure ty
+named_by at adt None = do
+  n ← known Rule.T01 at adt
   interned (Ty.Adt n)
 
 abbrev tuple_by : List TyId → Check TyId
@@ -42,10 +41,15 @@ is_usize (Some _) = false
 abbrev reference_to : Bool → TyId → Ty
 reference_to unique to = if unique then Ty.Unique to else Ty.Shared to
 
--- All rules, or those on names alone; the struct or enum that `Self` is.
+-- All rules, or those on names alone; the struct or enum that `Self` is; the names of structs and enums, and of traits.
 pub record Around : Type 0 where
   pub has_limits : Bool
   pub self_adt : Option ℕ
+  pub adts : List Word
+  pub traits : List Word
+
+abbrev pub number_of : List Word → Word → Option ℕ
+number_of names name = position_of (bytes_eq name) names
 
 module _ (around : Around) where
   abbrev mutual
@@ -53,15 +57,14 @@ module _ (around : Around) where
     written (syn at form) = written_form at form
 
     written_form : Pos → Shape → Check TyId
-    written_form at (NamedType name) = named_by at name (scalar_named name)
+    written_form at (NamedType name) = named_by at (number_of around.adts name) (scalar_named name)
     written_form at (GenericType name content) = do
       obeys Rule.T01 at (is_box name)
       ty ← written content
       interned (Ty.Boxed ty)
     written_form at (DynType name trait_) = do
       obeys Rule.T01 at (is_box name)
-      items ← the_items
-      n ← known Rule.T01 trait_.0 (trait_named items trait_.1)
+      n ← known Rule.T01 trait_.0 (number_of around.traits trait_.1)
       ty ← interned (Ty.Dyn n)
       interned (Ty.Boxed ty)
     written_form at SelfType = do
