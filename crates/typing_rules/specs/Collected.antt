@@ -1,6 +1,6 @@
 -- The items of a text, or the first broken rule on items: names first (T02), then the names in heads (T01), then types
 -- that hold themselves (T09), then what is derived (T10), then `main`.
-use Rattle.std.specs.Prelude.{ℕ, zero, suc, Bool, true, false, ◌&&◌, ◌||◌, not, List, [], ◌∷◌, ◌++◌, map, length, Option, Some, None, Result, Ok, Err, is_some, if◌then◌else◌, codes, decimal, option_and_then, slice_get}
+use Rattle.std.specs.Prelude.{ℕ, zero, suc, Bool, true, false, ◌&&◌, ◌||◌, not, List, [], ◌∷◌, ◌++◌, map, length, Option, Some, None, Result, Ok, Err, is_some, if◌then◌else◌, codes, option_and_then, slice_get}
 use Rattle.std.specs.List.{list_any, list_all, filter_map}
 use Rattle.std.specs.Option.{option_map_or}
 use Rattle.std.specs.Str.{bytes_eq}
@@ -22,7 +22,7 @@ use Rattle.well_typed.specs.Types.{is_same}
 use Rattle.typing_rules.specs.Check.{Check, State, Broken, ◌>>=◌, ◌>>◌, pure, breaks, obeys, known, the_items, interned, each_checked}
 use Rattle.typing_rules.specs.Items.{ItemSyn, items_of, item_syns, adt_names, trait_names, BodyHead, body_heads, method_body, drop_body, full_name, closure_name, impl_owner}
 use Rattle.typing_rules.specs.Places.{scalars, unit}
-use Rattle.typing_rules.specs.Syntax.{Word, Named, Kind, Unit_, Tuple_, Fields_, Receiver, ByValue, ByShared, ByUnique, Syn, syn, at_of, Shape, MoveOf, StructItem, EnumItem, FieldDecl, VariantDecl, TraitItem, ImplItem, FnItem, ParamOf, SelfParam, Syns, no_syn, a_syn, list_of, MaybeSyn, nothing, just}
+use Rattle.typing_rules.specs.Syntax.{number_word, Word, Named, Kind, Unit_, Tuple_, Fields_, Receiver, ByValue, ByShared, ByUnique, Syn, syn, at_of, Shape, MoveOf, StructItem, EnumItem, FieldDecl, VariantDecl, TraitItem, ImplItem, FnItem, ParamOf, SelfParam, Syns, no_syn, a_syn, list_of, MaybeSyn, nothing, just}
 use Rattle.typing_rules.specs.Written.{Around, written, written_param, or_unit, number_of}
 
 -- ---- names of items
@@ -64,7 +64,7 @@ derives word ds = list_any (λ d. bytes_eq word d.1) ds
 -- fields by their order or by their names
 abbrev field_name : ℕ → Syn → Word
 field_name k (syn at (FieldDecl name ty)) = name
-field_name k _ = decimal k
+field_name k _ = number_word k
 
 abbrev field_type : Syn → Syn
 field_type (syn at (FieldDecl name ty)) = ty

@@ -1,5 +1,5 @@
 -- Places among typed nodes, and how a type stands to the one that is required.
-use Rattle.std.specs.Prelude.{ℕ, zero, suc, Bool, true, false, ◌==◌, ◌&&◌, ◌||◌, not, List, [], ◌∷◌, Option, Some, None, if◌then◌else◌, option_and_then, option_map, length, slice_get, decimal, unwrap_or}
+use Rattle.std.specs.Prelude.{ℕ, zero, suc, Bool, true, false, ◌==◌, ◌&&◌, ◌||◌, not, List, [], ◌∷◌, Option, Some, None, if◌then◌else◌, option_and_then, option_map, length, slice_get, unwrap_or}
 use Rattle.std.specs.List.{list_any}
 use Rattle.std.specs.Option.{option_map_or}
 use Rattle.mir_base.specs.declared.int_kind.IntKind.{IntKind}
@@ -15,7 +15,7 @@ use Rattle.well_typed.specs.Places.{ty_of, form_of, is_place}
 use Rattle.well_typed.specs.Types.{is_same, fits, is_never, adt_of, tuple_of, boxed_of, trait_of, inside_of, reference_of, is_reference, implements, variant_at, is_enum}
 use Rattle.typing_rules.specs.Check.{Check, ◌>>=◌, ◌>>◌, pure, breaks, obeys, the_items, number}
 use Rattle.typing_rules.specs.Scope.{Entry, Meaning, Local, Capture, InGuard, field_named}
-use Rattle.typing_rules.specs.Syntax.{Word}
+use Rattle.typing_rules.specs.Syntax.{number_word, Word}
 
 abbrev pub place_in_text : Node → Pos
 place_in_text (node id at ty by form) = at
@@ -173,4 +173,4 @@ either_part None b = b
 
 abbrev pub numbered_part : ℕ → Member (ℕ × TyId)
 numbered_part n items ty =
-    either_part (option_and_then (λ tys. part_with tys n) (tuple_of items ty)) (struct_field (decimal n) items ty)
+    either_part (option_and_then (λ tys. part_with tys n) (tuple_of items ty)) (struct_field (number_word n) items ty)

@@ -1,6 +1,6 @@
 -- The syntax tree by its forms: what a row of the grammar says, without the marks between its parts. Each node has the
 -- place of its first token. Parentheses are nodes; the value of a block stands by itself, as its tail.
-use Rattle.std.specs.Prelude.{ℕ, Bool, List, [], ◌∷◌, Option}
+use Rattle.std.specs.Prelude.{ℕ, zero, suc, ◌+◌, ◌/◌, ◌%◌, nat_lt, Bool, List, [], ◌∷◌, Option, if◌then◌else◌}
 use Rattle.mir_base.specs.declared.int_kind.IntKind.{IntKind}
 use Rattle.mir_base.specs.declared.operator.Cmp.{Cmp}
 use Rattle.mir_base.specs.declared.operator.Math.{Math}
@@ -12,6 +12,14 @@ Word = List ℕ
 
 abbrev pub Named : Type 0
 Named = Pos × Word
+
+-- a number below 2^64 in decimal digits, of which there are twenty at most; 48 is the code of 0
+abbrev digits : ℕ → ℕ → Word → Word
+digits zero n behind = behind
+digits (suc more) n behind = if nat_lt n 10 then (48 + n) ∷ behind else digits more (n / 10) ((48 + n % 10) ∷ behind)
+
+abbrev pub number_word : ℕ → Word
+number_word n = digits 20 n []
 
 -- how the parts of a struct or a variant are written: none, as a list, by their names
 pub data Kind : Type 0 where
