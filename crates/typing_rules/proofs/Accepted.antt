@@ -458,4 +458,3 @@ nested_closures = lines (
 
 nested_closures_stands : stands nested_closures ≡ true
 nested_closures_stands = refl
-

@@ -1,2 +1,3 @@
 mod Accepted
+mod Refusals
 pub mod Words

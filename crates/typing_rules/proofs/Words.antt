@@ -1,6 +1,6 @@
 -- Texts typed by the definitions. Their tokens, with places, are found by a small lexer of the examples' own, and read by
 -- the parser's definition.
-use Rattle.std.specs.Prelude.{ℕ, suc, ◌+◌, ◌*◌, ◌-◌, ◌==◌, nat_le, Bool, true, false, ◌&&◌, ◌||◌, not, List, [], ◌∷◌, ◌++◌, reverse, Option, Some, None, Result, Ok, Err, if◌then◌else◌, codes}
+use Rattle.std.specs.Prelude.{ℕ, suc, ◌+◌, ◌*◌, ◌-◌, ◌==◌, nat_le, Bool, false, ◌&&◌, ◌||◌, not, List, [], ◌∷◌, ◌++◌, reverse, Option, Some, None, Result, Ok, Err, if◌then◌else◌, codes}
 use Rattle.std.specs.List.{list_any}
 use Rattle.std.specs.Str.{bytes_eq}
 use Rattle.mir_base.specs.declared.int_kind.IntKind.{IntKind}
@@ -9,7 +9,7 @@ use Rattle.mir_base.specs.declared.rule.Rule.{Rule}
 use Rattle.src_token.specs.declared.mark.Mark.{Mark}
 use Rattle.src_token.specs.declared.token.Token.{Token}
 use Rattle.src_token.specs.declared.word.Word.{Word as Keyword}
-use Rattle.src_tree.specs.Layout.{Node, node, Parts}
+use Rattle.src_tree.specs.Layout.{Node, node}
 use Rattle.src_tree.specs.Reading.{and_then, State, step, whole, start}
 use Rattle.typed_tree.specs.Tree.{ProgramTree}
 use Rattle.well_typed.specs.Program.{is_well_typed}
@@ -152,6 +152,12 @@ tokens (c ∷ cs) p r = ended c r (tokens cs (next_place c p) (after c p r))
 abbrev end_of : List ℕ → Pos → Pos
 end_of [] p = p
 end_of (c ∷ cs) p = end_of cs (next_place c p)
+
+-- lines with a line feed between them
+abbrev pub text : List (List ℕ) → List ℕ
+text [] = []
+text (l ∷ []) = l
+text (l ∷ k ∷ ls) = l ++ 10 ∷ text (k ∷ ls)
 
 -- lines, each ended by a line feed
 abbrev pub lines : List (List ℕ) → List ℕ

@@ -1,22 +1,20 @@
 -- Parameters, and bodies as a whole.
-use Rattle.std.specs.Prelude.{ℕ, suc, Bool, true, false, ◌&&◌, ◌||◌, not, List, [], ◌∷◌, ◌++◌, length, nat_le, map, Option, Some, None, is_some, if◌then◌else◌, slice_get}
+use Rattle.std.specs.Prelude.{ℕ, suc, Bool, true, false, ◌||◌, not, List, [], ◌∷◌, ◌++◌, length, nat_le, map, Some, None, is_some}
 use Rattle.mir_base.specs.declared.place_in_text.Pos.{Pos}
 use Rattle.mir_base.specs.declared.rule.Rule.{Rule}
 use Rattle.mir_ty.specs.declared.ty.Ty.{Ty}
 use Rattle.mir_ty.specs.declared.ty.TyId.{TyId}
-use Rattle.mir_ty.specs.ItemTable.{ItemTable}
 use Rattle.typed_tree.specs.Nodes.{numbers_of}
 use Rattle.typed_tree.specs.Tree as tree
 use Rattle.typed_tree.specs.Tree.{Node, Form, Nodes, no_node, a_node, ParamTree, BodyTree}
-use Rattle.well_typed.specs.Places.{ty_of, form_of}
 use Rattle.well_typed.specs.Types.{is_reference}
-use Rattle.typing_rules.specs.Check.{Check, State, ◌>>=◌, ◌>>◌, ◌<$>◌, pure, breaks, obeys, known, the_items, number, body_number, interned, closure_added, with_body, in_new_body}
+use Rattle.typing_rules.specs.Check.{Check, ◌>>=◌, ◌>>◌, pure, breaks, obeys, known, the_items, number, body_number, interned, closure_added, with_body, in_new_body}
 use Rattle.typing_rules.specs.Numbered.{in_text_order}
 use Rattle.typing_rules.specs.Patterns.{pattern}
 use Rattle.typing_rules.specs.Places.{used, a_node_of, unit, variable_place}
 use Rattle.typing_rules.specs.Rows.{Typer, Expected, taking, taken, fitted}
 use Rattle.typing_rules.specs.Scope.{Env, Entry, Local, Capture, variable, with_variables}
-use Rattle.typing_rules.specs.Syntax.{Word, Receiver, ByValue, ByShared, ByUnique, Syn, syn, Shape, Ident, ParamOf, SelfParam, Syns, no_syn, a_syn, MaybeSyn, nothing, just}
+use Rattle.typing_rules.specs.Syntax.{Word, Receiver, ByValue, ByShared, ByUnique, Syn, syn, Shape, Ident, AnyPattern, BindPattern, ParensPattern, ParamOf, SelfParam, Syns, no_syn, a_syn, MaybeSyn, nothing, just}
 use Rattle.typing_rules.specs.View.{self_name}
 use Rattle.typing_rules.specs.Written as types_
 use Rattle.typing_rules.specs.Written.{written, written_param}
@@ -52,10 +50,15 @@ name_param at name ty = do
   items ← the_items
   pure (record { pattern = used (taking items ty) (a_node_of id at ty (tree.Binding name)); ty = ty }, name_entry name ty id)
 
-abbrev is_name_or_wildcard : Form → Bool
-is_name_or_wildcard tree.Wildcard = true
-is_name_or_wildcard (tree.Binding name) = true
-is_name_or_wildcard _ = false
+abbrev mutual
+  is_name_or_wildcard : Syn → Bool
+  is_name_or_wildcard (syn at form) = is_name_or_wildcard_form form
+
+  is_name_or_wildcard_form : Shape → Bool
+  is_name_or_wildcard_form AnyPattern = true
+  is_name_or_wildcard_form (BindPattern name) = true
+  is_name_or_wildcard_form (ParensPattern inside) = is_name_or_wildcard inside
+  is_name_or_wildcard_form _ = false
 
 abbrev pub param_expected : Expected
 param_expected = record { is_fixed = false; takes_all = true }
@@ -64,9 +67,9 @@ param_expected = record { is_fixed = false; takes_all = true }
 abbrev param : Env → (Syn → Check TyId) → Syn → List Entry → Check (ParamTree × List Entry)
 param env ty_of_param (syn at (ParamOf p ty)) earlier = do
   t ← ty_of_param ty
-  n ← pattern env param_expected t p earlier
   items ← the_items
-  obeys Rule.T08 at (is_name_or_wildcard (form_of n.0) || not (is_reference items t))
+  obeys Rule.T08 at (is_name_or_wildcard p || not (is_reference items t))
+  n ← pattern env param_expected t p earlier
   pure (record { pattern = n.0; ty = t }, n.1)
 param env ty_of_param (syn at (SelfParam receiver)) earlier = do
   ty ← receiver_ty env at receiver

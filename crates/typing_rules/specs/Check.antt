@@ -1,13 +1,13 @@
 -- Typing as a walk: what is known so far, and the first broken rule with its place. The lines of a `do` block follow one
 -- another as long as no rule is broken, so the order of lines is the order of rules.
 use Rattle.std.specs.List.{position as position_of}
-use Rattle.std.specs.Prelude.{ℕ, suc, Bool, true, false, ◌==◌, List, [], ◌∷◌, ◌++◌, length, Option, Some, None, Result, Ok, Err, if◌then◌else◌}
+use Rattle.std.specs.Prelude.{ℕ, suc, Bool, ◌==◌, List, [], ◌∷◌, ◌++◌, length, Option, Some, None, Result, Ok, Err, if◌then◌else◌}
 use Rattle.mir_base.specs.declared.place_in_text.Pos.{Pos}
 use Rattle.mir_base.specs.declared.rule.Rule.{Rule}
 use Rattle.mir_ty.specs.declared.ty.Ty.{Ty}
 use Rattle.mir_ty.specs.declared.ty.TyId.{TyId}
 use Rattle.mir_ty.specs.ItemTable.{ItemTable, with_type, with_closure}
-use Rattle.typed_tree.specs.Tree.{BodyTree, MaybeNode}
+use Rattle.typed_tree.specs.Tree.{BodyTree}
 use Rattle.well_typed.specs.Items.{is_equal}
 
 -- the items so far; the next number of a node in the body, and of a body; the breaks of the body, each with its loop's

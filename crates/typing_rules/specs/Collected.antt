@@ -1,6 +1,6 @@
 -- The items of a text, or the first broken rule on items: names first (T02), then the names in heads (T01), then types
 -- that hold themselves (T09), then what is derived (T10), then `main`.
-use Rattle.std.specs.Prelude.{ℕ, zero, suc, Bool, true, false, ◌&&◌, ◌||◌, not, List, [], ◌∷◌, ◌++◌, map, length, Option, Some, None, Result, Ok, Err, is_some, if◌then◌else◌, codes, option_and_then, slice_get}
+use Rattle.std.specs.Prelude.{ℕ, suc, Bool, true, false, ◌&&◌, ◌||◌, not, List, [], ◌∷◌, Option, Some, None, Result, Ok, Err, is_some, if◌then◌else◌, codes, option_and_then, slice_get}
 use Rattle.std.specs.List.{list_any, list_all, filter_map}
 use Rattle.std.specs.Option.{option_map_or}
 use Rattle.std.specs.Str.{bytes_eq}
@@ -8,7 +8,6 @@ use Rattle.mir_base.specs.declared.place_in_text.Pos.{Pos}
 use Rattle.mir_base.specs.declared.rule.Rule.{Rule}
 use Rattle.mir_ty.specs.declared.adt.Adt.{Adt}
 use Rattle.mir_ty.specs.declared.adt.Variant.{Variant}
-use Rattle.mir_ty.specs.declared.def.ImplDef.{ImplDef}
 use Rattle.mir_ty.specs.declared.def.Sig.{Sig}
 use Rattle.mir_ty.specs.declared.def.TraitDef.{TraitDef}
 use Rattle.mir_ty.specs.declared.ty.Ty.{Ty}
@@ -22,7 +21,7 @@ use Rattle.well_typed.specs.Types.{is_same}
 use Rattle.typing_rules.specs.Check.{Check, State, Broken, ◌>>=◌, ◌>>◌, pure, breaks, obeys, known, the_items, interned, each_checked}
 use Rattle.typing_rules.specs.Items.{ItemSyn, items_of, item_syns, adt_names, trait_names, BodyHead, body_heads, method_body, drop_body, full_name, closure_name, impl_owner}
 use Rattle.typing_rules.specs.Places.{scalars, unit}
-use Rattle.typing_rules.specs.Syntax.{number_word, Word, Named, Kind, Unit_, Tuple_, Fields_, Receiver, ByValue, ByShared, ByUnique, Syn, syn, at_of, Shape, MoveOf, StructItem, EnumItem, FieldDecl, VariantDecl, TraitItem, ImplItem, FnItem, ParamOf, SelfParam, Syns, no_syn, a_syn, list_of, MaybeSyn, nothing, just}
+use Rattle.typing_rules.specs.Syntax.{number_word, Word, Named, Receiver, ByValue, ByShared, ByUnique, Syn, syn, MoveOf, StructItem, EnumItem, FieldDecl, VariantDecl, TraitItem, ImplItem, FnItem, ParamOf, SelfParam, Syns, no_syn, a_syn, list_of, MaybeSyn, nothing, just}
 use Rattle.typing_rules.specs.Written.{Around, written, written_param, or_unit, number_of}
 
 -- ---- names of items
@@ -251,7 +250,7 @@ abbrev may_derive : ItemTable → List Named → Option Adt → Bool
 may_derive items ds None = true
 may_derive items ds (Some adt) =
     not (derives (codes "Copy") ds) || (derives (codes "Clone") ds && (not (is_some adt.drop_body) &&
-        list_all (λ v. list_all (is_copy items) v.fields) adt.variants))
+    list_all (λ v. list_all (is_copy items) v.fields) adt.variants))
 
 -- the structs and enums in their order, each with its place and what it derives
 abbrev adt_item : Syn → Option (Pos × List Named)

@@ -1,13 +1,13 @@
 -- What a text's items are by their names: which structs and enums, traits and bodies there are, in the order of their
 -- numbers, before any type is looked at.
-use Rattle.std.specs.Prelude.{ℕ, zero, suc, Bool, true, false, ◌&&◌, ◌||◌, not, List, [], ◌∷◌, ◌++◌, map, Option, Some, None, if◌then◌else◌, codes}
-use Rattle.std.specs.List.{list_any, position as position_of, filter_map, flat_map}
+use Rattle.std.specs.Prelude.{ℕ, Bool, true, false, ◌&&◌, List, [], ◌∷◌, ◌++◌, map, Option, Some, None, codes}
+use Rattle.std.specs.List.{position as position_of, filter_map, flat_map}
 use Rattle.std.specs.Str.{bytes_eq}
 use Rattle.mir_base.specs.declared.place_in_text.Pos.{Pos}
 use Rattle.src_tree.specs.declared.row.Row.{Row}
 use Rattle.src_tree.specs.Layout as layout
 use Rattle.src_tree.specs.Layout.{node, Parts, end, tok, sub}
-use Rattle.typing_rules.specs.Syntax.{number_word, Word, Named, Kind, Unit_, Syn, syn, Shape, MoveOf, StructItem, EnumItem, VariantDecl, TraitItem, ImplItem, FnItem, Odd, Syns, no_syn, a_syn, MaybeSyn, nothing, just}
+use Rattle.typing_rules.specs.Syntax.{number_word, Word, Kind, Unit_, Syn, syn, StructItem, EnumItem, VariantDecl, TraitItem, ImplItem, FnItem, Syns, no_syn, a_syn}
 use Rattle.typing_rules.specs.View.{view}
 
 -- ---- structs, enums and traits

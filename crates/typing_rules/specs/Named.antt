@@ -1,5 +1,5 @@
 -- What paths and callees name.
-use Rattle.std.specs.Prelude.{ℕ, Bool, true, false, ◌==◌, ◌&&◌, ◌||◌, not, List, [], ◌∷◌, Option, Some, None, is_some, if◌then◌else◌, option_and_then, option_map, slice_get, codes}
+use Rattle.std.specs.Prelude.{ℕ, Bool, true, false, ◌||◌, List, [], ◌∷◌, Option, Some, None, is_some, if◌then◌else◌, option_and_then, option_map, slice_get, codes}
 use Rattle.std.specs.List.{list_any, position as position_of}
 use Rattle.std.specs.Option.{option_map_or}
 use Rattle.std.specs.Str.{bytes_eq}
@@ -10,11 +10,10 @@ use Rattle.mir_ty.specs.declared.ty.Ty.{Ty}
 use Rattle.mir_ty.specs.declared.ty.TyId.{TyId}
 use Rattle.mir_ty.specs.ItemTable.{ItemTable, type_at}
 use Rattle.well_typed.specs.Nodes.{is_drop_body}
-use Rattle.well_typed.specs.Types.{adt_of, trait_of, closure_of, is_enum, variant_at}
-use Rattle.typing_rules.specs.Patterns.{Target, target_of}
+use Rattle.well_typed.specs.Types.{closure_of, is_enum, variant_at}
 use Rattle.typing_rules.specs.Rows.{Method, OfAdt, OfTrait}
 use Rattle.typing_rules.specs.Scope.{Env, Entry, variable, adt_named, body_named, method_of, variant_named, kind_at, adt_at_head}
-use Rattle.typing_rules.specs.Syntax.{Word, Kind, Unit_, Tuple_, Fields_, Syn, syn, Shape, Path, Parens}
+use Rattle.typing_rules.specs.Syntax.{Word, Kind, Unit_, Tuple_, Syn, syn, Shape, Path, Parens}
 use Rattle.typing_rules.specs.Written.{is_box}
 
 abbrev is_built_in : Word → Bool
@@ -101,7 +100,7 @@ function_by items body (Some head) = Function body (is_drop_body items body) hea
 abbrev constructor_of : ItemTable → Env → ℕ → ℕ → Callee
 constructor_of items env adt variant =
     if is_tuple_kind (kind_at env.kinds adt variant) then
-      Constructor adt variant (option_map_or (λ v. v.fields) (variant_at items adt variant) [])
+    Constructor adt variant (option_map_or (λ v. v.fields) (variant_at items adt variant) [])
     else NoCallee
 
 abbrev built_in_callee : Word → Callee

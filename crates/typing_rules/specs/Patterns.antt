@@ -1,5 +1,5 @@
 -- Patterns: one row a form (The Rust Reference, "Patterns").
-use Rattle.std.specs.Prelude.{ℕ, zero, suc, Bool, true, false, ◌==◌, ◌&&◌, ◌||◌, not, List, [], ◌∷◌, ◌++◌, length, nat_le, nat_lt, Option, Some, None, is_some, if◌then◌else◌, option_and_then, option_map, slice_get, replicate, map}
+use Rattle.std.specs.Prelude.{ℕ, suc, Bool, true, false, ◌==◌, ◌&&◌, ◌||◌, not, List, [], ◌∷◌, ◌++◌, length, nat_le, nat_lt, Option, Some, None, is_some, if◌then◌else◌, option_and_then, option_map, slice_get, replicate}
 use Rattle.std.specs.Option.{option_map_or}
 use Rattle.mir_base.specs.declared.int_kind.IntKind.{IntKind}
 use Rattle.mir_base.specs.declared.place_in_text.Pos.{Pos}
@@ -17,7 +17,7 @@ use Rattle.typing_rules.specs.Check.{Check, ◌>>=◌, ◌>>◌, ◌<$>◌, pure
 use Rattle.typing_rules.specs.Places.{used, a_node_of, int}
 use Rattle.typing_rules.specs.Rows.{Expected, taking, literal_value, is_signed_kind, most, all_given, are_known, Given}
 use Rattle.typing_rules.specs.Scope.{Env, Entry, Local, variable, variant_named, field_named, kind_at, adt_at_head, adt_named}
-use Rattle.typing_rules.specs.Syntax.{Word, Kind, Unit_, Tuple_, Fields_, Syn, syn, Shape, AnyPattern, BindPattern, LiteralPattern, TruthPattern, PathPattern, PartsPattern, FieldsPattern, FieldPattern, ParensPattern, TuplePattern, ArrayPattern, Alternatives, Syns, no_syn, a_syn, MaybeSyn, nothing, just}
+use Rattle.typing_rules.specs.Syntax.{Word, Kind, Unit_, Fields_, Syn, syn, Shape, AnyPattern, BindPattern, LiteralPattern, TruthPattern, PathPattern, PartsPattern, FieldsPattern, FieldPattern, ParensPattern, TuplePattern, ArrayPattern, Alternatives, Syns, no_syn, a_syn, nothing, just}
 
 -- what a pattern gives: its node, and the bindings so far
 abbrev Bound : Type 0

@@ -1,19 +1,17 @@
 -- Places among typed nodes, and how a type stands to the one that is required.
-use Rattle.std.specs.Prelude.{ℕ, zero, suc, Bool, true, false, ◌==◌, ◌&&◌, ◌||◌, not, List, [], ◌∷◌, Option, Some, None, if◌then◌else◌, option_and_then, option_map, length, slice_get, unwrap_or}
+use Rattle.std.specs.Prelude.{ℕ, zero, suc, Bool, true, false, ◌==◌, ◌&&◌, ◌||◌, not, List, [], ◌∷◌, Option, Some, None, if◌then◌else◌, option_and_then, option_map, length, slice_get}
 use Rattle.std.specs.List.{list_any}
-use Rattle.std.specs.Option.{option_map_or}
 use Rattle.mir_base.specs.declared.int_kind.IntKind.{IntKind}
 use Rattle.mir_base.specs.declared.place_in_text.Pos.{Pos}
-use Rattle.mir_base.specs.declared.rule.Rule.{Rule}
 use Rattle.mir_ty.specs.declared.ty.Ty.{Ty}
 use Rattle.mir_ty.specs.declared.ty.TyId.{TyId}
-use Rattle.mir_ty.specs.Facts.{is_copy, has_drop_impl}
+use Rattle.mir_ty.specs.Facts.{has_drop_impl}
 use Rattle.mir_ty.specs.ItemTable.{ItemTable}
 use Rattle.typed_tree.specs.declared.node.Use.{Use}
 use Rattle.typed_tree.specs.Tree.{Node, node, Form, Variable, Captured, Field, Index, Deref}
-use Rattle.well_typed.specs.Places.{ty_of, form_of, is_place}
-use Rattle.well_typed.specs.Types.{is_same, fits, is_never, adt_of, tuple_of, boxed_of, trait_of, inside_of, reference_of, is_reference, implements, variant_at, is_enum}
-use Rattle.typing_rules.specs.Check.{Check, ◌>>=◌, ◌>>◌, pure, breaks, obeys, the_items, number}
+use Rattle.well_typed.specs.Places.{ty_of, is_place}
+use Rattle.well_typed.specs.Types.{fits, adt_of, tuple_of, boxed_of, trait_of, inside_of, reference_of, is_reference, implements, variant_at, is_enum}
+use Rattle.typing_rules.specs.Check.{Check, ◌>>=◌, pure, the_items, number}
 use Rattle.typing_rules.specs.Scope.{Entry, Meaning, Local, Capture, InGuard, field_named}
 use Rattle.typing_rules.specs.Syntax.{number_word, Word}
 

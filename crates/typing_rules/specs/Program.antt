@@ -1,12 +1,11 @@
 -- The typed program of a text, or the first broken rule: item by item, of each its head and then its bodies.
-use Rattle.std.specs.Prelude.{ℕ, zero, suc, Bool, true, false, ◌==◌, ◌&&◌, ◌||◌, not, List, [], ◌∷◌, ◌++◌, map, length, nat_le, Option, Some, None, Result, Ok, Err, is_some, if◌then◌else◌, codes, option_and_then, slice_get}
+use Rattle.std.specs.Prelude.{ℕ, Bool, true, false, ◌==◌, ◌&&◌, ◌||◌, not, List, [], ◌∷◌, map, length, nat_le, Option, Some, None, Result, Ok, Err, is_some, if◌then◌else◌, codes, option_and_then, slice_get}
 use Rattle.std.specs.List.{list_any, list_all, filter_map, find}
 use Rattle.std.specs.Option.{option_map_or}
 use Rattle.std.specs.Str.{bytes_eq}
 use Rattle.mir_base.specs.declared.place_in_text.Pos.{Pos}
 use Rattle.mir_base.specs.declared.rule.Rule.{Rule}
 use Rattle.mir_ty.specs.declared.def.Sig.{Sig}
-use Rattle.mir_ty.specs.declared.def.TraitDef.{TraitDef}
 use Rattle.mir_ty.specs.declared.ty.TyId.{TyId}
 use Rattle.mir_ty.specs.ItemTable.{ItemTable}
 use Rattle.src_tree.specs.Layout.{Parts}
@@ -14,12 +13,12 @@ use Rattle.typed_tree.specs.Tree.{Node, ProgramTree}
 use Rattle.well_typed.specs.Names.{is_among}
 use Rattle.well_typed.specs.Types.{is_same, are_same, is_unit, reference_of}
 use Rattle.typing_rules.specs.Bodies.{all_rules, answer_of, params_of, fn_body}
-use Rattle.typing_rules.specs.Check.{Check, State, Broken, ◌>>=◌, ◌>>◌, pure, breaks, obeys, known, the_items, in_new_body, each_checked}
+use Rattle.typing_rules.specs.Check.{Check, State, Broken, ◌>>=◌, ◌>>◌, pure, breaks, obeys, the_items, in_new_body}
 use Rattle.typing_rules.specs.Collected.{collected, starting_with}
-use Rattle.typing_rules.specs.Items.{ItemSyn, items_of, item_syns, adt_names, trait_names, all_kinds}
+use Rattle.typing_rules.specs.Items.{items_of, item_syns, adt_names, trait_names, all_kinds}
 use Rattle.typing_rules.specs.Places.{unit}
 use Rattle.typing_rules.specs.Scope.{Env, adt_named, trait_named, body_named, method_word}
-use Rattle.typing_rules.specs.Syntax.{Word, Named, Kind, Receiver, ByValue, ByShared, ByUnique, Syn, syn, Shape, StructItem, EnumItem, FieldDecl, VariantDecl, TraitItem, ImplItem, FnItem, ParamOf, SelfParam, Syns, no_syn, a_syn, list_of, MaybeSyn, nothing, just}
+use Rattle.typing_rules.specs.Syntax.{Word, Named, ByShared, ByUnique, Syn, syn, StructItem, EnumItem, FieldDecl, VariantDecl, TraitItem, ImplItem, FnItem, SelfParam, Syns, no_syn, a_syn, list_of, MaybeSyn, nothing, just}
 use Rattle.typing_rules.specs.Typed.{typed}
 use Rattle.typing_rules.specs.Written.{written, written_param}
 

@@ -1,7 +1,7 @@
 -- One row a form. A row has the checks of the node's children, each of which waits for the type that is required of it,
 -- and asks nothing else of them than the typed nodes that they give.
-use Rattle.std.specs.Prelude.{ℕ, zero, suc, ℤ, pos, negsuc, ◌^◌, ◌-◌, Bool, true, false, ◌==◌, ◌&&◌, ◌||◌, not, List, [], ◌∷◌, ◌++◌, Option, Some, None, if◌then◌else◌, option_and_then, option_map, length, slice_get, map, nat_le, is_some, is_none, drop, unwrap_or, zip, codes}
-use Rattle.std.specs.List.{list_any, list_all}
+use Rattle.std.specs.Prelude.{ℕ, zero, suc, ℤ, pos, negsuc, ◌^◌, ◌-◌, Bool, true, false, ◌==◌, ◌&&◌, ◌||◌, not, List, [], ◌∷◌, Option, Some, None, if◌then◌else◌, option_and_then, option_map, length, slice_get, map, nat_le, is_some, is_none, drop}
+use Rattle.std.specs.List.{list_all}
 use Rattle.std.specs.Option.{option_map_or}
 use Rattle.mir_base.specs.declared.int_kind.IntKind.{IntKind}
 use Rattle.mir_base.specs.declared.operator.Cmp.{Cmp}
@@ -11,15 +11,15 @@ use Rattle.mir_base.specs.declared.rule.Rule.{Rule}
 use Rattle.mir_ty.specs.declared.def.Sig.{Sig}
 use Rattle.mir_ty.specs.declared.ty.Ty.{Ty}
 use Rattle.mir_ty.specs.declared.ty.TyId.{TyId}
-use Rattle.mir_ty.specs.Facts.{is_copy, has_drop_impl}
-use Rattle.mir_ty.specs.ItemTable.{ItemTable, type_at}
+use Rattle.mir_ty.specs.Facts.{is_copy}
+use Rattle.mir_ty.specs.ItemTable.{ItemTable}
 use Rattle.typed_tree.specs.declared.node.Use.{Use}
 use Rattle.typed_tree.specs.Tree as tree
 use Rattle.typed_tree.specs.Tree.{Node, node, Form, Nodes, no_node, a_node, Fields, no_field, a_field, MaybeNode, absent, present}
 use Rattle.well_typed.specs.Places.{ty_of, form_of, is_place}
-use Rattle.well_typed.specs.Types.{is_same, is_unit, is_bool, is_never, is_int, is_dyn, kind_of, adt_of, tuple_of, array_of, boxed_of, closure_of, trait_of, inside_of, reference_of, is_reference, fits}
+use Rattle.well_typed.specs.Types.{is_same, is_unit, is_bool, is_never, is_int, is_dyn, kind_of, tuple_of, array_of, boxed_of, closure_of, inside_of, reference_of, is_reference, fits}
 use Rattle.typing_rules.specs.Check.{Check, ◌>>=◌, ◌>>◌, ◌<$>◌, pure, breaks, obeys, known, the_items, number, interned, breaks_out, types_of_breaks}
-use Rattle.typing_rules.specs.Places.{place_in_text, used, a_node_of, unit, bool, never, int, Fit, Fits, Coerced, Differs, fit, agrees, wanted, is_any, is_fixed, is_behind_shared, in_own_guard, variable_place, through, struct_field, numbered_part}
+use Rattle.typing_rules.specs.Places.{place_in_text, used, a_node_of, unit, bool, never, int, Fit, Fits, Coerced, Differs, fit, agrees, wanted, is_any, is_fixed, is_behind_shared, in_own_guard, variable_place, through}
 use Rattle.typing_rules.specs.Scope.{Env, Entry, Around}
 use Rattle.typing_rules.specs.Syntax.{Word}
 
@@ -374,8 +374,8 @@ with_method env at id base None count args want = args [] >> breaks Rule.T12 at
 with_method env at id base (Some method) count args want = do
   items ← the_items
   if takes_self items (ty_of base) (head_of method).params then
-    with_self env at id base method count args want (head_of method).params
-    else (args [] >> breaks Rule.T12 at)
+      with_self env at id base method count args want (head_of method).params
+      else (args [] >> breaks Rule.T12 at)
 
 abbrev pub method_call : Env → Pos → (ItemTable → TyId → Option Method) → ℕ → Check Node → (List TyId → Check Nodes) → Typer
 method_call env at named count receiver args want = do

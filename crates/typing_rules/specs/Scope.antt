@@ -1,14 +1,10 @@
 -- The names in scope.
-use Rattle.std.specs.Prelude.{ℕ, zero, suc, Bool, true, false, ◌==◌, ◌&&◌, List, [], ◌∷◌, ◌++◌, Option, Some, None, if◌then◌else◌, slice_get, option_and_then, option_map, codes}
-use Rattle.std.specs.List.{find, position as position_of, list_any}
+use Rattle.std.specs.Prelude.{ℕ, Bool, false, List, [], ◌∷◌, ◌++◌, Option, Some, None, slice_get, option_and_then, codes}
+use Rattle.std.specs.List.{find, position as position_of}
 use Rattle.std.specs.Str.{bytes_eq}
-use Rattle.mir_ty.specs.declared.adt.Adt.{Adt}
 use Rattle.mir_ty.specs.declared.adt.Variant.{Variant}
-use Rattle.mir_ty.specs.declared.def.Sig.{Sig}
-use Rattle.mir_ty.specs.declared.def.TraitDef.{TraitDef}
-use Rattle.mir_ty.specs.declared.ty.Ty.{Ty}
 use Rattle.mir_ty.specs.declared.ty.TyId.{TyId}
-use Rattle.mir_ty.specs.ItemTable.{ItemTable, type_at}
+use Rattle.mir_ty.specs.ItemTable.{ItemTable}
 use Rattle.typing_rules.specs.Syntax.{Word, Kind, Unit_}
 
 -- what a variable is: an entry of the body by its key, a capture by the key of the closure and its number, or a binding

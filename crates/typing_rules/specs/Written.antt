@@ -1,5 +1,5 @@
 -- Types as they are written (The Rust Reference, "Types").
-use Rattle.std.specs.Prelude.{ℕ, Bool, true, false, ◌==◌, ◌&&◌, ◌||◌, not, List, [], ◌∷◌, length, nat_le, Option, Some, None, if◌then◌else◌, codes, Result, Ok, Err}
+use Rattle.std.specs.Prelude.{ℕ, Bool, true, false, ◌||◌, not, List, [], ◌∷◌, length, nat_le, Option, Some, None, if◌then◌else◌, codes, Result, Ok, Err}
 use Rattle.std.specs.List.{position as position_of}
 use Rattle.std.specs.Str.{bytes_eq}
 use Rattle.mir_base.specs.declared.int_kind.IntKind.{IntKind}
@@ -7,9 +7,9 @@ use Rattle.mir_base.specs.declared.place_in_text.Pos.{Pos}
 use Rattle.mir_base.specs.declared.rule.Rule.{Rule}
 use Rattle.mir_ty.specs.declared.ty.Ty.{Ty}
 use Rattle.mir_ty.specs.declared.ty.TyId.{TyId}
-use Rattle.typing_rules.specs.Check.{Check, State, Broken, ◌>>=◌, ◌>>◌, pure, breaks, obeys, known, the_items, interned}
+use Rattle.typing_rules.specs.Check.{Check, State, Broken, ◌>>=◌, ◌>>◌, pure, breaks, obeys, known, interned}
 use Rattle.typing_rules.specs.Places.{unit, bool, never, int}
-use Rattle.typing_rules.specs.Syntax.{Word, Named, Syn, syn, Shape, NamedType, GenericType, DynType, SelfType, ParensType, TupleType, ArrayType, NeverType, RefType, Syns, no_syn, a_syn}
+use Rattle.typing_rules.specs.Syntax.{Word, Syn, syn, Shape, NamedType, GenericType, DynType, SelfType, ParensType, TupleType, ArrayType, NeverType, RefType, Syns, no_syn, a_syn}
 
 abbrev scalar_among : List (Word × TyId) → Word → Option TyId
 scalar_among [] name = None
