@@ -1,4 +1,5 @@
--- Texts typed by the definitions. Their tokens, with places, are found by a small lexer of the examples' own, and read by
+-- Texts typed by the definitions. Their tokens, with places, are found by a small lexer of the examples' own, and
+-- read by
 -- the parser's definition.
 use Rattle.std.specs.Prelude.{ℕ, suc, ◌+◌, ◌*◌, ◌-◌, ◌==◌, nat_le, Bool, false, ◌&&◌, ◌||◌, not, List, [], ◌∷◌, ◌++◌, reverse, Option, Some, None, Result, Ok, Err, if◌then◌else◌, codes}
 use Rattle.std.specs.List.{list_any}
@@ -52,7 +53,8 @@ Run = Option (List ℕ × Pos)
 
 -- the marks of two characters
 abbrev is_pair : ℕ → ℕ → Bool
-is_pair a b = list_any (λ (p : ℕ × ℕ). p.0 == a && p.1 == b) ((58, 58) ∷ (46, 46) ∷ (45, 62) ∷ (61, 62) ∷ (61, 61) ∷ (33, 61) ∷
+is_pair a b =
+    list_any (λ (p : ℕ × ℕ). p.0 == a && p.1 == b) ((58, 58) ∷ (46, 46) ∷ (45, 62) ∷ (61, 62) ∷ (61, 61) ∷ (33, 61) ∷
     (60, 61) ∷ (62, 61) ∷ (38, 38) ∷ (124, 124) ∷ [])
 
 abbrev goes_with : List ℕ → ℕ → Bool
@@ -135,7 +137,8 @@ word_token c cs =
 abbrev token_of : List ℕ → Token
 token_of [] = m Mark.Pound
 token_of (c ∷ cs) =
-    if is_word_char c && not (bytes_eq (c ∷ cs) (codes "_")) then word_token c cs else or_mark (looked_up marks (c ∷ cs))
+    if is_word_char c && not (bytes_eq (c ∷ cs) (codes "_")) then word_token c cs else or_mark (looked_up marks (c ∷
+    cs))
 
 abbrev with_run : Run → List Spelled → List Spelled
 with_run None ts = ts

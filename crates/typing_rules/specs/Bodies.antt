@@ -48,7 +48,8 @@ abbrev name_param : Pos → Word → TyId → Check (ParamTree × Entry)
 name_param at name ty = do
   id ← number
   items ← the_items
-  pure (record { pattern = used (taking items ty) (a_node_of id at ty (tree.Binding name)); ty = ty }, name_entry name ty id)
+  let pattern = used (taking items ty) (a_node_of id at ty (tree.Binding name))
+  pure (record { pattern = pattern; ty = ty }, name_entry name ty id)
 
 abbrev mutual
   is_name_or_wildcard : Syn → Bool

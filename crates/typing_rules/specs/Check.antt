@@ -1,4 +1,5 @@
--- Typing as a walk: what is known so far, and the first broken rule with its place. The lines of a `do` block follow one
+-- Typing as a walk: what is known so far, and the first broken rule with its place. The lines of a `do` block follow
+-- one
 -- another as long as no rule is broken, so the order of lines is the order of rules.
 use Rattle.std.specs.List.{position as position_of}
 use Rattle.std.specs.Prelude.{ℕ, suc, Bool, ◌==◌, List, [], ◌∷◌, ◌++◌, length, Option, Some, None, Result, Ok, Err, if◌then◌else◌}
@@ -83,7 +84,13 @@ interned ty = λ s. interned_at ty (position_of (is_equal ty) s.items.types) s
 -- a closure with captures of these types; its number
 abbrev pub closure_added : List TyId → ℕ → Check ℕ
 closure_added captures body =
-    λ s. Ok (length s.items.closures, record s { items = with_closure s.items (record { captures = captures; body = body }) })
+    λ s. Ok (
+      length s.items.closures,
+      record s {
+        items =
+            with_closure s.items (record { captures = captures; body = body });
+      },
+    )
 
 -- within a body of its own
 abbrev within_body : {A : Type 0} → State → Result (A × State) Broken → Result (A × State) Broken
@@ -94,7 +101,8 @@ abbrev pub in_new_body : {A : Type 0} → Check A → Check A
 in_new_body check = λ s. within_body s (check (record s { next_node = 0; breaks = [] }))
 
 -- a body that is whole stands before those of the closures in it
-abbrev put_before : {A : Type 0} → List BodyTree → (A → BodyTree) → Result (A × State) Broken → Result (A × State) Broken
+abbrev put_before : {A : Type 0} → List BodyTree → (A → BodyTree) → Result (A × State) Broken → Result (A × State)
+    Broken
 put_before earlier body (Ok a) = Ok (a.0, record (a.1) { bodies = earlier ++ body a.0 ∷ a.1.bodies })
 put_before earlier body (Err e) = Err e
 

@@ -84,7 +84,13 @@ declared_variant around (syn at _) = breaks Rule.T20 at
 
 abbrev adt_of : Known → List Named → Word → Bool → List Variant → Adt
 adt_of k ds name is_enum variants =
-    record { name = name; is_enum = is_enum; variants = variants; copy = derives (codes "Copy") ds; drop_body = drop_body k.heads name }
+    record {
+      name = name;
+      is_enum = is_enum;
+      variants = variants;
+      copy = derives (codes "Copy") ds;
+      drop_body = drop_body k.heads name;
+    }
 
 abbrev added : (ItemTable → ItemTable) → Check (Unit {0})
 added f = λ s. Ok (tt, record s { items = f s.items })
@@ -136,7 +142,8 @@ with_receiver ty sig = record sig { params = ty ∷ sig.params }
 abbrev trait_head : Around → TyId → Syn → Check Sig
 trait_head around own (syn at (FnItem name params answer block)) =
     if has_receiver params then sig_of around (pure own) name.1 params answer
-    else (interned (Ty.Shared own) >>= (λ self. sig_of around (pure own) name.1 (behind_self params) answer >>= (λ sig. pure (with_receiver self sig))))
+    else (interned (Ty.Shared own) >>= (λ self. sig_of around (pure own) name.1 (behind_self params) answer >>= (λ
+    sig. pure (with_receiver self sig))))
 trait_head around own (syn at _) = breaks Rule.T20 at
 
 -- ---- bodies of an item
@@ -275,7 +282,8 @@ is_main head = option_map_or (bytes_eq (codes "main")) head.name false && not (i
 -- ---- the whole
 
 abbrev known_of : List ItemSyn → Known
-known_of items = record { adts = adt_names (item_syns items); traits = trait_names (item_syns items); heads = body_heads items }
+known_of items =
+    record { adts = adt_names (item_syns items); traits = trait_names (item_syns items); heads = body_heads items }
 
 abbrev collecting : List ItemSyn → Pos → Check (Unit {0})
 collecting items end = do

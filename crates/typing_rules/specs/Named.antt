@@ -17,7 +17,8 @@ use Rattle.typing_rules.specs.Syntax.{Word, Kind, Unit_, Tuple_, Syn, syn, Shape
 use Rattle.typing_rules.specs.Written.{is_box}
 
 abbrev is_built_in : Word → Bool
-is_built_in name = list_any (bytes_eq name) (codes "print" ∷ codes "ask" ∷ codes "drop" ∷ codes "forget" ∷ codes "Box" ∷ [])
+is_built_in name =
+    list_any (bytes_eq name) (codes "print" ∷ codes "ask" ∷ codes "drop" ∷ codes "forget" ∷ codes "Box" ∷ [])
 
 abbrev is_unit_kind : Kind → Bool
 is_unit_kind Unit_ = true
@@ -35,7 +36,8 @@ pub data PathValue : Type 0 where
   IsBroken : (rule : Rule) → PathValue
 
 abbrev unit_value : Env → ℕ → ℕ → PathValue
-unit_value env adt variant = if is_unit_kind (kind_at env.kinds adt variant) then Makes adt variant else IsBroken Rule.T13
+unit_value env adt variant =
+    if is_unit_kind (kind_at env.kinds adt variant) then Makes adt variant else IsBroken Rule.T13
 
 abbrev struct_value : ItemTable → Env → ℕ → PathValue
 struct_value items env adt = if is_enum items adt then IsBroken Rule.T01 else unit_value env adt 0
@@ -58,7 +60,8 @@ missing items adt = if is_enum items adt then Rule.T01 else Rule.T12
 
 abbrev member_value : ItemTable → Env → ℕ → Word → Option ℕ → PathValue
 member_value items env adt name (Some variant) = unit_value env adt variant
-member_value items env adt name None = IsBroken (if is_some (method_of items adt name) then Rule.T13 else missing items adt)
+member_value items env adt name None =
+    IsBroken (if is_some (method_of items adt name) then Rule.T13 else missing items adt)
 
 abbrev variant_of_enum : ItemTable → ℕ → Word → Option ℕ
 variant_of_enum items adt name = if is_enum items adt then variant_named items adt name else None
@@ -127,7 +130,8 @@ or_no_callee c = c
 abbrev variable_callee : ItemTable → Env → Word → Option Entry → Callee
 variable_callee items env name None = body_callee items env name (body_named items name)
 variable_callee items env name (Some x) =
-    if is_some (closure_of items x.ty) then AValue else or_no_callee (body_callee items env name (body_named items name))
+    if is_some (closure_of items x.ty) then AValue else or_no_callee (body_callee items env name (body_named items
+    name))
 
 abbrev method_callee : ItemTable → ℕ → Option ℕ → Callee
 method_callee items adt None = Unnamed (missing items adt)

@@ -28,7 +28,8 @@ module _ (f : ℕ → ℕ) where
     form_renumbered (Assign place value) = Assign (renumbered place) (renumbered value)
     form_renumbered (Call body args) = Call body (nodes_renumbered args)
     form_renumbered (MethodCall body receiver args) = MethodCall body (renumbered receiver) (nodes_renumbered args)
-    form_renumbered (VirtualCall trait_no method receiver args) = VirtualCall trait_no method (renumbered receiver) (nodes_renumbered args)
+    form_renumbered (VirtualCall trait_no method receiver args) =
+        VirtualCall trait_no method (renumbered receiver) (nodes_renumbered args)
     form_renumbered (ClosureCall body callee args) = ClosureCall body (renumbered callee) (nodes_renumbered args)
     form_renumbered (Make adt variant fields) = Make adt variant (fields_renumbered fields)
     form_renumbered (Tuple parts) = Tuple (nodes_renumbered parts)
@@ -45,13 +46,16 @@ module _ (f : ℕ → ℕ) where
     form_renumbered (Block statements tail) = Block (nodes_renumbered statements) (maybe_renumbered tail)
     form_renumbered (Let pattern initialiser) = Let (renumbered pattern) (maybe_renumbered initialiser)
     form_renumbered (Evaluate expression) = Evaluate (renumbered expression)
-    form_renumbered (If condition body otherwise) = If (renumbered condition) (renumbered body) (maybe_renumbered otherwise)
-    form_renumbered (IfLet pattern scrutinee body otherwise) = IfLet (renumbered pattern) (renumbered scrutinee) (renumbered body) (maybe_renumbered otherwise)
+    form_renumbered (If condition body otherwise) =
+        If (renumbered condition) (renumbered body) (maybe_renumbered otherwise)
+    form_renumbered (IfLet pattern scrutinee body otherwise) =
+        IfLet (renumbered pattern) (renumbered scrutinee) (renumbered body) (maybe_renumbered otherwise)
     form_renumbered (Match scrutinee arms) = Match (renumbered scrutinee) (nodes_renumbered arms)
     form_renumbered (Arm pattern guard body) = Arm (renumbered pattern) (maybe_renumbered guard) (renumbered body)
     form_renumbered (Loop body) = Loop (renumbered body)
     form_renumbered (While condition body) = While (renumbered condition) (renumbered body)
-    form_renumbered (WhileLet pattern scrutinee body) = WhileLet (renumbered pattern) (renumbered scrutinee) (renumbered body)
+    form_renumbered (WhileLet pattern scrutinee body) =
+        WhileLet (renumbered pattern) (renumbered scrutinee) (renumbered body)
     form_renumbered (Break loop value) = Break (f loop) (maybe_renumbered value)
     form_renumbered (Continue loop) = Continue (f loop)
     form_renumbered (Return value) = Return (maybe_renumbered value)

@@ -55,7 +55,8 @@ bind at e ty name earlier = do
   items ← the_items
   obeys Rule.T02 at (not (is_some (variable earlier name)))
   obeys Rule.T07 at (is_copy items ty || not (e.is_fixed || is_dyn items ty))
-  pure (used (taking items ty) (a_node_of id at ty (tree.Binding name)), earlier ++ record { name = name; ty = ty; meaning = Local id } ∷ [])
+  let entry = record { name = name; ty = ty; meaning = Local id }
+  pure (used (taking items ty) (a_node_of id at ty (tree.Binding name)), earlier ++ entry ∷ [])
 
 -- ---- structs and variants
 
@@ -95,7 +96,8 @@ abbrev inside_of : ItemTable → TyId → Expected → Expected
 inside_of items ty e = record e { is_fixed = e.is_fixed || has_drop_impl items ty }
 
 -- the place is of the type that the path names; then its parts, how many there are, and whether it may be a test
-abbrev of_target : Pos → Expected → TyId → Target → (Expected → List TyId → Check (Fields × List Entry × Bool × Bool)) → Check Bound
+abbrev of_target : Pos → Expected → TyId → Target → (Expected → List TyId → Check (Fields × List Entry × Bool ×
+    Bool)) → Check Bound
 of_target at e ty t parts = do
   id ← number
   self ← interned (Ty.Adt t.adt)
@@ -189,7 +191,8 @@ are_given_once (Some n ∷ given) = not (is_again n given) && are_given_once giv
 abbrev with_number : ℕ → Bound → Option (ℕ × Node) × List Entry × Option ℕ
 with_number k b = (Some (k, b.0), b.1, Some k)
 
-abbrev field_at : List Entry → Option (ℕ × TyId) → (TyId → Check Bound) → Check (Option (ℕ × Node) × List Entry × Option ℕ)
+abbrev field_at : List Entry → Option (ℕ × TyId) → (TyId → Check Bound) → Check (Option (ℕ × Node) × List Entry ×
+    Option ℕ)
 field_at earlier None typed = pure (None, earlier, None)
 field_at earlier (Some f) typed = with_number f.0 <$> typed f.1
 
@@ -218,12 +221,19 @@ abbrev mutual
     t ← known Rule.T01 at (target_of items env first second)
     of_target at e ty t (λ inside tys. do
       ps ← part_patterns env inside tys parts earlier
-      pure (fields_from 0 ps.0, ps.1, is_count dots (count_of parts) (length tys) && not (has_named_parts env t && not (count_of parts == 0)), true))
+      pure (
+        fields_from 0 ps.0,
+        ps.1,
+        is_count dots (count_of parts) (length tys) && not (has_named_parts env t &&
+            not (count_of parts == 0)),
+        true,
+      ))
   pattern_form env e ty at (FieldsPattern first second fields dots) earlier = do
     items ← the_items
     t ← known Rule.T01 at (target_of items env first second)
     of_target at e ty t (λ inside tys. do
-      ps ← field_patterns env inside (option_map_or (λ v. v) (variant_at items t.adt t.variant) no_variant) fields earlier
+      ps ← field_patterns env inside (option_map_or (λ v. v) (variant_at items t.adt t.variant) no_variant) fields
+          earlier
       pure (ps.0, ps.1, are_given_once ps.2 && (dots || all_given (length tys) ps.2), are_known ps.2))
   pattern_form env e ty at (ParensPattern inside) earlier = pattern env e ty inside earlier
   pattern_form env e ty at (TuplePattern parts dots) earlier = do

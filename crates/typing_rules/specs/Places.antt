@@ -62,7 +62,8 @@ coerced items _ _ = Differs
 abbrev pub fit : ItemTable → TyId → TyId → Fit
 fit items want ty =
     if fits items want ty then Fits
-    else coerced items (option_and_then (trait_of items) (boxed_of items want)) (option_and_then (adt_of items) (boxed_of items ty))
+    else coerced items (option_and_then (trait_of items) (boxed_of items want)) (option_and_then (adt_of items)
+    (boxed_of items ty))
 
 -- required by nothing, or equal to what is required, or `!`
 abbrev pub agrees : ItemTable → Option TyId → TyId → Bool
@@ -79,7 +80,8 @@ abbrev pub is_any : ℕ → List ℕ → Bool
 is_any key keys = list_any (λ k. key == k) keys
 
 abbrev mutual
-  -- moving out of the place is refused: it is behind a reference, an element, in a type with a `Drop` impl, or a binding
+  -- moving out of the place is refused: it is behind a reference, an element, in a type with a `Drop` impl, or a
+  -- binding
   -- inside its own guard
   pub is_fixed : ItemTable → List ℕ → Node → Bool
   is_fixed items in_guard (node id at ty by form) = is_fixed_form items in_guard form
@@ -162,7 +164,8 @@ part_with tys n = option_map (λ ty. (n, ty)) (slice_get tys n)
 abbrev pub struct_field : Word → Member (ℕ × TyId)
 struct_field name items ty =
     option_and_then (λ adt. if is_enum items adt then None else
-    option_and_then (λ v. option_and_then (part_with v.fields) (field_named v name)) (variant_at items adt 0)) (adt_of items ty)
+    option_and_then (λ v. option_and_then (part_with v.fields) (field_named v name)) (variant_at items adt 0))
+    (adt_of items ty)
 
 -- a part of a tuple or of a struct by its number
 abbrev either_part : Option (ℕ × TyId) → Option (ℕ × TyId) → Option (ℕ × TyId)

@@ -137,8 +137,10 @@ is_called_drop name = bytes_eq name (codes "drop")
 abbrev has_head : ItemTable → Option Named → Word → Word → Syns → Bool
 has_head items None owner name params = not (is_called_drop name)
 has_head items (Some trait_) owner name params =
-    if is_drop trait_.1 then is_called_drop name && (takes_unique params && is_drop_sig items (body_head items owner name))
-    else not (is_called_drop name) && (takes_reference params && is_same_head items (trait_method items trait_.1 name) (body_head items owner name))
+    if is_drop trait_.1 then is_called_drop name && (takes_unique params && is_drop_sig items (body_head items owner
+    name))
+    else not (is_called_drop name) && (takes_reference params && is_same_head items (trait_method items trait_.1
+    name) (body_head items owner name))
 
 -- the methods that a type has had so far
 abbrev Seen : Type 0
@@ -169,7 +171,8 @@ abbrev asked_for : ItemTable → Option Named → List Word
 asked_for items None = []
 asked_for items (Some trait_) =
     if is_drop trait_.1 then codes "drop" ∷ []
-    else option_map_or (λ def. map (λ m. m.name) def.methods) (option_and_then (slice_get items.traits) (trait_named items trait_.1)) []
+    else option_map_or (λ def. map (λ m. m.name) def.methods) (option_and_then (slice_get items.traits) (trait_named
+    items trait_.1)) []
 
 abbrev has_all : List Word → List Word → Bool
 has_all names given = list_all (λ n. is_among n given) names
@@ -217,7 +220,8 @@ item_rules env before (syn at (TraitItem name heads)) = do
 item_rules env before (syn at (ImplItem trait_ name methods)) = do
   items ← the_items
   seen ← method_heads (in_impl env (adt_named items name.1)) trait_ name.1 before.methods (list_of methods)
-  obeys Rule.T11 at (not (is_repeated trait_ name.1 before.impls) && has_all (asked_for items trait_) (method_names methods))
+  obeys Rule.T11 at (not (is_repeated trait_ name.1 before.impls) && has_all (asked_for items trait_) (method_names
+      methods))
   pure (record { methods = seen; impls = with_impl trait_ name.1 before.impls })
 item_rules env before (syn at (FnItem name params answer block)) = do
   head_rules env params answer

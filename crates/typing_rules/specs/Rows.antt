@@ -108,7 +108,8 @@ taken env want place = do
   items ← the_items
   let ty = ty_of place
   n ← fitted want (used (taking items ty) place)
-  obeys Rule.T07 (place_in_text place) (is_copy items ty || not (is_fixed items (in_own_guard env.variables) place || is_dyn items ty))
+  obeys Rule.T07 (place_in_text place) (is_copy items ty || not (is_fixed items (in_own_guard env.variables) place ||
+      is_dyn items ty))
   obeys Rule.T08 (place_in_text place) (not (is_reference items ty))
   pure n
 
@@ -367,7 +368,8 @@ with_self env at id base method count args want (self ∷ params) = do
 -- a function of the type that has no `self` is no method of a value
 abbrev takes_self : ItemTable → TyId → List TyId → Bool
 takes_self items own [] = false
-takes_self items own (self ∷ params) = is_same self own || option_map_or (λ r. is_same r.1 own) (reference_of items self) false
+takes_self items own (self ∷ params) =
+    is_same self own || option_map_or (λ r. is_same r.1 own) (reference_of items self) false
 
 abbrev with_method : Env → Pos → ℕ → Node → Option Method → ℕ → (List TyId → Check Nodes) → Option TyId → Check Node
 with_method env at id base None count args want = args [] >> breaks Rule.T12 at
@@ -377,7 +379,8 @@ with_method env at id base (Some method) count args want = do
       with_self env at id base method count args want (head_of method).params
       else (args [] >> breaks Rule.T12 at)
 
-abbrev pub method_call : Env → Pos → (ItemTable → TyId → Option Method) → ℕ → Check Node → (List TyId → Check Nodes) → Typer
+abbrev pub method_call : Env → Pos → (ItemTable → TyId → Option Method) → ℕ → Check Node → (List TyId → Check Nodes)
+    → Typer
 method_call env at named count receiver args want = do
   id ← number
   base ← receiver
@@ -501,7 +504,8 @@ struct_row at adt variant types fields want = do
 
 -- parts, each with its type; where a tuple of as many is required, its parts are
 abbrev pub parts_wanted : ItemTable → ℕ → Option TyId → List (Option TyId)
-parts_wanted items count want = option_map_or (λ tys. if length tys == count then map Some tys else []) (option_and_then (tuple_of items) want) []
+parts_wanted items count want =
+    option_map_or (λ tys. if length tys == count then map Some tys else []) (option_and_then (tuple_of items) want) []
 
 abbrev pub tuple_row : Pos → ℕ → (List (Option TyId) → Check (Nodes × List TyId)) → Typer
 tuple_row at count parts want = do
@@ -648,7 +652,8 @@ while_row at label c body want = do
   b ← body (loop_around label id false None) (Some unit)
   settled want (a_node_of id at unit (tree.While n b))
 
-abbrev pub while_let_row : Env → Pos → Option Word → (Around → Check Node) → Matcher → (Around → List Entry → Typer) → Typer
+abbrev pub while_let_row : Env → Pos → Option Word → (Around → Check Node) → Matcher → (Around → List Entry → Typer)
+    → Typer
 while_let_row env at label scrutinee pattern body want = do
   id ← number
   s ← scrutinised (scrutinee (loop_around label id false None))
@@ -699,7 +704,8 @@ return_row at answer value want = do
 
 -- ---- statements
 
--- the initialiser of a pattern with parts: a place that is taken apart where it stands, unless it is coerced; or a value
+-- the initialiser of a pattern with parts: a place that is taken apart where it stands, unless it is coerced; or a
+-- value
 abbrev as_part : Env → Option TyId → Node → Fit → Check Node
 as_part env want place Fits = no_reference place
 as_part env want place how = taken env want place

@@ -26,7 +26,8 @@ pub record Around : Type 0 where
   pub has_value : Bool
   pub want : Option TyId
 
--- where an expression stands: the names of structs and enums, and of traits, as they are numbered; how the parts of each
+-- where an expression stands: the names of structs and enums, and of traits, as they are numbered; how the parts of
+-- each
 -- variant of each struct and enum are written; the struct or enum that `Self` is; variables, the youngest first; loops,
 -- the innermost first; the result of the body
 pub record Env : Type 0 where

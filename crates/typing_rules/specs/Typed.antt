@@ -199,7 +199,8 @@ is_expression _ = true
 abbrev mutual
   -- an expression whose value is used
   pub typed : Env → Syn → Typer
-  typed env (syn at form) want = if is_place env form then place env at form >>= taken env want else value env at form want
+  typed env (syn at form) want =
+      if is_place env form then place env at form >>= taken env want else value env at form want
 
   -- an expression whose place is gone through: a place, or a value that becomes a temporary
   pub base_of : Env → Syn → Check Node
@@ -222,15 +223,18 @@ abbrev mutual
   value env at (Minus operand) = minus at (literal_in operand) (typed env operand)
   value env at (Bang operand) = rows.not_row at (typed env operand)
   value env at (Ampersand unique base) = λ want. base_of env base >>= no_reference >> breaks Rule.T08 at
-  value env at (Calculate operator left right) = rows.arithmetic at operator (is_plain left) (typed env left) (typed env right)
-  value env at (Compare operator left right) = rows.comparison at operator (is_plain left) (typed env left) (typed env right)
+  value env at (Calculate operator left right) =
+      rows.arithmetic at operator (is_plain left) (typed env left) (typed env right)
+  value env at (Compare operator left right) =
+      rows.comparison at operator (is_plain left) (typed env left) (typed env right)
   value env at (Both left right) = rows.logic at tree.And (typed env left) (typed env right)
   value env at (Either left right) = rows.logic at tree.Or (typed env left) (typed env right)
   value env at (Store left right) = rows.store env at (base_of env left) (typed env right)
   value env at (CallOf callee args) =
       called env at callee (count_of args) (typed env callee None) (λ params. typed_args env params args)
   value env at (MethodOf receiver name args) =
-      rows.method_call env at (method_named name) (count_of args) (base_of env receiver) (λ params. typed_args env params args)
+      rows.method_call env at (method_named name) (count_of args) (base_of env receiver) (λ params. typed_args env
+      params args)
   value env at (StructOf first second inits) = struct_of env at first second (λ v. typed_inits env v inits)
   value env at (TupleOf parts) = tuple at parts (λ wants. typed_parts env wants parts)
   value env at (ArrayOf elements) = rows.array_row at (count_of elements) (λ want. typed_elements env want elements)
@@ -240,11 +244,14 @@ abbrev mutual
   value env at (IfLetElse p scrutinee body nothing) =
       rows.if_let_alone env at (base_of env scrutinee) (matcher env p) (λ xs. typed (with_variables xs env) body)
   value env at (IfLetElse p scrutinee body (just otherwise)) =
-      rows.if_let_else env at (base_of env scrutinee) (matcher env p) (λ xs. typed (with_variables xs env) body) (typed env otherwise)
-  value env at (MatchOn scrutinee arms) = rows.match_row env at (base_of env scrutinee) (λ e ty want. typed_arms env e ty want arms)
+      rows.if_let_else env at (base_of env scrutinee) (matcher env p) (λ xs. typed (with_variables xs env) body)
+      (typed env otherwise)
+  value env at (MatchOn scrutinee arms) =
+      rows.match_row env at (base_of env scrutinee) (λ e ty want. typed_arms env e ty want arms)
   value env at (LoopOf label body) = rows.loop_row at label (λ around. typed (within_loop around env) body)
   value env at (WhileOf label c body) =
-      rows.while_row at label (λ around. typed (within_loop around env) c) (λ around. typed (within_loop around env) body)
+      rows.while_row at label (λ around. typed (within_loop around env) c) (λ around. typed (within_loop around env)
+      body)
   value env at (WhileLetOf label p scrutinee body) =
       rows.while_let_row env at label (λ around. base_of (within_loop around env) scrutinee) (matcher env p)
       (λ around xs. typed (with_variables xs (within_loop around env)) body)
@@ -259,7 +266,8 @@ abbrev mutual
   typed_maybe env nothing want = pure absent
   typed_maybe env (just e) want = present <$> typed env e want
 
-  -- statements, whether one of them has an expression or initialiser of type `!`, and where the rest of the block stands
+  -- statements, whether one of them has an expression or initialiser of type `!`, and where the rest of the block
+  -- stands
   typed_all : Env → Syns → Check (Nodes × Bool × Env)
   typed_all env no_syn = pure (no_node, false, env)
   typed_all env (a_syn first rest) = do
@@ -269,13 +277,15 @@ abbrev mutual
 
   statement : Env → Syn → Check (Option Node × Bool × Env)
   statement env (syn at form) =
-      if is_expression form then a_statement <$> rows.evaluate at env false (λ want. if is_place env form then place env at form >>= taken env want else value env at form want)
+      if is_expression form then a_statement <$> rows.evaluate at env false (λ want. if is_place env form then place
+      env at form >>= taken env want else value env at form want)
       else other_statement env at form
 
   other_statement : Env → Pos → Shape → Check (Option Node × Bool × Env)
   other_statement env at (LetOf p ty initialiser) = do
     items ← the_items
-    n ← rows.let_row at env (is_one_name items p) (declared env ty) (initialised env (is_one_name items p) initialiser) (matcher env p) (λ xs. with_variables xs env)
+    n ← rows.let_row at env (is_one_name items p) (declared env ty) (initialised env (is_one_name items p)
+        initialiser) (matcher env p) (λ xs. with_variables xs env)
     pure (a_statement n)
   other_statement env at (Semi e) = a_statement <$> rows.evaluate at env true (typed env e)
   other_statement env at _ = pure (None, false, env)
@@ -283,10 +293,12 @@ abbrev mutual
   -- one name takes the value; another pattern takes the place apart, or a temporary
   initialised : Env → Bool → MaybeSyn → Option TyId → Check MaybeNode
   initialised env is_one_name nothing want = pure absent
-  initialised env is_one_name (just e) want = present <$> (if is_one_name then typed env e want else for_parts env want e)
+  initialised env is_one_name (just e) want =
+      present <$> (if is_one_name then typed env e want else for_parts env want e)
 
   for_parts : Env → Option TyId → Syn → Check Node
-  for_parts env want (syn at form) = if is_place env form then place env at form >>= rows.place_for_parts env want else value env at form want
+  for_parts env want (syn at form) =
+      if is_place env form then place env at form >>= rows.place_for_parts env want else value env at form want
 
   typed_args : Env → List TyId → Syns → Check Nodes
   typed_args env params no_syn = pure no_node
@@ -339,7 +351,8 @@ abbrev mutual
   typed_arms : Env → Expected → TyId → Option TyId → Syns → Check (Nodes × List TyId)
   typed_arms env e ty want no_syn = pure (no_node, [])
   typed_arms env e ty want (a_syn (syn at (ArmOf p guard body)) rest) = do
-    n ← rows.arm (pattern env e ty p []) (λ xs. typed_maybe (with_variables (in_guard xs) env) guard (Some bool)) (λ xs. typed (with_variables xs env) body) want
+    n ← rows.arm (pattern env e ty p []) (λ xs. typed_maybe (with_variables (in_guard xs) env) guard (Some bool)) (λ
+        xs. typed (with_variables xs env) body) want
     ns ← typed_arms env e ty want rest
     pure (a_node n ns.0, ty_of n ∷ ns.1)
   typed_arms env e ty want (a_syn (syn at form) rest) = breaks Rule.T20 at

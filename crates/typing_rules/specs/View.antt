@@ -1,4 +1,5 @@
--- From the rows of the grammar to the forms: one line a row. A row is its tokens and its nodes, each in their order; the
+-- From the rows of the grammar to the forms: one line a row. A row is its tokens and its nodes, each in their order;
+-- the
 -- tokens tell which of its parts are there.
 use Rattle.std.specs.Prelude.{ℕ, Bool, true, false, ◌||◌, List, [], ◌∷◌, Option, Some, None, if◌then◌else◌, codes}
 use Rattle.std.specs.List.{list_any}
@@ -209,7 +210,8 @@ is_type _ = false
 
 -- one part without a comma is the part in parentheses
 abbrev round : (Syn → Shape) → (Syns → Shape) → List Token → Syns → Shape
-round one many ts (a_syn first no_syn) = if has_mark Mark.Comma ts || has_mark Mark.DotDot ts then many (a_syn first no_syn) else one first
+round one many ts (a_syn first no_syn) =
+    if has_mark Mark.Comma ts || has_mark Mark.DotDot ts then many (a_syn first no_syn) else one first
 round one many ts ss = many ss
 
 abbrev prefix : List Token → Syn → Shape
@@ -254,10 +256,14 @@ let_row false has_value p ss = LetOf p nothing (first_of ss)
 
 -- what stands behind the parameters: a type where there is an arrow, and a block
 abbrev behind_params : Bool → (Syns → MaybeSyn → Syn → Shape) → Syns → Shape
-behind_params has_answer f ss = from_just (λ block. if has_answer then f (but_last (but_last ss)) (last_of (but_last ss)) block else f (but_last ss) nothing block) (last_of ss)
+behind_params has_answer f ss =
+    from_just (λ block. if has_answer then f (but_last (but_last ss)) (last_of (but_last ss)) block else f (but_last
+    ss) nothing block) (last_of ss)
 
 abbrev fn_row : Bool → Bool → Syns → Shape
-fn_row has_answer true ss = with_first (λ name rest. behind_params has_answer (λ params answer block. FnItem (named name) params answer (just block)) rest) ss
+fn_row has_answer true ss =
+    with_first (λ name rest. behind_params has_answer (λ params answer block. FnItem (named name) params answer (just
+    block)) rest) ss
 fn_row true false ss = with_first (λ name rest. FnItem (named name) (but_last rest) (last_of rest) nothing) ss
 fn_row false false ss = with_first (λ name rest. FnItem (named name) rest nothing nothing) ss
 
@@ -268,7 +274,8 @@ syns_of (n ∷ ns) = a_syn (syn n.0 (Ident n.1)) (syns_of ns)
 
 abbrev closure_row : Bool → Syns → Shape
 closure_row has_answer ss =
-    behind_params has_answer (λ params answer block. MoveOf (syns_of (idents ss)) params answer block) (behind_idents ss)
+    behind_params has_answer (λ params answer block. MoveOf (syns_of (idents ss)) params answer block) (behind_idents
+    ss)
 
 abbrev kind_by : Bool → Bool → Kind
 kind_by true parens = Fields_
@@ -285,14 +292,16 @@ impl_row _ _ methods = Odd
 
 abbrev self_row : List Token → Shape
 self_row ts =
-    if has_mark Mark.And ts then SelfParam (if has_word Keyword.Mut ts then ByUnique else ByShared) else SelfParam ByValue
+    if has_mark Mark.And ts then SelfParam (if has_word Keyword.Mut ts then ByUnique else ByShared) else SelfParam
+    ByValue
 
 abbrev number_row : (ℕ × Option IntKind → Shape) → List Token → Shape
 number_row f ts = f (a_number ts)
 
 abbrev pub made : Row → List Token → Syns → Shape
 made Row.Struct ts ss =
-    with_last_name (λ derives name. StructItem derives name (kind_of (behind_word Keyword.Struct ts)) (behind_idents ss)) (idents ss)
+    with_last_name (λ derives name. StructItem derives name (kind_of (behind_word Keyword.Struct ts)) (behind_idents
+    ss)) (idents ss)
 made Row.Enum ts ss = with_last_name (λ derives name. EnumItem derives name (behind_idents ss)) (idents ss)
 made Row.Trait ts ss = with_first (λ name heads. TraitItem (named name) heads) ss
 made Row.Impl ts ss = impl_row (has_word Keyword.For ts) (idents ss) (behind_idents ss)
@@ -316,7 +325,8 @@ made Row.NumberPattern ts ss = number_row (λ n. LiteralPattern (has_mark Mark.M
 made Row.BoolPattern ts ss = TruthPattern (has_true ts)
 made Row.PathPattern ts ss = PathPattern (path_head ts) (path_tail ts ss)
 made Row.CallPattern ts ss = PartsPattern (path_head ts) (path_tail ts ss) (behind_path ts ss) (has_mark Mark.DotDot ts)
-made Row.StructPattern ts ss = FieldsPattern (path_head ts) (path_tail ts ss) (behind_path ts ss) (has_mark Mark.DotDot ts)
+made Row.StructPattern ts ss =
+    FieldsPattern (path_head ts) (path_tail ts ss) (behind_path ts ss) (has_mark Mark.DotDot ts)
 made Row.FieldPattern ts ss = FieldPattern (a_name ts) (first_of ss)
 made Row.TuplePattern ts ss = round ParensPattern (λ ps. TuplePattern ps (has_mark Mark.DotDot ts)) ts ss
 made Row.ArrayPattern ts ss = ArrayPattern ss (has_mark Mark.DotDot ts)

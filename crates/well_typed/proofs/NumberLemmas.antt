@@ -15,7 +15,8 @@ use Rattle.well_typed.proofs.ClaimLemmas.{true_left, true_right}
 pub rises : (ns : List ℕ) → IsTrue (do_rise ns) → IsStrictlyIncreasing ns
 rises [] h k below = absurd (omega (arith, below))
 rises (n ∷ []) h k below = absurd (omega (arith, below))
-rises (n ∷ m ∷ ns) h zero below = let less : IsTrue (nat_lt n m) = true_left (nat_lt n m) (do_rise (m ∷ ns)) h in grind (arith, less)
+rises (n ∷ m ∷ ns) h zero below =
+    let less : IsTrue (nat_lt n m) = true_left (nat_lt n m) (do_rise (m ∷ ns)) h in grind (arith, less)
 rises (n ∷ m ∷ ns) h (suc k) below =
     let next : suc k + 1 ≡ suc (k + 1) = omega arith in
     let within : k + 1 < length (m ∷ ns) = omega (arith, below) in
@@ -23,13 +24,17 @@ rises (n ∷ m ∷ ns) h (suc k) below =
     rises (m ∷ ns) (true_right (nat_lt n m) (do_rise (m ∷ ns)) h) k within in
     subst (λ j. slice_index (n ∷ m ∷ ns) (suc k) < slice_index (n ∷ m ∷ ns) j) (sym next) later
 
-pub bodies_rise : (items : ItemTable) (n : ℕ) (sigs : List Sig) (bodies : List BodyTree) → Holds (are_bodies items n sigs bodies) → All IsNumberedInOrder bodies
+pub bodies_rise : (items : ItemTable) (n : ℕ) (sigs : List Sig) (bodies : List BodyTree) → Holds (are_bodies items n
+    sigs bodies) → All IsNumberedInOrder bodies
 bodies_rise items n [] [] h = All-nil IsNumberedInOrder
 bodies_rise items n (sig ∷ sigs) [] h = absurd (cc)
 bodies_rise items n [] (body ∷ bodies) h = absurd (cc)
 bodies_rise items n (sig ∷ sigs) (body ∷ bodies) h =
-    All-cons IsNumberedInOrder body bodies (rises (numbers_of body) h.0.1.1.1.0) (bodies_rise items (suc n) sigs bodies h.1)
+    All-cons IsNumberedInOrder body bodies (rises (numbers_of body) h.0.1.1.1.0) (bodies_rise items (suc n) sigs
+    bodies h.1)
 
-pub numbers_differ : (p : ProgramTree) (body : BodyTree) → WellTyped p → Contains p.bodies body → HasDistinctNumbers body
+pub numbers_differ : (p : ProgramTree) (body : BodyTree) → WellTyped p → Contains p.bodies body → HasDistinctNumbers
+    body
 numbers_differ p body h has =
-    distinct_in_order body (All-contains IsNumberedInOrder p.bodies body (bodies_rise p.items 0 p.items.bodies p.bodies h.1) has)
+    distinct_in_order body (All-contains IsNumberedInOrder p.bodies body (bodies_rise p.items 0 p.items.bodies
+    p.bodies h.1) has)

@@ -192,7 +192,8 @@ module _ (items : ItemTable) where
 
   abbrev begins_with_closure : ℕ → List TyId → Bool
   begins_with_closure n [] = false
-  begins_with_closure n (ty ∷ tys) = option_map_or (λ m. m == n) (closure_of items ty) false && list_all stands_alone tys
+  begins_with_closure n (ty ∷ tys) =
+      option_map_or (λ m. m == n) (closure_of items ty) false && list_all stands_alone tys
 
   abbrev is_closure : ℕ → ClosureDef → Claim
   is_closure n def =
@@ -203,7 +204,8 @@ module _ (items : ItemTable) where
   is_main sig = bytes_eq sig.name (codes "main") && (length sig.params == 0 && is_unit items sig.result)
 
   abbrev item_names : List (List ℕ)
-  item_names = map (λ adt. adt.name) items.adts ++ map (λ def. def.name) items.traits ++ map (λ sig. sig.name) items.bodies
+  item_names =
+      map (λ adt. adt.name) items.adts ++ map (λ def. def.name) items.traits ++ map (λ sig. sig.name) items.bodies
 
   abbrev is_item_name : List ℕ → Bool
   is_item_name name = is_word name && not (is_among name built_in)

@@ -151,10 +151,12 @@ abbrev mutual
       typed c Base base & fact (has_fields c.items (ty_of base)) &
       some (field_ty c.items (ty_of base) 0 part) (λ t. fact (is_same ty t))
   row c id ty (Index base index count) =
-      typed c Base base & typed c Taken index & fact (is_usize c.items (ty_of index) || is_never c.items (ty_of index)) &
+      typed c Base base & typed c Taken index & fact (is_usize c.items (ty_of index) || is_never c.items (ty_of
+      index)) &
       some (array_of c.items (ty_of base)) (λ a. fact (is_same ty a.0 && count == a.1))
   row c id ty (Deref base) = typed c Base base & some (inside_of c.items (ty_of base)) (λ t. fact (is_same ty t))
-  row c id ty (Not operand) = typed c Taken operand & fact (fits_bool c.items (ty_of operand)) & fact (is_bool c.items ty)
+  row c id ty (Not operand) =
+      typed c Taken operand & fact (fits_bool c.items (ty_of operand)) & fact (is_bool c.items ty)
   row c id ty (Negate operand) = typed c Taken operand & fact (is_same ty (ty_of operand)) & fact (is_signed c.items ty)
   row c id ty (Arithmetic operator left right) =
       typed c (Wanted ty) left & typed c (Wanted ty) right & fact (is_int c.items ty) &
@@ -180,10 +182,12 @@ abbrev mutual
       fact (not (is_drop_body c.items body) && not (is_closure_body c.items body))
   row c id ty (VirtualCall trait_no method receiver args) =
       some (slice_get c.items.traits trait_no) (λ def. some (slice_get def.methods method) (λ sig.
-      fact (is_same ty sig.result) & first_and_rest (λ t. typed c (Passed t) receiver) (λ ts. arguments c ts args) sig.params))
+      fact (is_same ty sig.result) & first_and_rest (λ t. typed c (Passed t) receiver) (λ ts. arguments c ts args)
+      sig.params))
   row c id ty (ClosureCall body callee args) =
       some (slice_get c.items.bodies body) (λ sig. fact (is_same ty sig.result) &
-      first_and_rest (λ t. typed c (Passed t) callee) (λ ts. arguments c ts args) sig.params) & fact (is_closure_body c.items body)
+      first_and_rest (λ t. typed c (Passed t) callee) (λ ts. arguments c ts args) sig.params) & fact (is_closure_body
+      c.items body)
   row c id ty (Make adt variant fields) =
       fact (option_map_or (λ n. n == adt) (adt_of c.items ty) false) &
       some (variant_at c.items adt variant) (λ v.
@@ -218,10 +222,12 @@ abbrev mutual
       typed c Taken condition & fact (fits_bool c.items (ty_of condition)) & typed c Taken body &
       typed c Taken otherwise & fact (is_common c.items ty (ty_of body ∷ ty_of otherwise ∷ []))
   row c id ty (IfLet p scrutinee body absent) =
-      typed c (Used Use.Borrow) scrutinee & of_scrutinee c p scrutinee & typed (with_entries (entries_of p) c) Taken body &
+      typed c (Used Use.Borrow) scrutinee & of_scrutinee c p scrutinee & typed (with_entries (entries_of p) c) Taken
+      body &
       fact (fits_unit c.items (ty_of body)) & fact (is_unit c.items ty)
   row c id ty (IfLet p scrutinee body (present otherwise)) =
-      typed c (Used Use.Borrow) scrutinee & of_scrutinee c p scrutinee & typed (with_entries (entries_of p) c) Taken body & typed c Taken otherwise &
+      typed c (Used Use.Borrow) scrutinee & of_scrutinee c p scrutinee & typed (with_entries (entries_of p) c) Taken
+      body & typed c Taken otherwise &
       fact (is_common c.items ty (ty_of body ∷ ty_of otherwise ∷ []))
   row c id ty (Match scrutinee arms) =
       typed c (Used Use.Borrow) scrutinee &
@@ -301,7 +307,8 @@ abbrev mutual
   statements : Context → Nodes → (Context → Claim) → Claim
   statements c no_node behind = behind c
   statements c (a_node (node id at ty by form) rest) behind =
-      fact (is_none by && is_unit c.items ty) & statement c form & statements (with_entries (entries_in form) c) rest behind
+      fact (is_none by && is_unit c.items ty) & statement c form & statements (with_entries (entries_in form) c) rest
+      behind
 
   statement : Context → Form → Claim
   statement c (Let p absent) =

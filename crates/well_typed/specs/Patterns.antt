@@ -79,14 +79,16 @@ module _ (items : ItemTable) where
     pattern_row m ty by (TruthPattern value) = fact (is_by Use.Test by && not m.takes_all) & fact (is_bool items ty)
     pattern_row m ty by (StructPattern fields) =
         fact (is_none by) & some (adt_of items ty) (λ n. fact (not (is_enum items n))) &
-        fact (are_distinct_numbers (field_numbers fields)) & field_patterns (within (has_drop_impl items ty) m) ty 0 fields
+        fact (are_distinct_numbers (field_numbers fields)) & field_patterns (within (has_drop_impl items ty) m) ty 0
+        fields
     pattern_row m ty by (VariantPattern variant is_test fields) =
         fact (is_test_by is_test by && not (is_test && m.takes_all)) &
         some (adt_of items ty) (λ n. fact (is_enum items n && nat_lt variant (variant_count n)) &
         fact (is_same_truth is_test (nat_lt 1 (variant_count n)))) &
         fact (are_distinct_numbers (field_numbers fields)) &
         field_patterns (within (has_drop_impl items ty) m) ty variant fields
-    pattern_row m ty by (TuplePattern parts) = fact (is_none by) & some (tuple_types items ty) (λ tys. part_patterns m tys parts)
+    pattern_row m ty by (TuplePattern parts) =
+        fact (is_none by) & some (tuple_types items ty) (λ tys. part_patterns m tys parts)
     pattern_row m ty by (ArrayPattern elements) =
         fact (is_none by) & some (array_of items ty) (λ a. part_patterns m (replicate a.1 a.0) elements)
     pattern_row m ty by (OrPattern alternatives) =

@@ -126,7 +126,8 @@ names_shared None = false
 names_shared (Some r) = not r.0
 
 module _ (c : Context) where
-  -- A place may be moved out of: it is not behind a reference, no element, in no type with a `Drop` impl, and no binding
+  -- A place may be moved out of: it is not behind a reference, no element, in no type with a `Drop` impl, and no
+  -- binding
   -- inside its own guard. What is no place is a temporary.
   abbrev mutual
     pub may_move : Node → Bool

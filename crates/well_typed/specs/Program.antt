@@ -61,7 +61,8 @@ around items closure params answer =
 -- in the body of a closure the first parameter is the closure's value, whose parts the captured names are
 abbrev is_inside : ItemTable → Option ClosureDef → BodyTree → List ParamTree → Claim
 is_inside items None body params =
-    typed (around items None params body.answer) (Wanted body.answer) body.block & fact (are_distinct (param_names params))
+    typed (around items None params body.answer) (Wanted body.answer) body.block & fact (are_distinct (param_names
+    params))
 is_inside items (Some def) body [] = fact false
 is_inside items (Some def) body (self ∷ params) =
     typed (around items (Some (closure_value self)) params body.answer) (Wanted body.answer) body.block &
