@@ -55,7 +55,7 @@ bind at e ty name earlier = do
   items ← the_items
   obeys Rule.T02 at (not (is_some (variable earlier name)))
   obeys Rule.T07 at (is_copy items ty || not (e.is_fixed || is_dyn items ty))
-  let entry = record { name = name; ty = ty; meaning = Local id }
+  let entry : Entry = record { name = name; ty = ty; meaning = Local id }
   pure (used (taking items ty) (a_node_of id at ty (tree.Binding name)), earlier ++ entry ∷ [])
 
 -- ---- structs and variants
