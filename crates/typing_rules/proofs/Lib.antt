@@ -1,3 +1,3 @@
-mod Accepted
+pub mod Accepted
 mod Refusals
 pub mod Words
