@@ -181,16 +181,6 @@ part_of_self = lines (
 part_of_self_stands : stands part_of_self ≡ true
 part_of_self_stands = refl
 
-abbrev pub replaced_self : List ℕ
-replaced_self = lines (
-    codes "struct T(i32);" ∷
-    codes "impl Drop for T { fn drop(&mut self) { *self = T(0); } }" ∷
-    codes "fn main() {}" ∷
-    [])
-
-replaced_self_stands : stands replaced_self ≡ true
-replaced_self_stands = refl
-
 abbrev pub job_queue : List ℕ
 job_queue = lines (
     codes "struct Buf(i32);" ∷
@@ -328,18 +318,6 @@ sum_ = lines (
 
 sum_stands : stands sum_ ≡ true
 sum_stands = refl
-
-abbrev pub two_borrows : List ℕ
-two_borrows = lines (
-    codes "struct D(i32);" ∷
-    codes "impl Drop for D { fn drop(&mut self) {} }" ∷
-    codes "fn take(x: D) {}" ∷
-    codes "fn two(a: &mut D, b: &D) {}" ∷
-    codes "fn main() { let mut x = D(1); two(&mut x, &x); }" ∷
-    [])
-
-two_borrows_stands : stands two_borrows ≡ true
-two_borrows_stands = refl
 
 abbrev pub into_a_part : List ℕ
 into_a_part = lines (

@@ -1546,6 +1546,417 @@ t19_8_stands : stands (text (
     codes "V51, V52, V53, V54, V55, V56, V57, V58, V59, V60, V61, V62, V63 } fn main() {}" ∷ [])) ≡ true
 t19_8_stands = refl
 
+t14_1 : outcome (text (
+    codes "struct D(i32); impl Drop for D { fn drop(&mut self) {} } fn take(x: D) {} fn look(r:" ∷
+    codes "&D) {} fn change(r: &mut D) {}" ∷
+    codes "fn two(a: &mut D, b: &D) {} fn both(a: &D, b: &D) {} fn three(a: &D, b: &mut D) {} fn" ∷
+    codes "with(a: &D, n: i32) {} fn wmut(a: &mut D, n: i32) {} fn mv(a: &D, d: D) {}" ∷
+    codes "fn main() { let mut x = D(1); two(&mut x, &x); }" ∷ []))
+    ≡ Refused Rule.T14 (place 5 43)
+t14_1 = refl
+
+t14_1_stands : stands (text (
+    codes "struct D(i32); impl Drop for D { fn drop(&mut self) {} } fn take(x: D) {} fn look(r:" ∷
+    codes "&D) {} fn change(r: &mut D) {}" ∷
+    codes "fn two(a: &mut D, b: &D) {} fn both(a: &D, b: &D) {} fn three(a: &D, b: &mut D) {} fn" ∷
+    codes "with(a: &D, n: i32) {} fn wmut(a: &mut D, n: i32) {} fn mv(a: &D, d: D) {}" ∷
+    codes "fn main() { let mut x = D(1); both(&x, &x); }" ∷ [])) ≡ true
+t14_1_stands = refl
+
+t14_2 : outcome (text (
+    codes "struct D(i32); impl Drop for D { fn drop(&mut self) {} } fn take(x: D) {} fn look(r:" ∷
+    codes "&D) {} fn change(r: &mut D) {}" ∷
+    codes "fn two(a: &mut D, b: &D) {} fn both(a: &D, b: &D) {} fn three(a: &D, b: &mut D) {} fn" ∷
+    codes "with(a: &D, n: i32) {} fn wmut(a: &mut D, n: i32) {} fn mv(a: &D, d: D) {}" ∷
+    codes "fn main() { let mut x = D(1); three(&x, &mut x); }" ∷ []))
+    ≡ Refused Rule.T14 (place 5 41)
+t14_2 = refl
+
+t14_2_stands : stands (text (
+    codes "struct D(i32); impl Drop for D { fn drop(&mut self) {} } fn take(x: D) {} fn look(r:" ∷
+    codes "&D) {} fn change(r: &mut D) {}" ∷
+    codes "fn two(a: &mut D, b: &D) {} fn both(a: &D, b: &D) {} fn three(a: &D, b: &mut D) {} fn" ∷
+    codes "with(a: &D, n: i32) {} fn wmut(a: &mut D, n: i32) {} fn mv(a: &D, d: D) {}" ∷
+    codes "fn main() { let mut x = D(1); let y = D(2); three(&y, &mut x); }" ∷ [])) ≡ true
+t14_2_stands = refl
+
+t14_3 : outcome (text (
+    codes "struct D(i32); impl Drop for D { fn drop(&mut self) {} } fn take(x: D) {} fn look(r:" ∷
+    codes "&D) {} fn change(r: &mut D) {}" ∷
+    codes "fn two(a: &mut D, b: &D) {} fn both(a: &D, b: &D) {} fn three(a: &D, b: &mut D) {} fn" ∷
+    codes "with(a: &D, n: i32) {} fn wmut(a: &mut D, n: i32) {} fn mv(a: &D, d: D) {}" ∷
+    codes "fn main() { let x = D(1); mv(&x, x); }" ∷ []))
+    ≡ Refused Rule.T14 (place 5 34)
+t14_3 = refl
+
+t14_3_stands : stands (text (
+    codes "struct D(i32); impl Drop for D { fn drop(&mut self) {} } fn take(x: D) {} fn look(r:" ∷
+    codes "&D) {} fn change(r: &mut D) {}" ∷
+    codes "fn two(a: &mut D, b: &D) {} fn both(a: &D, b: &D) {} fn three(a: &D, b: &mut D) {} fn" ∷
+    codes "with(a: &D, n: i32) {} fn wmut(a: &mut D, n: i32) {} fn mv(a: &D, d: D) {}" ∷
+    codes "fn main() { let x = D(1); mv(&x, D(2)); }" ∷ [])) ≡ true
+t14_3_stands = refl
+
+t14_4 : outcome (text (
+    codes "struct D(i32); impl Drop for D { fn drop(&mut self) {} } fn take(x: D) {} fn look(r:" ∷
+    codes "&D) {} fn change(r: &mut D) {}" ∷
+    codes "fn two(a: &mut D, b: &D) {} fn both(a: &D, b: &D) {} fn three(a: &D, b: &mut D) {} fn" ∷
+    codes "with(a: &D, n: i32) {} fn wmut(a: &mut D, n: i32) {} fn mv(a: &D, d: D) {}" ∷
+    codes "fn main() { let mut x = D(1); with(&x, { x = D(2); 1 }); }" ∷ []))
+    ≡ Refused Rule.T14 (place 5 42)
+t14_4 = refl
+
+t14_4_stands : stands (text (
+    codes "struct D(i32); impl Drop for D { fn drop(&mut self) {} } fn take(x: D) {} fn look(r:" ∷
+    codes "&D) {} fn change(r: &mut D) {}" ∷
+    codes "fn two(a: &mut D, b: &D) {} fn both(a: &D, b: &D) {} fn three(a: &D, b: &mut D) {} fn" ∷
+    codes "with(a: &D, n: i32) {} fn wmut(a: &mut D, n: i32) {} fn mv(a: &D, d: D) {}" ∷
+    codes "fn main() { let mut x = D(1); let mut y = 1; with(&x, { y = 2; 1 }); }" ∷ [])) ≡ true
+t14_4_stands = refl
+
+t14_5 : outcome (text (
+    codes "struct D(i32); impl Drop for D { fn drop(&mut self) {} } fn take(x: D) {} fn look(r:" ∷
+    codes "&D) {} fn change(r: &mut D) {}" ∷
+    codes "fn two(a: &mut D, b: &D) {} fn both(a: &D, b: &D) {} fn three(a: &D, b: &mut D) {} fn" ∷
+    codes "with(a: &D, n: i32) {} fn wmut(a: &mut D, n: i32) {} fn mv(a: &D, d: D) {}" ∷
+    codes "fn main() { let mut x = D(1); wmut(&mut x, x.0); }" ∷ []))
+    ≡ Refused Rule.T14 (place 5 44)
+t14_5 = refl
+
+t14_5_stands : stands (text (
+    codes "struct D(i32); impl Drop for D { fn drop(&mut self) {} } fn take(x: D) {} fn look(r:" ∷
+    codes "&D) {} fn change(r: &mut D) {}" ∷
+    codes "fn two(a: &mut D, b: &D) {} fn both(a: &D, b: &D) {} fn three(a: &D, b: &mut D) {} fn" ∷
+    codes "with(a: &D, n: i32) {} fn wmut(a: &mut D, n: i32) {} fn mv(a: &D, d: D) {}" ∷
+    codes "fn main() { let mut x = D(1); with(&x, x.0); }" ∷ [])) ≡ true
+t14_5_stands = refl
+
+t14_6 : outcome (text (
+    codes "struct D(i32); impl Drop for D { fn drop(&mut self) {} } fn take(x: D) {} fn look(r:" ∷
+    codes "&D) {} fn change(r: &mut D) {}" ∷
+    codes "fn two(a: &mut D, b: &D) {} fn both(a: &D, b: &D) {} fn three(a: &D, b: &mut D) {} fn" ∷
+    codes "with(a: &D, n: i32) {} fn wmut(a: &mut D, n: i32) {} fn mv(a: &D, d: D) {}" ∷
+    codes "fn main() { let mut x = D(1); wmut(&mut x, { look(&x); 1 }); }" ∷ []))
+    ≡ Refused Rule.T14 (place 5 51)
+t14_6 = refl
+
+t14_6_stands : stands (text (
+    codes "struct D(i32); impl Drop for D { fn drop(&mut self) {} } fn take(x: D) {} fn look(r:" ∷
+    codes "&D) {} fn change(r: &mut D) {}" ∷
+    codes "fn two(a: &mut D, b: &D) {} fn both(a: &D, b: &D) {} fn three(a: &D, b: &mut D) {} fn" ∷
+    codes "with(a: &D, n: i32) {} fn wmut(a: &mut D, n: i32) {} fn mv(a: &D, d: D) {}" ∷
+    codes "fn main() { let mut x = D(1); with(&x, { look(&x); 1 }); }" ∷ [])) ≡ true
+t14_6_stands = refl
+
+t14_7 : outcome (text (
+    codes "struct D(i32); impl Drop for D { fn drop(&mut self) {} } fn take(x: D) {} fn look(r:" ∷
+    codes "&D) {} fn change(r: &mut D) {}" ∷
+    codes "fn two(a: &mut D, b: &D) {} fn both(a: &D, b: &D) {} fn three(a: &D, b: &mut D) {} fn" ∷
+    codes "with(a: &D, n: i32) {} fn wmut(a: &mut D, n: i32) {} fn mv(a: &D, d: D) {}" ∷
+    codes "fn main() { let mut x = D(1); wmut(&mut x, match x { _ => 1 }); }" ∷ []))
+    ≡ Refused Rule.T14 (place 5 50)
+t14_7 = refl
+
+t14_7_stands : stands (text (
+    codes "struct D(i32); impl Drop for D { fn drop(&mut self) {} } fn take(x: D) {} fn look(r:" ∷
+    codes "&D) {} fn change(r: &mut D) {}" ∷
+    codes "fn two(a: &mut D, b: &D) {} fn both(a: &D, b: &D) {} fn three(a: &D, b: &mut D) {} fn" ∷
+    codes "with(a: &D, n: i32) {} fn wmut(a: &mut D, n: i32) {} fn mv(a: &D, d: D) {}" ∷
+    codes "fn main() { let mut x = D(1); with(&x, match x { _ => 1 }); }" ∷ [])) ≡ true
+t14_7_stands = refl
+
+t14_8 : outcome (text (
+    codes "struct D(i32); impl Drop for D { fn drop(&mut self) {} } fn take(x: D) {} fn look(r:" ∷
+    codes "&D) {} fn change(r: &mut D) {}" ∷
+    codes "fn two(a: &mut D, b: &D) {} fn both(a: &D, b: &D) {} fn three(a: &D, b: &mut D) {} fn" ∷
+    codes "with(a: &D, n: i32) {} fn wmut(a: &mut D, n: i32) {} fn mv(a: &D, d: D) {}" ∷
+    codes "fn main() { let mut t = (D(1), D(2)); two(&mut t.0, &t.0); }" ∷ []))
+    ≡ Refused Rule.T14 (place 5 53)
+t14_8 = refl
+
+t14_8_stands : stands (text (
+    codes "struct D(i32); impl Drop for D { fn drop(&mut self) {} } fn take(x: D) {} fn look(r:" ∷
+    codes "&D) {} fn change(r: &mut D) {}" ∷
+    codes "fn two(a: &mut D, b: &D) {} fn both(a: &D, b: &D) {} fn three(a: &D, b: &mut D) {} fn" ∷
+    codes "with(a: &D, n: i32) {} fn wmut(a: &mut D, n: i32) {} fn mv(a: &D, d: D) {}" ∷
+    codes "fn main() { let mut t = (D(1), D(2)); two(&mut t.0, &t.1); }" ∷ [])) ≡ true
+t14_8_stands = refl
+
+t14_9 : outcome (text (
+    codes "struct D(i32); impl Drop for D { fn drop(&mut self) {} } fn take(x: D) {} fn look(r:" ∷
+    codes "&D) {} fn change(r: &mut D) {}" ∷
+    codes "fn two(a: &mut D, b: &D) {} fn both(a: &D, b: &D) {} fn three(a: &D, b: &mut D) {} fn" ∷
+    codes "with(a: &D, n: i32) {} fn wmut(a: &mut D, n: i32) {} fn mv(a: &D, d: D) {}" ∷
+    codes "fn main() { let mut a = [D(1), D(2)]; two(&mut a[0], &a[1]); }" ∷ []))
+    ≡ Refused Rule.T14 (place 5 54)
+t14_9 = refl
+
+t14_9_stands : stands (text (
+    codes "struct D(i32); impl Drop for D { fn drop(&mut self) {} } fn take(x: D) {} fn look(r:" ∷
+    codes "&D) {} fn change(r: &mut D) {}" ∷
+    codes "fn two(a: &mut D, b: &D) {} fn both(a: &D, b: &D) {} fn three(a: &D, b: &mut D) {} fn" ∷
+    codes "with(a: &D, n: i32) {} fn wmut(a: &mut D, n: i32) {} fn mv(a: &D, d: D) {}" ∷
+    codes "fn main() { let mut a = [D(1)]; let b = [D(2)]; two(&mut a[0], &b[0]); }" ∷ [])) ≡ true
+t14_9_stands = refl
+
+t14_10 : outcome (text (
+    codes "struct D(i32); impl Drop for D { fn drop(&mut self) {} } fn take(x: D) {} fn look(r:" ∷
+    codes "&D) {} fn change(r: &mut D) {}" ∷
+    codes "fn two(a: &mut D, b: &D) {} fn both(a: &D, b: &D) {} fn three(a: &D, b: &mut D) {} fn" ∷
+    codes "with(a: &D, n: i32) {} fn wmut(a: &mut D, n: i32) {} fn mv(a: &D, d: D) {}" ∷
+    codes "fn f(r: &mut D) { two(r, r); } fn main() {}" ∷ []))
+    ≡ Refused Rule.T14 (place 5 26)
+t14_10 = refl
+
+t14_10_stands : stands (text (
+    codes "struct D(i32); impl Drop for D { fn drop(&mut self) {} } fn take(x: D) {} fn look(r:" ∷
+    codes "&D) {} fn change(r: &mut D) {}" ∷
+    codes "fn two(a: &mut D, b: &D) {} fn both(a: &D, b: &D) {} fn three(a: &D, b: &mut D) {} fn" ∷
+    codes "with(a: &D, n: i32) {} fn wmut(a: &mut D, n: i32) {} fn mv(a: &D, d: D) {}" ∷
+    codes "fn f(r: &mut D, s: &D) { two(r, s); both(r, r); } fn main() {}" ∷ [])) ≡ true
+t14_10_stands = refl
+
+t14_11 : outcome (text (
+    codes "struct D(i32); impl Drop for D { fn drop(&mut self) {} } fn take(x: D) {} fn look(r:" ∷
+    codes "&D) {} fn change(r: &mut D) {}" ∷
+    codes "fn two(a: &mut D, b: &D) {} fn both(a: &D, b: &D) {} fn three(a: &D, b: &mut D) {} fn" ∷
+    codes "with(a: &D, n: i32) {} fn wmut(a: &mut D, n: i32) {} fn mv(a: &D, d: D) {}" ∷
+    codes "fn f(r: &mut D) { wmut(r, r.0); } fn main() {}" ∷ []))
+    ≡ Refused Rule.T14 (place 5 27)
+t14_11 = refl
+
+t14_11_stands : stands (text (
+    codes "struct D(i32); impl Drop for D { fn drop(&mut self) {} } fn take(x: D) {} fn look(r:" ∷
+    codes "&D) {} fn change(r: &mut D) {}" ∷
+    codes "fn two(a: &mut D, b: &D) {} fn both(a: &D, b: &D) {} fn three(a: &D, b: &mut D) {} fn" ∷
+    codes "with(a: &D, n: i32) {} fn wmut(a: &mut D, n: i32) {} fn mv(a: &D, d: D) {}" ∷
+    codes "fn f(r: &mut D) { with(r, r.0); } fn main() {}" ∷ [])) ≡ true
+t14_11_stands = refl
+
+t14_12 : outcome (text (
+    codes "struct P(i32); impl P { fn add(&mut self, n: i32) {} fn get(&self) -> i32 { self.0 }" ∷
+    codes "fn set(&mut self) -> i32 { 1 } fn eat(&mut self, p: &P) {} }" ∷
+    codes "fn main() { let mut p = P(1); p.add(p.set()); }" ∷ []))
+    ≡ Refused Rule.T14 (place 3 37)
+t14_12 = refl
+
+t14_12_stands : stands (text (
+    codes "struct P(i32); impl P { fn add(&mut self, n: i32) {} fn get(&self) -> i32 { self.0 }" ∷
+    codes "fn set(&mut self) -> i32 { 1 } fn eat(&mut self, p: &P) {} }" ∷
+    codes "fn main() { let mut p = P(1); p.add(p.get()); }" ∷ [])) ≡ true
+t14_12_stands = refl
+
+t14_13 : outcome (text (
+    codes "struct P(i32); impl P { fn add(&mut self, n: i32) {} fn get(&self) -> i32 { self.0 }" ∷
+    codes "fn set(&mut self) -> i32 { 1 } fn eat(&mut self, p: &P) {} }" ∷
+    codes "fn main() { let mut p = P(1); p.add({ p = P(2); 1 }); }" ∷ []))
+    ≡ Refused Rule.T14 (place 3 39)
+t14_13 = refl
+
+t14_13_stands : stands (text (
+    codes "struct P(i32); impl P { fn add(&mut self, n: i32) {} fn get(&self) -> i32 { self.0 }" ∷
+    codes "fn set(&mut self) -> i32 { 1 } fn eat(&mut self, p: &P) {} }" ∷
+    codes "fn main() { let mut p = P(1); let mut q = P(1); p.add({ q = P(2); 1 }); }" ∷ [])) ≡ true
+t14_13_stands = refl
+
+t14_14 : outcome (text (
+    codes "struct P(i32); impl P { fn add(&mut self, n: i32) {} fn get(&self) -> i32 { self.0 }" ∷
+    codes "fn set(&mut self) -> i32 { 1 } fn eat(&mut self, p: &P) {} }" ∷
+    codes "fn main() { let mut p = P(1); P::add(&mut p, p.get()); }" ∷ []))
+    ≡ Refused Rule.T14 (place 3 46)
+t14_14 = refl
+
+t14_14_stands : stands (text (
+    codes "struct P(i32); impl P { fn add(&mut self, n: i32) {} fn get(&self) -> i32 { self.0 }" ∷
+    codes "fn set(&mut self) -> i32 { 1 } fn eat(&mut self, p: &P) {} }" ∷
+    codes "fn main() { let mut p = P(1); P::add(&mut p, 2); }" ∷ [])) ≡ true
+t14_14_stands = refl
+
+t14_15 : outcome (text (
+    codes "struct P(i32); impl P { fn add(&mut self, n: i32) {} fn get(&self) -> i32 { self.0 }" ∷
+    codes "fn set(&mut self) -> i32 { 1 } fn eat(&mut self, p: &P) {} }" ∷
+    codes "fn main() { let mut p = P(1); p.eat(&p); }" ∷ []))
+    ≡ Refused Rule.T14 (place 3 37)
+t14_15 = refl
+
+t14_15_stands : stands (text (
+    codes "struct P(i32); impl P { fn add(&mut self, n: i32) {} fn get(&self) -> i32 { self.0 }" ∷
+    codes "fn set(&mut self) -> i32 { 1 } fn eat(&mut self, p: &P) {} }" ∷
+    codes "fn main() { let mut p = P(1); let q = P(2); p.eat(&q); }" ∷ [])) ≡ true
+t14_15_stands = refl
+
+t14_16 : outcome (text (
+    codes "struct D(i32); impl Drop for D { fn drop(&mut self) {} } fn take(x: D) {} fn look(r:" ∷
+    codes "&D) {} fn change(r: &mut D) {}" ∷
+    codes "fn main() { let mut x = D(1); match x { D(n) if { x = D(2); true } => {} _ => {} } }" ∷ []))
+    ≡ Refused Rule.T14 (place 3 51)
+t14_16 = refl
+
+t14_16_stands : stands (text (
+    codes "struct D(i32); impl Drop for D { fn drop(&mut self) {} } fn take(x: D) {} fn look(r:" ∷
+    codes "&D) {} fn change(r: &mut D) {}" ∷
+    codes "fn main() { let mut x = D(1); let mut y = 1; match x { D(n) if { y = n; true } => {}" ∷
+    codes "_ => {} } }" ∷ [])) ≡ true
+t14_16_stands = refl
+
+t14_17 : outcome (text (
+    codes "struct D(i32); impl Drop for D { fn drop(&mut self) {} } fn take(x: D) {} fn look(r:" ∷
+    codes "&D) {} fn change(r: &mut D) {}" ∷
+    codes "fn main() { let mut x = D(1); match x { D(n) if { change(&mut x); true } => {} _ =>" ∷
+    codes "{} } }" ∷ []))
+    ≡ Refused Rule.T14 (place 3 58)
+t14_17 = refl
+
+t14_17_stands : stands (text (
+    codes "struct D(i32); impl Drop for D { fn drop(&mut self) {} } fn take(x: D) {} fn look(r:" ∷
+    codes "&D) {} fn change(r: &mut D) {}" ∷
+    codes "fn main() { let mut x = D(1); match x { D(n) if { look(&x); true } => {} _ => {} } }" ∷ [])) ≡ true
+t14_17_stands = refl
+
+t14_18 : outcome (text (
+    codes "struct D(i32); impl Drop for D { fn drop(&mut self) {} } fn take(x: D) {} fn look(r:" ∷
+    codes "&D) {} fn change(r: &mut D) {}" ∷
+    codes "fn main() { let x = D(1); match x { D(n) if { take(x); true } => {} _ => {} } }" ∷ []))
+    ≡ Refused Rule.T14 (place 3 52)
+t14_18 = refl
+
+t14_18_stands : stands (text (
+    codes "struct D(i32); impl Drop for D { fn drop(&mut self) {} } fn take(x: D) {} fn look(r:" ∷
+    codes "&D) {} fn change(r: &mut D) {}" ∷
+    codes "fn main() { let x = D(1); match x { D(n) => { take(x); } } }" ∷ [])) ≡ true
+t14_18_stands = refl
+
+t14_19 : outcome (text (
+    codes "struct D(i32); impl Drop for D { fn drop(&mut self) {} } fn take(x: D) {} fn look(r:" ∷
+    codes "&D) {} fn change(r: &mut D) {}" ∷
+    codes "fn main() { match D(1) { d if { change(&mut d); true } => {} _ => {} } }" ∷ []))
+    ≡ Refused Rule.T14 (place 3 40)
+t14_19 = refl
+
+t14_19_stands : stands (text (
+    codes "struct D(i32); impl Drop for D { fn drop(&mut self) {} } fn take(x: D) {} fn look(r:" ∷
+    codes "&D) {} fn change(r: &mut D) {}" ∷
+    codes "fn main() { match D(1) { d if { look(&d); true } => {} _ => {} } }" ∷ [])) ≡ true
+t14_19_stands = refl
+
+t14_20 : outcome (text (
+    codes "struct D(i32); impl Drop for D { fn drop(&mut self) {} } fn take(x: D) {} fn look(r:" ∷
+    codes "&D) {} fn change(r: &mut D) {}" ∷
+    codes "fn main() { match D(1) { d if { d.0 = 2; true } => {} _ => {} } }" ∷ []))
+    ≡ Refused Rule.T14 (place 3 33)
+t14_20 = refl
+
+t14_21 : outcome (text (
+    codes "struct D(i32); impl Drop for D { fn drop(&mut self) {} } fn take(x: D) {} fn look(r:" ∷
+    codes "&D) {} fn change(r: &mut D) {}" ∷
+    codes "fn main() { let mut t = (D(1), 2); match t.0 { d if { change(&mut t.0); true } => {}" ∷
+    codes "_ => {} } }" ∷ []))
+    ≡ Refused Rule.T14 (place 3 62)
+t14_21 = refl
+
+t14_21_stands : stands (text (
+    codes "struct D(i32); impl Drop for D { fn drop(&mut self) {} } fn take(x: D) {} fn look(r:" ∷
+    codes "&D) {} fn change(r: &mut D) {}" ∷
+    codes "fn main() { let mut t = (D(1), D(2)); match t.0 { d if { change(&mut t.1); true } =>" ∷
+    codes "{} _ => {} } }" ∷ [])) ≡ true
+t14_21_stands = refl
+
+t15_1 : outcome (text (
+    codes "struct T(i32);" ∷
+    codes "impl Drop for T { fn drop(&mut self) { *self = T(0); } }" ∷
+    codes "fn main() {}" ∷ []))
+    ≡ Refused Rule.T15 (place 2 40)
+t15_1 = refl
+
+t15_1_stands : stands (text (
+    codes "struct T(i32);" ∷
+    codes "impl Drop for T { fn drop(&mut self) { self.0 = 0; } }" ∷
+    codes "fn main() {}" ∷ [])) ≡ true
+t15_1_stands = refl
+
+t15_2 : outcome (text (
+    codes "struct T(i32); fn rep(r: &mut T) { *r = T(0); } fn pass(r: &mut T) { rep(r); } fn" ∷
+    codes "keep(r: &mut T) { r.0 = 1; } impl T { fn set(&mut self) { *self = T(1); } fn get(&mut" ∷
+    codes "self) { } }" ∷
+    codes "impl Drop for T { fn drop(&mut self) { rep(self); } } fn main() {}" ∷ []))
+    ≡ Refused Rule.T15 (place 4 40)
+t15_2 = refl
+
+t15_2_stands : stands (text (
+    codes "struct T(i32); fn rep(r: &mut T) { *r = T(0); } fn pass(r: &mut T) { rep(r); } fn" ∷
+    codes "keep(r: &mut T) { r.0 = 1; } impl T { fn set(&mut self) { *self = T(1); } fn get(&mut" ∷
+    codes "self) { } }" ∷
+    codes "impl Drop for T { fn drop(&mut self) { keep(self); } } fn main() {}" ∷ [])) ≡ true
+t15_2_stands = refl
+
+t15_3 : outcome (text (
+    codes "struct T(i32); fn rep(r: &mut T) { *r = T(0); } fn pass(r: &mut T) { rep(r); } fn" ∷
+    codes "keep(r: &mut T) { r.0 = 1; } impl T { fn set(&mut self) { *self = T(1); } fn get(&mut" ∷
+    codes "self) { } }" ∷
+    codes "impl Drop for T { fn drop(&mut self) { pass(&mut *self); } } fn main() {}" ∷ []))
+    ≡ Refused Rule.T15 (place 4 40)
+t15_3 = refl
+
+t15_4 : outcome (text (
+    codes "struct T(i32); fn rep(r: &mut T) { *r = T(0); } fn pass(r: &mut T) { rep(r); } fn" ∷
+    codes "keep(r: &mut T) { r.0 = 1; } impl T { fn set(&mut self) { *self = T(1); } fn get(&mut" ∷
+    codes "self) { } }" ∷
+    codes "impl Drop for T { fn drop(&mut self) { self.set(); } } fn main() {}" ∷ []))
+    ≡ Refused Rule.T15 (place 4 40)
+t15_4 = refl
+
+t15_4_stands : stands (text (
+    codes "struct T(i32); fn rep(r: &mut T) { *r = T(0); } fn pass(r: &mut T) { rep(r); } fn" ∷
+    codes "keep(r: &mut T) { r.0 = 1; } impl T { fn set(&mut self) { *self = T(1); } fn get(&mut" ∷
+    codes "self) { } }" ∷
+    codes "impl Drop for T { fn drop(&mut self) { self.get(); } } fn main() {}" ∷ [])) ≡ true
+t15_4_stands = refl
+
+t15_5 : outcome (text (
+    codes "struct T(i32); fn a(r: &mut T) { b(r); } fn b(r: &mut T) { a(r); if true { *r = T(0);" ∷
+    codes "} }" ∷
+    codes "impl Drop for T { fn drop(&mut self) { a(self); } } fn main() {}" ∷ []))
+    ≡ Refused Rule.T15 (place 3 40)
+t15_5 = refl
+
+t15_5_stands : stands (text (
+    codes "struct T(i32); fn a(r: &mut T) { b(r); } fn b(r: &mut T) { a(r); }" ∷
+    codes "impl Drop for T { fn drop(&mut self) { a(self); } } fn main() {}" ∷ [])) ≡ true
+t15_5_stands = refl
+
+t15_6 : outcome (text (
+    codes "struct T(i32); struct U; trait Tr { fn m(&mut self, t: &mut T); } impl Tr for U { fn" ∷
+    codes "m(&mut self, t: &mut T) { *t = T(0); } }" ∷
+    codes "impl Drop for T { fn drop(&mut self) { let mut b: Box<dyn Tr> = Box::new(U);" ∷
+    codes "b.m(self); } } fn main() {}" ∷ []))
+    ≡ Refused Rule.T15 (place 4 1)
+t15_6 = refl
+
+t15_6_stands : stands (text (
+    codes "struct T(i32); struct U; trait Tr { fn m(&mut self, t: &mut T); } impl Tr for U { fn" ∷
+    codes "m(&mut self, t: &mut T) { } }" ∷
+    codes "impl Drop for T { fn drop(&mut self) { let mut b: Box<dyn Tr> = Box::new(U);" ∷
+    codes "b.m(self); } } fn main() {}" ∷ [])) ≡ true
+t15_6_stands = refl
+
+t14_22 : outcome (text (
+    codes "struct T(i32); fn rep(r: &mut T) { *r = T(0); } fn pass(r: &mut T) { rep(r); } fn" ∷
+    codes "keep(r: &mut T) { r.0 = 1; } impl T { fn set(&mut self) { *self = T(1); } fn get(&mut" ∷
+    codes "self) { } }" ∷
+    codes "fn two(a: &mut T, b: &mut T) {} impl Drop for T { fn drop(&mut self) { two(self," ∷
+    codes "self); rep(self); } } fn main() {}" ∷ []))
+    ≡ Refused Rule.T14 (place 5 1)
+t14_22 = refl
+
+t15_7 : outcome (text (
+    codes "struct T(i32); fn rep(r: &mut T) { *r = T(0); } fn pass(r: &mut T) { rep(r); } fn" ∷
+    codes "keep(r: &mut T) { r.0 = 1; } impl T { fn set(&mut self) { *self = T(1); } fn get(&mut" ∷
+    codes "self) { } }" ∷
+    codes "fn two(a: &mut T, b: &mut T) {} impl Drop for T { fn drop(&mut self) { rep(self);" ∷
+    codes "two(self, self); } } fn main() {}" ∷ []))
+    ≡ Refused Rule.T15 (place 4 72)
+t15_7 = refl
+
 t02_18 : outcome (codes "fn f(x: E) {} fn f() {} fn main() {}")
     ≡ Refused Rule.T02 (place 1 18)
 t02_18 = refl

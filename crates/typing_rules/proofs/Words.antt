@@ -15,7 +15,7 @@ use Rattle.src_tree.specs.Reading.{and_then, State, step, whole, start}
 use Rattle.typed_tree.specs.Tree.{ProgramTree}
 use Rattle.well_typed.specs.Program.{is_well_typed}
 use Rattle.typing_rules.specs.Check.{Broken}
-use Rattle.typing_rules.specs.Program.{typed_program}
+use Rattle.typing_rules.specs.Borrows.{read_typed}
 
 abbrev pub place : ℕ → ℕ → Pos
 place line col = record { line = line; col = col }
@@ -182,7 +182,7 @@ outcome_of (Err e) = Refused e.rule e.at
 
 abbrev of_tree : Pos → Option (Node Pos) → Outcome
 of_tree end None = NoTree
-of_tree end (Some (node at row parts)) = outcome_of (typed_program parts end)
+of_tree end (Some (node at row parts)) = outcome_of (read_typed parts end)
 
 abbrev tree_of : List ℕ → Option (Node Pos)
 tree_of text = and_then (read (tokens text (place 1 1) None) (Some (start (place 1 1)))) (λ s. whole s)

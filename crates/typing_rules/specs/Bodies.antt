@@ -137,7 +137,7 @@ types_of entries = map (λ x. x.ty) entries
 
 -- inside, the captured names are the parts of the closure's value, which is the first parameter
 abbrev inside_closure : Env → List Entry → Env
-inside_closure env captures = with_variables captures (record env { variables = []; loops = [] })
+inside_closure env captures = with_variables captures (record env { variables = [] })
 
 abbrev closure_body : Env → Pos → ℕ → TyId → List Entry → Syns → MaybeSyn → (Env → Typer) → Check BodyTree
 closure_body env at n ty captures params answer block = with_body (λ b. b) (in_new_body do

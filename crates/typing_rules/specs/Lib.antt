@@ -1,4 +1,6 @@
+pub mod Accesses
 pub mod Bodies
+pub mod Borrows
 pub mod Check
 pub mod Collected
 pub mod Items
@@ -7,6 +9,7 @@ pub mod Numbered
 pub mod Patterns
 pub mod Places
 pub mod Program
+pub mod Replaced
 pub mod Rows
 pub mod Scope
 pub mod Syntax
