@@ -403,6 +403,14 @@ patterns = lines (
 patterns_stands : stands patterns ≡ true
 patterns_stands = refl
 
+abbrev pub hiding : List ℕ
+hiding = lines (
+    codes "fn main() { let x = 1; let x = true; { let x = 2; print(x); } if x { } }" ∷
+    [])
+
+hiding_stands : stands hiding ≡ true
+hiding_stands = refl
+
 abbrev pub literals : List ℕ
 literals = lines (
     codes "fn main() { let a: u64 = 18446744073709551615; let b = -2147483648; let c: usize = 1 + 2 *" ∷
