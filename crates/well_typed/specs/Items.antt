@@ -45,7 +45,7 @@ is_equal (Ty.Closure a) (Ty.Closure b) = a == b
 is_equal _ _ = false
 
 -- equal types have one number
-abbrev are_distinct_types : List Ty → Bool
+abbrev pub are_distinct_types : List Ty → Bool
 are_distinct_types [] = true
 are_distinct_types (ty ∷ tys) = not (list_any (is_equal ty) tys) && are_distinct_types tys
 
@@ -61,7 +61,7 @@ module _ (items : ItemTable) where
   abbrev pub is_param : TyId → Bool
   is_param ty = is_some (type_at items ty) && not (is_dyn items ty)
 
-  abbrev is_well_made : Ty → Bool
+  abbrev pub is_well_made : Ty → Bool
   is_well_made (Ty.Tuple parts) = list_all stands_alone parts && (nat_lt 0 (length parts) && nat_le (length parts) 12)
   is_well_made (Ty.Array element count) = stands_alone element && nat_le count 32
   is_well_made (Ty.Boxed content) = is_inside content
@@ -74,13 +74,13 @@ module _ (items : ItemTable) where
 
   -- A type is finite where all that it holds is, whatever is in its boxes. The rule is applied in as many rounds as
   -- there are types, since each round shows at least one type more.
-  abbrev finite_rule : Rule
+  abbrev pub finite_rule : Rule
   finite_rule known ty = list_all known (held_by items ty)
 
   abbrev pub is_finite : TyId → Bool
   is_finite = by_rule items.types finite_rule
 
-  abbrev is_good_type : Ty → Bool
+  abbrev pub is_good_type : Ty → Bool
   is_good_type ty = is_well_made ty && list_all is_finite (held_by items ty)
 
   abbrev are_types : Claim
