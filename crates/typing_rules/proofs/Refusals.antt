@@ -1,5 +1,5 @@
 -- For each rule the ways in which it is broken, with its place, beside the nearest text that stands, by computation.
-use Rattle.std.proofs.Common.{◌≡◌, true, [], ◌∷◌, refl}
+use Rattle.std.proofs.Common.{◌≡◌, true, List, [], ◌∷◌, ℕ, refl}
 use Rattle.std.specs.Prelude.{codes}
 use Rattle.mir_base.specs.declared.rule.Rule.{Rule}
 use Rattle.typing_rules.proofs.Words.{text, place, outcome, Refused, stands}
@@ -1956,6 +1956,33 @@ t15_7 : outcome (text (
     codes "two(self, self); } } fn main() {}" ∷ []))
     ≡ Refused Rule.T15 (place 4 72)
 t15_7 = refl
+
+t07_9 : outcome (text (
+    codes "struct D(i32);" ∷
+    codes "impl Drop for D { fn drop(&mut self) {} }" ∷
+    codes "fn take(x: D) {}" ∷
+    codes "struct H(D);" ∷
+    codes "impl Drop for H { fn drop(&mut self) {} }" ∷
+    codes "fn main() { let h = H(D(1)); take(h.0); }" ∷ []))
+    ≡ Refused Rule.T07 (place 6 35)
+t07_9 = refl
+
+t14_23 : outcome (text (
+    codes "struct D(i32);" ∷
+    codes "impl Drop for D { fn drop(&mut self) {} }" ∷
+    codes "fn take(x: D) {}" ∷
+    codes "fn two(a: &mut D, b: &D) {}" ∷
+    codes "fn main() { let mut x = D(1); two(&mut x, &x); }" ∷ []))
+    ≡ Refused Rule.T14 (place 5 43)
+t14_23 = refl
+
+t08_20 : outcome (text (
+    codes "struct D(i32);" ∷
+    codes "impl Drop for D { fn drop(&mut self) {} }" ∷
+    codes "fn take(x: D) {}" ∷
+    codes "fn f(r: &D) { r.0 = 1; } fn main() {}" ∷ []))
+    ≡ Refused Rule.T08 (place 4 15)
+t08_20 = refl
 
 t02_18 : outcome (codes "fn f(x: E) {} fn f() {} fn main() {}")
     ≡ Refused Rule.T02 (place 1 18)
