@@ -685,6 +685,33 @@ t03_53 = refl
 t03_53_stands : stands (codes "fn main() { let c = move [] || -> i32 { 1 }; }") ≡ true
 t03_53_stands = refl
 
+t03_54 : outcome (text (
+    codes "struct D(i32); impl Drop for D { fn drop(&mut self) {} } fn take(x: D) {} fn look(r:" ∷
+    codes "&D) {} fn change(r: &mut D) {}" ∷
+    codes "fn main() { let d = D(1); look(d); }" ∷ []))
+    ≡ Refused Rule.T03 (place 3 32)
+t03_54 = refl
+
+t03_54_stands : stands (text (
+    codes "struct D(i32); impl Drop for D { fn drop(&mut self) {} } fn take(x: D) {} fn look(r:" ∷
+    codes "&D) {} fn change(r: &mut D) {}" ∷
+    codes "fn main() { let d = D(1); look(&d); look(panic!()); }" ∷ [])) ≡ true
+t03_54_stands = refl
+
+t03_55 : outcome (text (
+    codes "struct D(i32); impl Drop for D { fn drop(&mut self) {} } fn take(x: D) {} fn look(r:" ∷
+    codes "&D) {} fn change(r: &mut D) {}" ∷
+    codes "fn main() { look(1); }" ∷ []))
+    ≡ Refused Rule.T03 (place 3 18)
+t03_55 = refl
+
+t03_56 : outcome (text (
+    codes "struct D(i32); impl Drop for D { fn drop(&mut self) {} } fn take(x: D) {} fn look(r:" ∷
+    codes "&D) {} fn change(r: &mut D) {}" ∷
+    codes "fn main() { change(D(1)); }" ∷ []))
+    ≡ Refused Rule.T03 (place 3 20)
+t03_56 = refl
+
 t04_1 : outcome (codes "fn f(x: i32) {} fn main() { f(); }")
     ≡ Refused Rule.T04 (place 1 29)
 t04_1 = refl
@@ -1008,18 +1035,18 @@ t08_8 : outcome (text (
     ≡ Refused Rule.T08 (place 3 23)
 t08_8 = refl
 
-t03_54 : outcome (text (
+t03_57 : outcome (text (
     codes "struct D(i32); impl Drop for D { fn drop(&mut self) {} } fn take(x: D) {} fn look(r:" ∷
     codes "&D) {} fn change(r: &mut D) {}" ∷
     codes "fn f(r: &D) { take(r); } fn main() {}" ∷ []))
     ≡ Refused Rule.T03 (place 3 20)
-t03_54 = refl
+t03_57 = refl
 
-t03_54_stands : stands (text (
+t03_57_stands : stands (text (
     codes "struct D(i32); impl Drop for D { fn drop(&mut self) {} } fn take(x: D) {} fn look(r:" ∷
     codes "&D) {} fn change(r: &mut D) {}" ∷
     codes "fn f(r: &D) { look(r); } fn main() {}" ∷ [])) ≡ true
-t03_54_stands = refl
+t03_57_stands = refl
 
 t08_9 : outcome (text (
     codes "struct D(i32); impl Drop for D { fn drop(&mut self) {} } fn take(x: D) {} fn look(r:" ∷
@@ -2004,18 +2031,18 @@ t01_32 : outcome (codes "fn f() { x; } fn main() { let y: i32 = true; }")
     ≡ Refused Rule.T01 (place 1 10)
 t01_32 = refl
 
-t03_55 : outcome (codes "fn main() { let x = if 1 { y } else { 2 }; }")
+t03_58 : outcome (codes "fn main() { let x = if 1 { y } else { 2 }; }")
     ≡ Refused Rule.T03 (place 1 24)
-t03_55 = refl
+t03_58 = refl
 
 t01_33 : outcome (codes "fn main() { let x = true + y; }")
     ≡ Refused Rule.T01 (place 1 28)
 t01_33 = refl
 
-t03_56 : outcome (codes "fn f(x: i32) {} fn main() { f(true, 2); }")
+t03_59 : outcome (codes "fn f(x: i32) {} fn main() { f(true, 2); }")
     ≡ Refused Rule.T03 (place 1 31)
-t03_56 = refl
+t03_59 = refl
 
-t03_57 : outcome (codes "fn f() { let x: i32 = true; } struct S { a: i32, a: i32 } fn main() {}")
+t03_60 : outcome (codes "fn f() { let x: i32 = true; } struct S { a: i32, a: i32 } fn main() {}")
     ≡ Refused Rule.T03 (place 1 23)
-t03_57 = refl
+t03_60 = refl

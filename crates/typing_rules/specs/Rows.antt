@@ -261,9 +261,9 @@ reference_ty unique to = if unique then Ty.Unique to else Ty.Shared to
 abbrev is_same_truth : Bool → Bool → Bool
 is_same_truth a b = if a then b else not b
 
--- an argument for a reference parameter: whether it is unique, and the type that it names
+-- an argument for a reference parameter: the parameter's type, whether it is unique, and the type that it names
 abbrev pub Referrer : Type 0
-Referrer = Bool → TyId → Check Node
+Referrer = TyId → Bool → TyId → Check Node
 
 abbrev borrow_of : ℕ → Pos → Bool → Node → Check Node
 borrow_of id at unique base = do
@@ -272,7 +272,7 @@ borrow_of id at unique base = do
 
 -- `&e` and `&mut e`
 abbrev pub borrow : Pos → Bool → Check Node → Referrer
-borrow at unique base is_unique to = do
+borrow at unique base want is_unique to = do
   id ← number
   b ← base >>= no_reference
   items ← the_items
@@ -286,7 +286,7 @@ passes is_unique to (Some r) = is_same r.1 to && (r.0 || not is_unique)
 
 -- a reference variable that is passed on borrows what it names, by `&mut` where the parameter is `&mut T`
 abbrev pub passed_on : Pos → Entry → Referrer
-passed_on at x is_unique to = do
+passed_on at x want is_unique to = do
   items ← the_items
   obeys Rule.T03 at (passes is_unique to (reference_of items x.ty))
   id ← number
@@ -296,7 +296,7 @@ passed_on at x is_unique to = do
 
 abbrev argument_by : TyId → Typer → Referrer → Option (Bool × TyId) → Check Node
 argument_by ty by_value by_reference None = by_value (Some ty)
-argument_by ty by_value by_reference (Some r) = by_reference r.0 r.1
+argument_by ty by_value by_reference (Some r) = by_reference ty r.0 r.1
 
 abbrev pub argument : TyId → Typer → Referrer → Check Node
 argument ty by_value by_reference = do

@@ -103,10 +103,10 @@ minus at None operand = rows.negate at operand
 -- ---- references
 
 abbrev passed : Pos → Typer → Option Entry → Referrer
-passed at by_value None is_unique to = by_value (Some to)
-passed at by_value (Some x) is_unique to = do
+passed at by_value None want is_unique to = by_value (Some want)
+passed at by_value (Some x) want is_unique to = do
   items ← the_items
-  if is_reference items x.ty then rows.passed_on at x is_unique to else by_value (Some to)
+  if is_reference items x.ty then rows.passed_on at x want is_unique to else by_value (Some want)
 
 -- ---- statements
 
@@ -312,15 +312,15 @@ abbrev mutual
     pure (a_node n ns)
 
   by_reference : Env → Syn → Referrer
-  by_reference env (syn at form) is_unique to =
-      if may_refer form then reference_form env at form is_unique to
-      else (if is_place env form then place env at form >>= taken env (Some to) else value env at form (Some to))
+  by_reference env (syn at form) want is_unique to =
+      if may_refer form then reference_form env at form want is_unique to
+      else (if is_place env form then place env at form >>= taken env (Some want) else value env at form (Some want))
 
   reference_form : Env → Pos → Shape → Referrer
   reference_form env at (Ampersand unique base) = rows.borrow at unique (base_of env base)
   reference_form env at (Path first second) = passed at (path env at first second) (variable_of env first second)
   reference_form env at (Parens inside) = by_reference env inside
-  reference_form env at _ = λ is_unique to. breaks Rule.T20 at
+  reference_form env at _ = λ want is_unique to. breaks Rule.T20 at
 
   typed_inits : Env → Variant → Syns → Check (Fields × Given)
   typed_inits env v no_syn = pure (tree.no_field, [])

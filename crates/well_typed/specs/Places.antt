@@ -9,7 +9,7 @@ use Rattle.mir_ty.specs.ItemTable.{ItemTable}
 use Rattle.typed_tree.specs.declared.node.Use.{Use}
 use Rattle.typed_tree.specs.Tree.{Node, node, Form, Variable, Captured, Field, Index, Deref, Borrow}
 use Rattle.well_typed.specs.Claim.{Claim, fact, ◌&◌}
-use Rattle.well_typed.specs.Types.{is_reference, reference_of, is_dyn, fits, is_same}
+use Rattle.well_typed.specs.Types.{is_reference, reference_of, is_dyn, is_never, fits, is_same}
 
 -- an entry in scope: its key and type, and whether it is a binding inside its own guard
 pub record InScope : Type 0 where
@@ -183,13 +183,15 @@ module _ (c : Context) where
   abbrev pub is_used : Use → Option Use → Form → Bool
   is_used want by form = if is_place form then is_by want by else is_none by && not (is_borrow form)
 
-  -- A node may stand so. An argument for a reference is a borrow; `&` and `&mut` stand nowhere else. A scrutinee or
+  -- A node may stand so. An argument for a reference is a borrow, or of type `!`; `&` and `&mut` stand nowhere else.
+  -- A scrutinee or
   -- what is stored into is not a reference by itself.
   abbrev pub stands : Standing → TyId → Option Use → Form → Claim
   stands Taken ty by form = is_taken ty by form
   stands (Wanted want) ty by form = is_taken ty by form & fact (fits c.items want ty)
   stands (Passed want) ty by form =
-      if is_reference c.items want then fact (is_borrow form && is_none by && is_same ty want)
+      if is_reference c.items want && not (is_never c.items ty) then fact (is_borrow form && is_none by && is_same ty
+      want)
       else (is_taken ty by form & fact (fits c.items want ty))
   stands Base ty by form = fact (is_none by && not (is_borrow form))
   stands (Used want) ty by form = fact (is_used want by form && not (is_reference c.items ty))
