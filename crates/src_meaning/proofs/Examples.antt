@@ -1,22 +1,23 @@
 -- Programs that were worked out by hand, and runs of them closed by computation.
-mod Assignments
-mod Boxes
-mod Closures
+mod AreWellTyped
+pub mod Assignments
+pub mod Boxes
+pub mod Closures
 pub mod Conditions
-mod First
-mod FreeRuns
-mod JobQueue
-mod LiteralTests
+pub mod First
+pub mod FreeRuns
+pub mod JobQueue
+pub mod LiteralTests
 pub mod Locals
-mod Loops
-mod Operands
-mod Operators
-mod Panics
-mod Patterns
-mod Sites
-mod Temporaries
-mod TraitObjects
-mod Unwinding
+pub mod Loops
+pub mod Operands
+pub mod Operators
+pub mod Panics
+pub mod Patterns
+pub mod Sites
+pub mod Temporaries
+pub mod TraitObjects
+pub mod Unwinding
 pub mod WithD
 pub mod WithN
 pub mod Words

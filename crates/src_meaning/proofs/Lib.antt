@@ -1,4 +1,4 @@
-mod Examples
+pub mod Examples
 pub mod FormsFollow
 pub mod ProgramsFollow
 pub mod RunLaws

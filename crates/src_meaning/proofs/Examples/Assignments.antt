@@ -47,7 +47,7 @@ main_element = body 4 [] unit
     (Index (n 11 array_d_2_ty (Variable 2)) (n 12 usize (Call 2 no_node)) 2)) (n 13 d_ty (Call 3 no_node)))))
     ∷ [])) absent))
 
-abbrev element : ProgramTree
+abbrev pub element : ProgramTree
 element = record { items = items; bodies = drop_d ∷ take ∷ one ∷ makes ∷ main_element ∷ [] }
 
 the_value_before_the_place : source element [] 100

@@ -45,7 +45,7 @@ main_part = body 2 [] unit
     ∷ [])))))
     ∷ [])) absent))
 
-abbrev part : ProgramTree
+abbrev pub part : ProgramTree
 part = record { items = items; bodies = drop_d ∷ take ∷ main_part ∷ [] }
 
 a_box_is_freed_without_a_moved_part : source part [] 100
@@ -64,7 +64,7 @@ main_forget = body 2 [] unit
     (Tuple (nodes ((d 4 (pos 1)) ∷ (n 6 boxed_d_ty (NewBox (d 7 (pos 2)))) ∷ [])))))))
     ∷ [])) absent))
 
-abbrev forgotten : ProgramTree
+abbrev pub forgotten : ProgramTree
 forgotten = record { items = items; bodies = drop_d ∷ take ∷ main_forget ∷ [] }
 
 forget_tells_of_each_part : source forgotten [] 100

@@ -57,10 +57,10 @@ closure_1 =
     ∷ (stmt 6 (n 7 unit (Call 1 (nodes ((used 8 d_ty Use.Move (Captured 0 1 (codes "x"))) ∷ [])))))
     ∷ [])) absent))
 
-abbrev called : ProgramTree
+abbrev pub called : ProgramTree
 called = record { items = items; bodies = drop_d ∷ take ∷ main_called ∷ closure_1 ∷ [] }
 
-abbrev dropped : ProgramTree
+abbrev pub dropped : ProgramTree
 dropped = record { items = items; bodies = drop_d ∷ take ∷ main_dropped ∷ closure_1 ∷ [] }
 
 a_call_takes_the_closure : source called [] 100

@@ -30,7 +30,7 @@ main_if = body 2 [] unit
     (n 9 unit (Block (nodes ((stmt 10 (n 11 unit (Call 1 (nodes ((used 12 d_ty Use.Move (Variable 2)) ∷ []))))) ∷
     [])) absent)) absent)))))
 
-abbrev moved_if : ProgramTree
+abbrev pub moved_if : ProgramTree
 moved_if = record { items = items; bodies = drop_d ∷ take ∷ main_if ∷ [] }
 
 moved : source moved_if (pos 0 ∷ []) 100

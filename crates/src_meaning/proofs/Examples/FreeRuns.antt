@@ -109,10 +109,10 @@ main_let = body 2 [] unit
 a_let_uses_only_what_it_takes : reaches_none_within main_let 5 ≡ true
 a_let_uses_only_what_it_takes = refl
 
-abbrev moved_if : ProgramTree
+abbrev pub moved_if : ProgramTree
 moved_if = record { items = items; bodies = drop_d ∷ take ∷ main_if ∷ [] }
 
-abbrev again : ProgramTree
+abbrev pub again : ProgramTree
 again = record { items = items; bodies = drop_d ∷ take ∷ main_again ∷ [] }
 
 -- No list of choices reaches a refused use: a run takes so many of a list, and ends.

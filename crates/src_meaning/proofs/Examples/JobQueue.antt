@@ -12,7 +12,7 @@ use Rattle.mir_ty.specs.ItemTable.{ItemTable}
 use Rattle.typed_tree.specs.declared.node.Use.{Use}
 use Rattle.typed_tree.specs.Tree.{no_node, no_field, absent, present, Number, Truth, Variable, Field, Deref, Not, Arithmetic, Comparison, And, Assign, Call, VirtualCall, Make, NewBox, Print, Ask, Panic, Borrow, Unsize, Block, If, Match, Arm, While, Return, Wildcard, VariantPattern, BodyTree, ProgramTree}
 use Rattle.src_meaning.specs.Programs.{source}
-use Rattle.src_meaning.proofs.Examples.Words.{a_name, i32, unit, bool, never, scalars, n, used, nodes, fields, let_, stmt, body, param, ty_no, variant, struct, enum, head}
+use Rattle.src_meaning.proofs.Examples.Words.{a_name, another_name, i32, unit, bool, never, scalars, n, used, nodes, fields, let_, stmt, body, param, ty_no, variant, struct, enum, head}
 
 abbrev buf_ty : TyId
 buf_ty = ty_no 4
@@ -120,7 +120,7 @@ send_cost = body 2 (param (used 0 shared_send_ty Use.Copy a_name) shared_send_ty
 -- fn run(&mut self, turn: i32) -> bool { self.sent = self.sent + 1; if self.sent == 1 { self.body = Buf(turn); return false; } true }
 abbrev send_run : BodyTree
 send_run = body 3 (param (used 0 unique_send_ty Use.Copy a_name) unique_send_ty ∷
-    param (used 1 i32 Use.Copy a_name) i32 ∷ []) bool
+    param (used 1 i32 Use.Copy another_name) i32 ∷ []) bool
     (n 2 bool (Block (nodes (
     (stmt 3 (n 4 unit (Assign (used 5 i32 Use.Store (Field (n 6 send_ty (Deref (n 7 unique_send_ty (Variable 0)))) 2))
     (n 8 i32 (Arithmetic Math.Add (used 9 i32 Use.Copy
@@ -143,7 +143,7 @@ fail_cost = body 4 (param (used 0 shared_fail_ty Use.Copy a_name) shared_fail_ty
 -- fn run(&mut self, turn: i32) -> bool { if turn > 2 { panic!("job failed") } true }
 abbrev fail_run : BodyTree
 fail_run = body 5 (param (used 0 unique_fail_ty Use.Copy a_name) unique_fail_ty ∷
-    param (used 1 i32 Use.Copy a_name) i32 ∷ []) bool
+    param (used 1 i32 Use.Copy another_name) i32 ∷ []) bool
     (n 2 bool (Block (nodes (
     (stmt 3 (n 4 unit (If (n 5 bool (Comparison Cmp.Gt (used 6 i32 Use.Copy (Variable 1)) (n 7 i32 (Number (pos 2)))))
     (n 8 never (Block no_node (present (n 9 never Panic)))) absent)))
@@ -151,7 +151,7 @@ fail_run = body 5 (param (used 0 unique_fail_ty Use.Copy a_name) unique_fail_ty 
 
 -- fn step(slot: Slot, turn: i32) -> Slot { match slot { Slot::Ready(mut job) => { if job.cost() > 3 { return Slot::Free; } if job.run(turn) { return Slot::Done(turn); } Slot::Ready(job) } other => other, } }
 abbrev step : BodyTree
-step = body 6 (param (used 0 slot_ty Use.Move a_name) slot_ty ∷ param (used 1 i32 Use.Copy a_name) i32 ∷ []) slot_ty
+step = body 6 (param (used 0 slot_ty Use.Move a_name) slot_ty ∷ param (used 1 i32 Use.Copy another_name) i32 ∷ []) slot_ty
     (n 2 slot_ty (Block no_node (present (n 3 slot_ty (Match (used 4 slot_ty Use.Borrow (Variable 0)) (nodes (
     (n 5 slot_ty (Arm (used 6 slot_ty Use.Test
     (VariantPattern 1 true (fields ((0, (used 7 boxed_dyn_job_ty Use.Move a_name)) ∷ [])))) absent
@@ -229,7 +229,7 @@ main_ = body 8 [] unit
     ∷ (stmt 53 (n 54 unit (Print (used 55 i32 Use.Copy (Variable 16)))))
     ∷ [])) absent))
 
-abbrev job_queue : ProgramTree
+abbrev pub job_queue : ProgramTree
 job_queue = record {
   items = items;
   bodies = drop_buf ∷ send_new ∷ send_cost ∷ send_run ∷ fail_cost ∷ fail_run ∷

@@ -6,10 +6,11 @@ use Rattle.mir_base.specs.declared.trace.End.{End}
 use Rattle.mir_base.specs.declared.trace.Event.TheVariants.{Call as call, Return as return, Printed as print}
 use Rattle.mir_ty.specs.declared.ty.Ty.{Ty}
 use Rattle.mir_ty.specs.ItemTable.{ItemTable}
+use Rattle.typed_tree.specs.declared.node.Use.{Use}
 use Rattle.typed_tree.specs.Tree.{no_node, absent, present, Number, Print, Block, Match, Arm, Wildcard, NumberPattern, BodyTree, ProgramTree, IsProgram}
 use Rattle.src_meaning.specs.Locals.OfBody.{local_keys, local_tys}
 use Rattle.src_meaning.specs.Programs.{source}
-use Rattle.src_meaning.proofs.Examples.Words.{i32, unit, bool, n, nodes, body, scalars, head}
+use Rattle.src_meaning.proofs.Examples.Words.{i32, unit, bool, n, used, nodes, body, scalars, head}
 
 abbrev items_with : List Ty → ItemTable
 items_with types = record {
@@ -25,11 +26,12 @@ items_with types = record {
 abbrev main : BodyTree
 main = body 0 [] unit
     (n 0 unit (Block no_node (present (n 1 unit (Match (n 2 i32 (Number (pos 1))) (nodes (
-    (n 3 unit (Arm (n 4 i32 (NumberPattern (pos 1))) absent (n 5 unit (Print (n 6 i32 (Number (pos 7)))))))
+    (n 3 unit (Arm (used 4 i32 Use.Test (NumberPattern (pos 1))) absent
+    (n 5 unit (Print (n 6 i32 (Number (pos 7)))))))
     ∷ (n 7 unit (Arm (n 8 i32 Wildcard) absent (n 9 unit (Block no_node absent))))
     ∷ [])))))))
 
-abbrev literal : ProgramTree
+abbrev pub literal : ProgramTree
 literal = record { items = items_with scalars; bodies = main ∷ [] }
 
 is_a_program : IsProgram literal

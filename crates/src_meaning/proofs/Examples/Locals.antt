@@ -28,7 +28,7 @@ main_two = body 2 [] unit
     ∷ (let_ 5 (used 6 d_ty Use.Move a_name) (d 7 (pos 2)))
     ∷ [])) absent))
 
-abbrev two : ProgramTree
+abbrev pub two : ProgramTree
 two = record { items = items; bodies = drop_d ∷ take ∷ main_two ∷ [] }
 
 the_younger_first : source two [] 100
@@ -57,7 +57,7 @@ main_again = body 2 [] unit
     ∷ (stmt 13 (n 14 unit (Call 1 (nodes ((used 15 d_ty Use.Move (Variable 2)) ∷ [])))))
     ∷ [])) absent))
 
-abbrev again : ProgramTree
+abbrev pub again : ProgramTree
 again = record { items = items; bodies = drop_d ∷ take ∷ main_again ∷ [] }
 
 a_moved_variable_is_assigned_again : source again [] 100

@@ -47,7 +47,7 @@ j = body 3 (param (used 0 shared_d_ty Use.Copy a_name) shared_d_ty ∷ []) j_ty
     ((0, (used 8 i32 Use.Copy (Field (n 9 d_ty (Deref (n 10 shared_d_ty (Variable 0)))) 0))) ∷ [])))))))
     (present (n 11 j_ty (Block no_node (present (n 12 j_ty (Make 1 0 no_field)))))))))))
 
-abbrev breaking : ProgramTree
+abbrev pub breaking : ProgramTree
 breaking = record { items = items; bodies = drop_d ∷ take ∷ main_break ∷ j ∷ [] }
 
 a_break_out_of_two_loops : source breaking [] 4
@@ -66,7 +66,7 @@ main_while_let = body 2 [] unit
     (n 4 j_ty (Call 3 (nodes ((n 5 shared_d_ty (Borrow false (d 6 (pos 7)))) ∷ []))))
     (n 8 unit (Block (nodes ((stmt 9 (n 10 unit (Print (used 11 i32 Use.Copy (Variable 3))))) ∷ [])) absent)))))))
 
-abbrev while_let : ProgramTree
+abbrev pub while_let : ProgramTree
 while_let = record { items = items; bodies = drop_d ∷ take ∷ main_while_let ∷ j ∷ [] }
 
 temporaries_live_to_the_end_of_the_turn : source while_let (pos 0 ∷ pos 1 ∷ []) 100
@@ -85,7 +85,7 @@ main_continue = body 2 [] unit
     (n 5 never (Block (nodes ((let_ 6 (used 7 d_ty Use.Move a_name) (d 8 (pos 1))) ∷
     (stmt 10 (n 11 never (Continue 1))) ∷ [])) absent)))))))
 
-abbrev continuing : ProgramTree
+abbrev pub continuing : ProgramTree
 continuing = record { items = items; bodies = drop_d ∷ take ∷ main_continue ∷ j ∷ [] }
 
 a_continue_leaves_the_body : source continuing (pos 0 ∷ pos 0 ∷ pos 1 ∷ []) 100

@@ -10,7 +10,7 @@ use Rattle.mir_ty.specs.ItemTable.{ItemTable}
 use Rattle.typed_tree.specs.declared.node.Use.{Use}
 use Rattle.typed_tree.specs.Tree.{no_node, absent, present, Number, Call, Tuple, Panic, Borrow, Block, Loop, Break, BodyTree, ProgramTree}
 use Rattle.src_meaning.specs.Programs.{source}
-use Rattle.src_meaning.proofs.Examples.Words.{a_name, i32, unit, never, n, used, nodes, stmt, body, param, ty_no, head}
+use Rattle.src_meaning.proofs.Examples.Words.{a_name, another_name, third_name, i32, unit, never, n, used, nodes, stmt, body, param, ty_no, head}
 use Rattle.src_meaning.proofs.Examples.WithD.{d_ty, shared_d_ty, d, drop_d, take, with_d}
 
 abbrev tuple_d_d_ty : TyId
@@ -42,14 +42,14 @@ g = body 4 (param (used 0 shared_d_ty Use.Copy a_name) shared_d_ty ∷ []) d_ty
     (n 1 d_ty (Block no_node (present (d 2 (pos 3)))))
 
 abbrev f : BodyTree
-f = body 5 (param (used 0 d_ty Use.Move a_name) d_ty ∷ param (used 1 d_ty Use.Move a_name) d_ty ∷
-    param (used 2 d_ty Use.Move a_name) d_ty ∷ []) unit
+f = body 5 (param (used 0 d_ty Use.Move a_name) d_ty ∷ param (used 1 d_ty Use.Move another_name) d_ty ∷
+    param (used 2 d_ty Use.Move third_name) d_ty ∷ []) unit
     (n 3 unit (Block no_node absent))
 
 -- fn f2(x: D, n: i32, k: i32) {}
 abbrev f2 : BodyTree
-f2 = body 7 (param (used 0 d_ty Use.Move a_name) d_ty ∷ param (used 1 i32 Use.Copy a_name) i32 ∷
-    param (used 2 i32 Use.Copy a_name) i32 ∷ []) unit
+f2 = body 7 (param (used 0 d_ty Use.Move a_name) d_ty ∷ param (used 1 i32 Use.Copy another_name) i32 ∷
+    param (used 2 i32 Use.Copy third_name) i32 ∷ []) unit
     (n 3 unit (Block no_node absent))
 
 -- fn g2(r: &D) -> i32 { 0 }
@@ -69,7 +69,7 @@ main_loop = body 6 [] unit
     ∷ [])))))
     ∷ [])) absent)))))))
 
-abbrev break_in_operands : ProgramTree
+abbrev pub break_in_operands : ProgramTree
 break_in_operands = record { items = items; bodies = drop_d ∷ take ∷ a ∷ t ∷ g ∷ f ∷ main_loop ∷ f2 ∷ g2 ∷ [] }
 
 break_drops_operands : source break_in_operands [] 100
@@ -91,7 +91,7 @@ main_panic = body 6 [] unit
     ∷ [])))))
     ∷ [])) absent))
 
-abbrev panic_in_operands : ProgramTree
+abbrev pub panic_in_operands : ProgramTree
 panic_in_operands = record { items = items; bodies = drop_d ∷ take ∷ a ∷ t ∷ g ∷ f ∷ main_panic ∷ f2 ∷ g2 ∷ [] }
 
 a_panic_drops_operands_before_temporaries_of_the_statement : source panic_in_operands [] 100
@@ -111,7 +111,7 @@ main_tail = body 6 [] unit
     ∷ (n 8 never Panic)
     ∷ [])))))))
 
-abbrev panic_in_a_tail : ProgramTree
+abbrev pub panic_in_a_tail : ProgramTree
 panic_in_a_tail = record { items = items; bodies = drop_d ∷ take ∷ a ∷ t ∷ g ∷ f ∷ main_tail ∷ f2 ∷ g2 ∷ [] }
 
 operands_and_temporaries_of_one_node_go_by_age : source panic_in_a_tail [] 100

@@ -42,7 +42,7 @@ main_index = body 2 [] unit
     (Field (n 14 d_ty (Index (n 15 array_d_2_ty (Variable 2)) (used 16 usize Use.Copy (Variable 9)) 2)) 0)))))
     ∷ [])) absent))
 
-abbrev past_the_end : ProgramTree
+abbrev pub past_the_end : ProgramTree
 past_the_end = record { items = items; bodies = drop_d ∷ take ∷ main_index ∷ [] }
 
 an_index_past_the_end : source past_the_end [] 100
@@ -64,7 +64,7 @@ main_element = body 2 [] unit
     (Field (n 14 d_ty (Index (n 15 array_d_2_ty (Variable 2)) (used 16 usize Use.Copy (Variable 9)) 2)) 0)))))
     ∷ [])) absent))
 
-abbrev within : ProgramTree
+abbrev pub within : ProgramTree
 within = record { items = items; bodies = drop_d ∷ take ∷ main_element ∷ [] }
 
 an_index_within_the_array : source within [] 100
@@ -82,7 +82,7 @@ main_sum = body 2 [] unit
     (stmt 1 (n 2 unit (Print (n 3 i32 (Arithmetic Math.Add (n 4 i32 (Number (pos 2147483647))) (n 5 i32 Ask))))))
     ∷ [])) absent))
 
-abbrev sum_ : ProgramTree
+abbrev pub sum_ : ProgramTree
 sum_ = record { items = items; bodies = drop_d ∷ take ∷ main_sum ∷ [] }
 
 a_sum_that_overflows : source sum_ (pos 1 ∷ []) 100
@@ -100,7 +100,7 @@ main_rem = body 2 [] unit
     (stmt 1 (n 2 unit (Print (n 3 i32 (Arithmetic Math.Rem (n 4 i32 (Number (negsuc 6))) (n 5 i32 Ask))))))
     ∷ [])) absent))
 
-abbrev remainder : ProgramTree
+abbrev pub remainder : ProgramTree
 remainder = record { items = items; bodies = drop_d ∷ take ∷ main_rem ∷ [] }
 
 a_remainder_has_the_sign_of_the_dividend : source remainder (pos 2 ∷ []) 100

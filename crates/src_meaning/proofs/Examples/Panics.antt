@@ -46,10 +46,10 @@ main_twice = body 2 [] unit
     (n 3 s_ty (Make 1 0 (fields ((0, (nn 4 (negsuc 0))) ∷ (1, (nn 6 (negsuc 1))) ∷ (2, (nn 8 (pos 3))) ∷ [])))))
     ∷ [])) absent))
 
-abbrev struct_ : ProgramTree
+abbrev pub struct_ : ProgramTree
 struct_ = record { items = items; bodies = drop_n ∷ h ∷ main_struct ∷ [] }
 
-abbrev twice : ProgramTree
+abbrev pub twice : ProgramTree
 twice = record { items = items; bodies = drop_n ∷ h ∷ main_twice ∷ [] }
 
 the_rest_of_a_value_is_dropped : source struct_ [] 100
@@ -76,7 +76,7 @@ main_assign = body 2 [] unit
     ∷ (stmt 5 (n 6 unit (Assign (used 7 n_ty Use.Store (Variable 2)) (nn 8 (pos 2)))))
     ∷ [])) absent))
 
-abbrev assigned : ProgramTree
+abbrev pub assigned : ProgramTree
 assigned = record { items = items; bodies = drop_n ∷ h ∷ main_assign ∷ [] }
 
 the_new_value_is_stored_all_the_same : source assigned [] 100
@@ -92,7 +92,7 @@ abbrev main_result : BodyTree
 main_result = body 2 [] unit (n 0 unit
     (Block (nodes ((stmt 1 (n 2 n_ty (Call 1 (nodes ((nn 3 (negsuc 0)) ∷ []))))) ∷ [])) absent))
 
-abbrev result : ProgramTree
+abbrev pub result : ProgramTree
 result = record { items = items; bodies = drop_n ∷ h ∷ main_result ∷ [] }
 
 a_result_is_dropped_after_the_parameters : source result [] 100
@@ -112,7 +112,7 @@ main_pending = body 2 [] unit
     (present (nn 8 (pos 7))))))
     ∷ [])) absent))
 
-abbrev pending : ProgramTree
+abbrev pub pending : ProgramTree
 pending = record { items = items; bodies = drop_n ∷ h ∷ main_pending ∷ [] }
 
 a_pending_destination_is_dropped : source pending [] 100

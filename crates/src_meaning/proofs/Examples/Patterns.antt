@@ -10,7 +10,7 @@ use Rattle.mir_ty.specs.ItemTable.{ItemTable}
 use Rattle.typed_tree.specs.declared.node.Use.{Use}
 use Rattle.typed_tree.specs.Tree.{no_node, no_field, absent, present, Number, Variable, Comparison, Call, Make, Tuple, Print, Ask, Block, Match, Arm, Wildcard, NumberPattern, VariantPattern, TuplePattern, OrPattern, BodyTree, ProgramTree}
 use Rattle.src_meaning.specs.Programs.{source}
-use Rattle.src_meaning.proofs.Examples.Words.{a_name, i32, unit, bool, n, used, nodes, fields, let_, stmt, body, param, ty_no, variant, enum, head}
+use Rattle.src_meaning.proofs.Examples.Words.{a_name, another_name, i32, unit, bool, n, used, nodes, fields, let_, stmt, body, param, ty_no, variant, enum, head}
 use Rattle.src_meaning.proofs.Examples.WithD.{d_ty, d, drop_d, take, with_d}
 
 abbrev tuple_d_d_ty : TyId
@@ -37,7 +37,7 @@ items = with_d (record {
 abbrev p : BodyTree
 p = body 2 (param (n 0 tuple_d_d_ty (TuplePattern (nodes ((used 1 d_ty Use.Move a_name) ∷ (n 2 d_ty Wildcard) ∷ []))))
     tuple_d_d_ty ∷ param (n 3 tuple_d_d_ty
-    (TuplePattern (nodes ((n 4 d_ty Wildcard) ∷ (used 5 d_ty Use.Move a_name) ∷ [])))) tuple_d_d_ty ∷ []) unit
+    (TuplePattern (nodes ((n 4 d_ty Wildcard) ∷ (used 5 d_ty Use.Move another_name) ∷ [])))) tuple_d_d_ty ∷ []) unit
     (n 6 unit (Block no_node absent))
 
 abbrev pair : BodyTree
@@ -54,7 +54,7 @@ main_params = body 4 [] unit
     ∷ [])))))
     ∷ [])) absent))
 
-abbrev params : ProgramTree
+abbrev pub params : ProgramTree
 params = record { items = items; bodies = drop_d ∷ take ∷ p ∷ pair ∷ main_params ∷ [] }
 
 names_of_parameters_are_entries_after_their_parameter : source params [] 100
@@ -74,7 +74,7 @@ main_let = body 4 [] unit
     ∷ (stmt 6 (n 7 unit (Print (n 8 i32 (Number (pos 7))))))
     ∷ [])) absent))
 
-abbrev of_let : ProgramTree
+abbrev pub of_let : ProgramTree
 of_let = record { items = items; bodies = drop_d ∷ take ∷ p ∷ pair ∷ main_let ∷ [] }
 
 what_a_let_does_not_take_is_dropped_with_the_statement : source of_let [] 100
@@ -93,7 +93,7 @@ main_match = body 4 [] unit
     (n 3 j_ty (Make 1 1 (fields ((0, (d 4 (pos 1))) ∷ (1, (n 6 i32 (Number (pos 4)))) ∷ [])))))
     ∷ [])) (present (n 7 unit (Match (used 8 j_ty Use.Borrow (Variable 2)) (nodes (
     (n 9 unit (Arm (used 10 j_ty Use.Test
-    (VariantPattern 1 true (fields ((0, (used 11 d_ty Use.Move a_name)) ∷ (1, (used 12 i32 Use.Copy a_name)) ∷
+    (VariantPattern 1 true (fields ((0, (used 11 d_ty Use.Move a_name)) ∷ (1, (used 12 i32 Use.Copy another_name)) ∷
     [])))) (present (n 13 bool (Comparison Cmp.Eq (used 14 i32 Use.Copy (Variable 12)) (n 15 i32 Ask))))
     (n 16 unit (Call 1 (nodes ((used 17 d_ty Use.Move (Variable 11)) ∷ []))))))
     ∷ (n 18 unit (Arm (used 19 j_ty Use.Test
@@ -103,7 +103,7 @@ main_match = body 4 [] unit
     (n 26 unit (Block no_node absent))))
     ∷ [])))))))
 
-abbrev match_ : ProgramTree
+abbrev pub match_ : ProgramTree
 match_ = record { items = items; bodies = drop_d ∷ take ∷ p ∷ pair ∷ main_match ∷ [] }
 
 the_guard_holds : source match_ (pos 4 ∷ []) 100
@@ -130,7 +130,7 @@ main_or = body 4 [] unit
     ∷ (n 18 unit (Arm (n 19 tuple_i32_i32_ty Wildcard) absent (n 20 unit (Print (n 21 i32 (Number (pos 2)))))))
     ∷ [])))))))
 
-abbrev or_ : ProgramTree
+abbrev pub or_ : ProgramTree
 or_ = record { items = items; bodies = drop_d ∷ take ∷ p ∷ pair ∷ main_or ∷ [] }
 
 a_guard_is_evaluated_once : source or_ (pos 1 ∷ pos 0 ∷ []) 100

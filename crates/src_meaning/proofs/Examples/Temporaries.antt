@@ -45,7 +45,7 @@ abbrev j : BodyTree
 j = body 5 (param (used 0 shared_d_ty Use.Copy a_name) shared_d_ty ∷ []) j_ty
     (n 1 j_ty (Block no_node (present (n 2 j_ty (Make 1 0 no_field)))))
 
-abbrev tail : ProgramTree
+abbrev pub tail : ProgramTree
 tail = record { items = items; bodies = drop_d ∷ take ∷ g ∷ h ∷ main_h ∷ j ∷ [] }
 
 of_a_tail_before_the_locals : source tail [] 100
@@ -66,7 +66,7 @@ main_if_let = body 4 [] unit
     (present (n 12 unit (Block (nodes ((stmt 13 (n 14 unit (Print (n 15 i32 (Number (pos 2)))))) ∷ []))
     absent))))))))
 
-abbrev if_let : ProgramTree
+abbrev pub if_let : ProgramTree
 if_let = record { items = items; bodies = drop_d ∷ take ∷ g ∷ h ∷ main_if_let ∷ j ∷ [] }
 
 of_if_let_before_the_else_block : source if_let [] 100
@@ -81,7 +81,7 @@ main_if = body 4 [] unit
     (Call 2 (nodes ((n 4 shared_d_ty (Borrow false (d 5 (pos 1)))) ∷ [])))) (n 7 i32 (Number (pos 5)))))
     (n 8 unit (Block (nodes ((stmt 9 (n 10 unit (Print (n 11 i32 (Number (pos 1)))))) ∷ [])) absent)) absent)))))
 
-abbrev if_ : ProgramTree
+abbrev pub if_ : ProgramTree
 if_ = record { items = items; bodies = drop_d ∷ take ∷ g ∷ h ∷ main_if ∷ j ∷ [] }
 
 of_a_condition_before_the_branch : source if_ [] 100
@@ -99,7 +99,7 @@ main_match = body 4 [] unit
     ∷ [])))))
     ∷ [])) absent))
 
-abbrev match_ : ProgramTree
+abbrev pub match_ : ProgramTree
 match_ = record { items = items; bodies = drop_d ∷ take ∷ g ∷ h ∷ main_match ∷ j ∷ [] }
 
 of_a_scrutinee_after_the_match : source match_ [] 100

@@ -93,7 +93,7 @@ main_ = body 7 [] unit
     (n 0 unit (Block (nodes ((stmt 1 (n 2 unit (Call 6 (nodes ((n 3 boxed_dyn_show_ty (Call 5 no_node)) ∷ []))))) ∷
     [])) absent))
 
-abbrev shown : ProgramTree
+abbrev pub shown : ProgramTree
 shown = record { items = items; bodies = drop_d ∷ take ∷ drop_e ∷ show_d ∷ show_e ∷ pick ∷ run ∷ main_ ∷ [] }
 
 by_the_impl_of_e : source shown (pos 1 ∷ []) 100

@@ -38,7 +38,7 @@ main_box = body 1 [] unit
     (n 0 unit (Block (nodes ((let_ 1 (used 2 boxed_n_ty Use.Move a_name)
     (n 3 boxed_n_ty (NewBox (nn 4 (negsuc 0))))) ∷ [])) absent))
 
-abbrev boxed : ProgramTree
+abbrev pub boxed : ProgramTree
 boxed = record { items = items; bodies = drop_n ∷ main_box ∷ [] }
 
 a_box_is_freed_after_its_content_panicked : source boxed [] 100
@@ -54,7 +54,7 @@ main_let = body 1 [] unit
     (present (n 10 tuple_n_n_ty (Tuple (nodes ((nn 11 (pos 2)) ∷ (nn 13 (pos 3)) ∷ []))))))))
     ∷ [])) absent))
 
-abbrev of_let : ProgramTree
+abbrev pub of_let : ProgramTree
 of_let = record { items = items; bodies = drop_n ∷ main_let ∷ [] }
 
 the_temporary_of_a_let_is_pending : source of_let [] 100

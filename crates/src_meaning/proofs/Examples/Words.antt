@@ -1,5 +1,5 @@
 -- Words in which the examples write typed trees and items.
-use Rattle.std.specs.Prelude.{ℕ, List, [], ◌∷◌, Option, Some, None, true, false, codes}
+use Rattle.std.specs.Prelude.{ℕ, suc, ◌+◌, List, [], ◌∷◌, Option, Some, None, true, false, codes}
 use Rattle.mir_base.specs.declared.place_in_text.Pos.{Pos}
 use Rattle.mir_ty.specs.declared.adt.Adt.{Adt}
 use Rattle.mir_ty.specs.declared.adt.Variant.{Variant}
@@ -24,6 +24,13 @@ used id ty by form = node id here ty (Some by) form
 abbrev pub a_name : Form
 a_name = Binding (codes "x")
 
+-- other names of the same pattern or list of parameters
+abbrev pub another_name : Form
+another_name = Binding (codes "y")
+
+abbrev pub third_name : Form
+third_name = Binding (codes "z")
+
 abbrev pub param : Node → TyId → ParamTree
 param pattern ty = record { pattern = pattern; ty = ty }
 
@@ -46,9 +53,13 @@ never = ty_no 3
 abbrev pub scalars : List Ty
 scalars = Ty.Int IntKind.I32 ∷ Ty.Unit ∷ Ty.Bool ∷ Ty.Never ∷ []
 
+-- fields are named by their numbers, each of one digit: 48 is the code of 0
+abbrev names_from : {A : Type 0} → ℕ → List A → List (List ℕ)
+names_from k [] = []
+names_from k (a ∷ as_) = ((48 + k) ∷ []) ∷ names_from (suc k) as_
+
 abbrev field_names : {A : Type 0} → List A → List (List ℕ)
-field_names [] = []
-field_names (a ∷ as_) = codes "f" ∷ field_names as_
+field_names = names_from 0
 
 abbrev pub variant : List ℕ → List TyId → Variant
 variant name fields = record { name = name; fields = fields; field_names = field_names fields }

@@ -1,0 +1,2 @@
+//! The typed trees of worked programs, typed from their texts.
+#![tactic(auto)]

@@ -1,0 +1,4 @@
+pub mod Accepted
+mod Forms
+mod Refusals
+pub mod Words

@@ -1,0 +1,159 @@
+-- Parameters, and bodies as a whole.
+use Rattle.std.specs.Prelude.{ℕ, suc, Bool, true, false, ◌||◌, not, List, [], ◌∷◌, ◌++◌, length, nat_le, map, Some, None, is_some}
+use Rattle.mir_base.specs.declared.place_in_text.Pos.{Pos}
+use Rattle.mir_base.specs.declared.rule.Rule.{Rule}
+use Rattle.mir_ty.specs.declared.ty.Ty.{Ty}
+use Rattle.mir_ty.specs.declared.ty.TyId.{TyId}
+use Rattle.typed_tree.specs.Nodes.{numbers_of}
+use Rattle.typed_tree.specs.Tree as tree
+use Rattle.typed_tree.specs.Tree.{Node, Form, Nodes, no_node, a_node, ParamTree, BodyTree}
+use Rattle.well_typed.specs.Types.{is_reference}
+use Rattle.typing_rules.specs.Check.{Check, ◌>>=◌, ◌>>◌, pure, breaks, obeys, known, the_items, number, body_number, interned, closure_added, with_body, in_new_body}
+use Rattle.typing_rules.specs.Numbered.{in_text_order}
+use Rattle.typing_rules.specs.Patterns.{pattern}
+use Rattle.typing_rules.specs.Places.{used, a_node_of, unit, variable_place}
+use Rattle.typing_rules.specs.Rows.{Typer, Expected, taking, taken, fitted}
+use Rattle.typing_rules.specs.Scope.{Env, Entry, Local, Capture, variable, with_variables}
+use Rattle.typing_rules.specs.Syntax.{Word, Receiver, ByValue, ByShared, ByUnique, Syn, syn, Shape, Ident, AnyPattern, BindPattern, ParensPattern, ParamOf, SelfParam, Syns, no_syn, a_syn, MaybeSyn, nothing, just}
+use Rattle.typing_rules.specs.View.{self_name}
+use Rattle.typing_rules.specs.Written as types_
+use Rattle.typing_rules.specs.Written.{written, written_param}
+
+abbrev pub all_rules : Env → types_.Around
+all_rules env = record { has_limits = true; self_adt = env.self_adt; adts = env.adts; traits = env.traits }
+
+-- the type that is written, or `()`
+abbrev pub answer_of : Env → MaybeSyn → Check TyId
+answer_of env nothing = pure unit
+answer_of env (just ty) = written (all_rules env) ty
+
+-- ---- parameters
+
+abbrev self_ty : Receiver → TyId → Check TyId
+self_ty ByValue ty = pure ty
+self_ty ByShared ty = interned (Ty.Shared ty)
+self_ty ByUnique ty = interned (Ty.Unique ty)
+
+abbrev pub receiver_ty : Env → Pos → Receiver → Check TyId
+receiver_ty env at receiver = do
+  n ← known Rule.T01 at env.self_adt
+  own ← interned (Ty.Adt n)
+  self_ty receiver own
+
+abbrev name_entry : Word → TyId → ℕ → Entry
+name_entry name ty key = record { name = name; ty = ty; meaning = Local key }
+
+-- a parameter that is one name
+abbrev name_param : Pos → Word → TyId → Check (ParamTree × Entry)
+name_param at name ty = do
+  id ← number
+  items ← the_items
+  let pattern = used (taking items ty) (a_node_of id at ty (tree.Binding name))
+  pure (record { pattern = pattern; ty = ty }, name_entry name ty id)
+
+abbrev mutual
+  is_name_or_wildcard : Syn → Bool
+  is_name_or_wildcard (syn at form) = is_name_or_wildcard_form form
+
+  is_name_or_wildcard_form : Shape → Bool
+  is_name_or_wildcard_form AnyPattern = true
+  is_name_or_wildcard_form (BindPattern name) = true
+  is_name_or_wildcard_form (ParensPattern inside) = is_name_or_wildcard inside
+  is_name_or_wildcard_form _ = false
+
+abbrev pub param_expected : Expected
+param_expected = record { is_fixed = false; takes_all = true }
+
+-- the type comes before the pattern, as in a `let`; a reference has a name or `_` for its pattern
+abbrev param : Env → (Syn → Check TyId) → Syn → List Entry → Check (ParamTree × List Entry)
+param env ty_of_param (syn at (ParamOf p ty)) earlier = do
+  t ← ty_of_param ty
+  items ← the_items
+  obeys Rule.T08 at (is_name_or_wildcard p || not (is_reference items t))
+  n ← pattern env param_expected t p earlier
+  pure (record { pattern = n.0; ty = t }, n.1)
+param env ty_of_param (syn at (SelfParam receiver)) earlier = do
+  ty ← receiver_ty env at receiver
+  p ← name_param at self_name ty
+  pure (p.0, earlier ++ p.1 ∷ [])
+param env ty_of_param (syn at _) earlier = breaks Rule.T20 at
+
+abbrev pub params_of : Env → (Syn → Check TyId) → Syns → List Entry → Check (List ParamTree × List Entry)
+params_of env ty_of_param no_syn earlier = pure ([], earlier)
+params_of env ty_of_param (a_syn first rest) earlier = do
+  p ← param env ty_of_param first earlier
+  ps ← params_of env ty_of_param rest p.1
+  pure (p.0 ∷ ps.0, ps.1)
+
+-- ---- bodies
+
+-- at most 2,048 nodes
+abbrev within_limit : Pos → BodyTree → Check BodyTree
+within_limit at body = do
+  obeys Rule.T19 at (nat_le (length (numbers_of body)) 2048)
+  pure body
+
+abbrev body_of : ℕ → List ParamTree → TyId → Node → BodyTree
+body_of n params answer block = in_text_order (record { number = n; params = params; answer = answer; block = block })
+
+abbrev inside : Env → TyId → List Entry → Env
+inside env answer entries = with_variables entries (record env { loops = []; answer = answer })
+
+-- the body of a function or a method; it stands before those of its closures
+abbrev pub fn_body : Env → Pos → Syns → MaybeSyn → (Env → Typer) → Check BodyTree
+fn_body env at params answer block = do
+  n ← body_number
+  with_body (λ b. b) (in_new_body do
+    ps ← params_of env (written_param (all_rules env)) params []
+    ty ← answer_of env answer
+    b ← block (inside env ty ps.1) (Some ty)
+    within_limit at (body_of n ps.0 ty b))
+
+-- ---- closures
+
+-- captures: each a use of a variable outside, which has a name of its own
+abbrev is_captured : Word → List Entry → Bool
+is_captured name entries = is_some (variable entries name)
+
+abbrev capture : Env → ℕ → Syn → List Entry → Check (Node × List Entry)
+capture env k (syn at (Ident name)) earlier = do
+  obeys Rule.T01 at (is_captured name env.variables)
+  obeys Rule.T02 at (not (is_captured name earlier))
+  x ← known Rule.T01 at (variable env.variables name)
+  p ← variable_place at x
+  n ← taken env None p
+  pure (n, earlier ++ record { name = name; ty = x.ty; meaning = Capture 0 k } ∷ [])
+capture env k (syn at _) earlier = breaks Rule.T20 at
+
+abbrev captured : Env → ℕ → Syns → List Entry → Check (Nodes × List Entry)
+captured env k no_syn earlier = pure (no_node, earlier)
+captured env k (a_syn first rest) earlier = do
+  c ← capture env k first earlier
+  cs ← captured env (suc k) rest c.1
+  pure (a_node c.0 cs.0, cs.1)
+
+abbrev types_of : List Entry → List TyId
+types_of entries = map (λ x. x.ty) entries
+
+-- inside, the captured names are the parts of the closure's value, which is the first parameter
+abbrev inside_closure : Env → List Entry → Env
+inside_closure env captures = with_variables captures (record env { variables = [] })
+
+abbrev closure_body : Env → Pos → ℕ → TyId → List Entry → Syns → MaybeSyn → (Env → Typer) → Check BodyTree
+closure_body env at n ty captures params answer block = with_body (λ b. b) (in_new_body do
+  self ← name_param at [] ty
+  ps ← params_of (inside_closure env captures) (written (all_rules env)) params []
+  t ← answer_of env answer
+  b ← block (inside (inside_closure env captures) t ps.1) (Some t)
+  within_limit at (body_of n (self.0 ∷ ps.0) t b))
+
+-- a closure: its captures are typed outside, its block in a body of its own
+abbrev pub closure : Env → Pos → Syns → Syns → MaybeSyn → (Env → Typer) → Typer
+closure env at captures params answer block want = do
+  id ← number
+  n ← body_number
+  caps ← captured env 0 captures []
+  k ← closure_added (types_of caps.1) n
+  ty ← interned (Ty.Closure k)
+  _ ← closure_body env at n ty caps.1 params answer block
+  fitted want (a_node_of id at ty (tree.Closure k caps.0))

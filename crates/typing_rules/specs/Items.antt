@@ -1,0 +1,125 @@
+-- What a text's items are by their names: which structs and enums, traits and bodies there are, in the order of their
+-- numbers, before any type is looked at.
+use Rattle.std.specs.Prelude.{ℕ, Bool, true, false, ◌&&◌, List, [], ◌∷◌, ◌++◌, map, Option, Some, None, codes}
+use Rattle.std.specs.List.{position as position_of, filter_map, flat_map}
+use Rattle.std.specs.Str.{bytes_eq}
+use Rattle.mir_base.specs.declared.place_in_text.Pos.{Pos}
+use Rattle.src_tree.specs.declared.row.Row.{Row}
+use Rattle.src_tree.specs.Layout as layout
+use Rattle.src_tree.specs.Layout.{node, Parts, end, tok, sub}
+use Rattle.typing_rules.specs.Syntax.{number_word, Word, Kind, Unit_, Syn, syn, StructItem, EnumItem, VariantDecl, TraitItem, ImplItem, FnItem, Syns, no_syn, a_syn}
+use Rattle.typing_rules.specs.View.{view}
+
+-- ---- structs, enums and traits
+
+abbrev adt_name : Syn → Option Word
+adt_name (syn at (StructItem derives name kind fields)) = Some name.1
+adt_name (syn at (EnumItem derives name variants)) = Some name.1
+adt_name _ = None
+
+abbrev trait_name : Syn → Option Word
+trait_name (syn at (TraitItem name heads)) = Some name.1
+trait_name _ = None
+
+abbrev variant_kind : Syn → Kind
+variant_kind (syn at (VariantDecl name kind fields)) = kind
+variant_kind _ = Unit_
+
+abbrev variant_kinds : Syns → List Kind
+variant_kinds no_syn = []
+variant_kinds (a_syn first rest) = variant_kind first ∷ variant_kinds rest
+
+abbrev kinds_of : Syn → Option (List Kind)
+kinds_of (syn at (StructItem derives name kind fields)) = Some (kind ∷ [])
+kinds_of (syn at (EnumItem derives name variants)) = Some (variant_kinds variants)
+kinds_of _ = None
+
+abbrev pub adt_names : List Syn → List Word
+adt_names items = filter_map adt_name items
+
+abbrev pub trait_names : List Syn → List Word
+trait_names items = filter_map trait_name items
+
+abbrev pub all_kinds : List Syn → List (List Kind)
+all_kinds items = filter_map kinds_of items
+
+-- ---- bodies
+
+abbrev is_body_row : Row → Bool
+is_body_row Row.Fn = true
+is_body_row Row.Method = true
+is_body_row Row.Closure = true
+is_body_row _ = false
+
+abbrev with_body : Bool → Syn → List Syn → List Syn
+with_body true body bodies = body ∷ bodies
+with_body false body bodies = bodies
+
+-- functions, methods and closures in text order: one before those inside it
+abbrev mutual
+  pub bodies_in : layout.Node Pos → List Syn
+  bodies_in (node at row parts) = with_body (is_body_row row) (view (node at row parts)) (bodies_among parts)
+
+  bodies_among : Parts Pos → List Syn
+  bodies_among end = []
+  bodies_among (tok t rest) = bodies_among rest
+  bodies_among (sub g rest) = bodies_in g ++ bodies_among rest
+
+-- an item with its bodies
+pub record ItemSyn : Type 0 where
+  pub item : Syn
+  pub bodies : List Syn
+
+abbrev pub items_of : Parts Pos → List ItemSyn
+items_of end = []
+items_of (tok t rest) = items_of rest
+items_of (sub g rest) = record { item = view g; bodies = bodies_in g } ∷ items_of rest
+
+abbrev pub item_syns : List ItemSyn → List Syn
+item_syns items = map (λ i. i.item) items
+
+-- whose method a body is, by which impl, and its own name; none for a closure
+pub record BodyHead : Type 0 where
+  pub owner : Option Word
+  pub trait_ : Option Word
+  pub name : Option Word
+
+abbrev impl_trait : Syn → Option Word
+impl_trait (syn at (ImplItem (Some trait_) name methods)) = Some trait_.1
+impl_trait _ = None
+
+abbrev pub impl_owner : Syn → Option Word
+impl_owner (syn at (ImplItem trait_ name methods)) = Some name.1
+impl_owner _ = None
+
+abbrev own_name : Syn → Option Word
+own_name (syn at (FnItem name params answer block)) = Some name.1
+own_name _ = None
+
+abbrev body_head : Syn → Syn → BodyHead
+body_head item body = record { owner = impl_owner item; trait_ = impl_trait item; name = own_name body }
+
+abbrev pub body_heads : List ItemSyn → List BodyHead
+body_heads items = flat_map (λ i. map (body_head i.item) i.bodies) items
+
+abbrev is_word : Word → Option Word → Bool
+is_word word None = false
+is_word word (Some other) = bytes_eq word other
+
+-- the body of a method of an impl
+abbrev is_method : Word → Word → Word → BodyHead → Bool
+is_method owner trait_ name head = is_word owner head.owner && (is_word trait_ head.trait_ && is_word name head.name)
+
+abbrev pub method_body : List BodyHead → Word → Word → Word → Option ℕ
+method_body heads owner trait_ name = position_of (is_method owner trait_ name) heads
+
+abbrev pub drop_body : List BodyHead → Word → Option ℕ
+drop_body heads owner = method_body heads owner (codes "Drop") (codes "drop")
+
+-- the name of a body: a function's own, `S::m` of a method, `f::closure#1` of a closure in f
+abbrev pub full_name : Option Word → Word → Word
+full_name None name = name
+full_name (Some owner) name = owner ++ codes "::" ++ name
+
+abbrev pub closure_name : Word → ℕ → Word
+closure_name outer k = outer ++ codes "::closure#" ++ number_word k

@@ -1,0 +1,289 @@
+-- Patterns: one row a form (The Rust Reference, "Patterns").
+use Rattle.std.specs.Prelude.{ℕ, suc, Bool, true, false, ◌==◌, ◌&&◌, ◌||◌, not, List, [], ◌∷◌, ◌++◌, length, nat_le, nat_lt, Option, Some, None, is_some, if◌then◌else◌, option_and_then, option_map, slice_get, replicate}
+use Rattle.std.specs.Option.{option_map_or}
+use Rattle.mir_base.specs.declared.int_kind.IntKind.{IntKind}
+use Rattle.mir_base.specs.declared.place_in_text.Pos.{Pos}
+use Rattle.mir_base.specs.declared.rule.Rule.{Rule}
+use Rattle.mir_ty.specs.declared.adt.Variant.{Variant}
+use Rattle.mir_ty.specs.declared.ty.Ty.{Ty}
+use Rattle.mir_ty.specs.declared.ty.TyId.{TyId}
+use Rattle.mir_ty.specs.Facts.{is_copy, has_drop_impl}
+use Rattle.mir_ty.specs.ItemTable.{ItemTable}
+use Rattle.typed_tree.specs.declared.node.Use.{Use}
+use Rattle.typed_tree.specs.Tree as tree
+use Rattle.typed_tree.specs.Tree.{Node, Form, Nodes, no_node, a_node, Fields}
+use Rattle.well_typed.specs.Types.{is_same, is_unit, is_bool, is_dyn, kind_of, tuple_of, array_of, variant_at, adt_at, is_enum}
+use Rattle.typing_rules.specs.Check.{Check, ◌>>=◌, ◌>>◌, ◌<$>◌, pure, breaks, obeys, known, the_items, number, interned}
+use Rattle.typing_rules.specs.Places.{used, a_node_of, int}
+use Rattle.typing_rules.specs.Rows.{Expected, taking, literal_value, is_signed_kind, most, all_given, are_known, Given}
+use Rattle.typing_rules.specs.Scope.{Env, Entry, Local, variable, variant_named, field_named, kind_at, adt_at_head, adt_named}
+use Rattle.typing_rules.specs.Syntax.{Word, Kind, Unit_, Fields_, Syn, syn, Shape, AnyPattern, BindPattern, LiteralPattern, TruthPattern, PathPattern, PartsPattern, FieldsPattern, FieldPattern, ParensPattern, TuplePattern, ArrayPattern, Alternatives, Syns, no_syn, a_syn, nothing, just}
+
+-- what a pattern gives: its node, and the bindings so far
+abbrev Bound : Type 0
+Bound = Node × List Entry
+
+abbrev pub count_of : Syns → ℕ
+count_of no_syn = 0
+count_of (a_syn first rest) = suc (count_of rest)
+
+abbrev agrees_kind : Option IntKind → TyId → Bool
+agrees_kind None ty = true
+agrees_kind (Some kind) ty = is_same (int kind) ty
+
+abbrev literal_pattern : Pos → Expected → TyId → Bool → ℕ → Option IntKind → Check Node
+literal_pattern at e ty is_negative value suffix = do
+  id ← number
+  items ← the_items
+  kind ← known Rule.T03 at (kind_of items ty)
+  obeys Rule.T03 at (agrees_kind suffix ty && (not is_negative || is_signed_kind kind))
+  obeys Rule.T17 at (nat_le value (most kind is_negative))
+  obeys Rule.T18 at (not e.takes_all)
+  pure (used Use.Test (a_node_of id at ty (tree.NumberPattern (literal_value is_negative value))))
+
+abbrev truth_pattern : Pos → Expected → TyId → Bool → Check Node
+truth_pattern at e ty value = do
+  id ← number
+  items ← the_items
+  obeys Rule.T03 at (is_bool items ty)
+  obeys Rule.T18 at (not e.takes_all)
+  pure (used Use.Test (a_node_of id at ty (tree.TruthPattern value)))
+
+abbrev bind : Pos → Expected → TyId → Word → List Entry → Check Bound
+bind at e ty name earlier = do
+  id ← number
+  items ← the_items
+  obeys Rule.T02 at (not (is_some (variable earlier name)))
+  obeys Rule.T07 at (is_copy items ty || not (e.is_fixed || is_dyn items ty))
+  let entry : Entry = record { name = name; ty = ty; meaning = Local id }
+  pure (used (taking items ty) (a_node_of id at ty (tree.Binding name)), earlier ++ entry ∷ [])
+
+-- ---- structs and variants
+
+-- what a path names: a struct, or a variant of an enum
+pub record Target : Type 0 where
+  pub adt : ℕ
+  pub variant : ℕ
+
+abbrev target : ℕ → ℕ → Target
+target adt variant = record { adt = adt; variant = variant }
+
+abbrev pub target_of : ItemTable → Env → Option Word → Option Word → Option Target
+target_of items env first None =
+    option_and_then (λ n. if is_enum items n then None else Some (target n 0)) (adt_at_head items env first)
+target_of items env first (Some second) =
+    option_and_then (λ n. option_map (target n) (variant_named items n second)) (adt_at_head items env first)
+
+abbrev variants_of : ItemTable → ℕ → ℕ
+variants_of items adt = option_map_or (λ def. length def.variants) (adt_at items adt) 0
+
+abbrev fields_of : ItemTable → Target → List TyId
+fields_of items t = option_map_or (λ v. v.fields) (variant_at items t.adt t.variant) []
+
+-- a variant of an enum with more than one is a test
+abbrev is_test : ItemTable → Target → Bool
+is_test items t = is_enum items t.adt && nat_lt 1 (variants_of items t.adt)
+
+abbrev parts_form : ItemTable → Target → Fields → Form
+parts_form items t fields =
+    if is_enum items t.adt then tree.VariantPattern t.variant (is_test items t) fields else tree.StructPattern fields
+
+abbrev tested_if : Bool → Node → Node
+tested_if b n = if b then used Use.Test n else n
+
+-- what is inside a type with a `Drop` impl is not moved out of
+abbrev inside_of : ItemTable → TyId → Expected → Expected
+inside_of items ty e = record e { is_fixed = e.is_fixed || has_drop_impl items ty }
+
+-- the place is of the type that the path names; then its parts, how many there are, and whether it may be a test
+abbrev of_target : Pos → Expected → TyId → Target → (Expected → List TyId → Check (Fields × List Entry × Bool ×
+    Bool)) → Check Bound
+of_target at e ty t parts = do
+  id ← number
+  self ← interned (Ty.Adt t.adt)
+  obeys Rule.T03 at (is_same ty self)
+  before ← the_items
+  ps ← parts (inside_of before ty e) (fields_of before t)
+  items ← the_items
+  obeys Rule.T04 at ps.2
+  obeys Rule.T12 at ps.3
+  obeys Rule.T18 at (not (e.takes_all && is_test items t))
+  pure (tested_if (is_test items t) (a_node_of id at ty (parts_form items t ps.0)), ps.1)
+
+-- a lone name: a unit struct's pattern, or a binding; a struct with fields has no such pattern
+abbrev is_unit_kind : Kind → Bool
+is_unit_kind Unit_ = true
+is_unit_kind _ = false
+
+abbrev no_parts : List Entry → Bool → Expected → List TyId → Check (Fields × List Entry × Bool × Bool)
+no_parts earlier is_whole e tys = pure (tree.no_field, earlier, is_whole, true)
+
+abbrev lone_struct : Env → Pos → Expected → TyId → ℕ → List Entry → Check Bound
+lone_struct env at e ty adt earlier =
+    if is_unit_kind (kind_at env.kinds adt 0) then of_target at e ty (target adt 0) (no_parts earlier true)
+    else breaks Rule.T18 at
+
+abbrev lone_by : Env → Pos → Expected → TyId → Word → List Entry → Option ℕ → ItemTable → Check Bound
+lone_by env at e ty name earlier None items = bind at e ty name earlier
+lone_by env at e ty name earlier (Some adt) items =
+    if is_enum items adt then bind at e ty name earlier else lone_struct env at e ty adt earlier
+
+abbrev lone_name : Env → Pos → Expected → TyId → Word → List Entry → Check Bound
+lone_name env at e ty name earlier = do
+  items ← the_items
+  lone_by env at e ty name earlier (adt_named items name) items
+
+-- a path alone: `Self` as a lone name, a variant without parts
+abbrev path_alone : Env → Pos → Expected → TyId → Option Word → Option Word → List Entry → Check Bound
+path_alone env at e ty first None earlier = do
+  adt ← known Rule.T01 at env.self_adt
+  items ← the_items
+  obeys Rule.T01 at (not (is_enum items adt))
+  lone_struct env at e ty adt earlier
+path_alone env at e ty first (Some second) earlier = do
+  items ← the_items
+  t ← known Rule.T01 at (target_of items env first (Some second))
+  of_target at e ty t (no_parts earlier (is_unit_kind (kind_at env.kinds t.adt t.variant)))
+
+-- parts by their order: as many as there are, or no more before `..`
+abbrev is_count : Bool → ℕ → ℕ → Bool
+is_count dots given count = if dots then nat_le given count else given == count
+
+abbrev is_named_kind : Kind → Bool
+is_named_kind Fields_ = true
+is_named_kind _ = false
+
+abbrev has_named_parts : Env → Target → Bool
+has_named_parts env t = is_named_kind (kind_at env.kinds t.adt t.variant)
+
+-- ---- tuples
+
+abbrev tuple_types : ItemTable → TyId → Option (List TyId)
+tuple_types items ty = if is_unit items ty then Some [] else tuple_of items ty
+
+abbrev has_names : List Entry → List Entry → Bool
+has_names earlier later = not (length earlier == length later)
+
+abbrev fields_from : ℕ → Nodes → Fields
+fields_from k no_node = tree.no_field
+fields_from k (a_node first rest) = tree.a_field k first (fields_from (suc k) rest)
+
+abbrev field_ty : List TyId → Option ℕ → Option (ℕ × TyId)
+field_ty tys number = option_and_then (λ k. option_map (λ ty. (k, ty)) (slice_get tys k)) number
+
+abbrev no_variant : Variant
+no_variant = record { name = []; fields = []; field_names = [] }
+
+abbrev with_field : Option (ℕ × Node) → Fields → Fields
+with_field None fields = fields
+with_field (Some f) fields = tree.a_field f.0 f.1 fields
+
+abbrev is_again : ℕ → Given → Bool
+is_again k [] = false
+is_again k (None ∷ given) = is_again k given
+is_again k (Some n ∷ given) = k == n || is_again k given
+
+abbrev are_given_once : Given → Bool
+are_given_once [] = true
+are_given_once (None ∷ given) = are_given_once given
+are_given_once (Some n ∷ given) = not (is_again n given) && are_given_once given
+
+abbrev with_number : ℕ → Bound → Option (ℕ × Node) × List Entry × Option ℕ
+with_number k b = (Some (k, b.0), b.1, Some k)
+
+abbrev field_at : List Entry → Option (ℕ × TyId) → (TyId → Check Bound) → Check (Option (ℕ × Node) × List Entry ×
+    Option ℕ)
+field_at earlier None typed = pure (None, earlier, None)
+field_at earlier (Some f) typed = with_number f.0 <$> typed f.1
+
+abbrev field_by : Variant → Word → List Entry → (TyId → Check Bound) → Check (Option (ℕ × Node) × List Entry × Option ℕ)
+field_by v name earlier typed = field_at earlier (field_ty v.fields (field_named v name)) typed
+
+abbrev mutual
+  -- a pattern for a place of a type, after these bindings of the same pattern
+  pub pattern : Env → Expected → TyId → Syn → List Entry → Check Bound
+  pattern env e ty (syn at form) earlier = pattern_form env e ty at form earlier
+
+  pattern_form : Env → Expected → TyId → Pos → Shape → List Entry → Check Bound
+  pattern_form env e ty at AnyPattern earlier = do
+    id ← number
+    pure (a_node_of id at ty tree.Wildcard, earlier)
+  pattern_form env e ty at (BindPattern name) earlier = lone_name env at e ty name earlier
+  pattern_form env e ty at (LiteralPattern is_negative value suffix) earlier = do
+    n ← literal_pattern at e ty is_negative value suffix
+    pure (n, earlier)
+  pattern_form env e ty at (TruthPattern value) earlier = do
+    n ← truth_pattern at e ty value
+    pure (n, earlier)
+  pattern_form env e ty at (PathPattern first second) earlier = path_alone env at e ty first second earlier
+  pattern_form env e ty at (PartsPattern first second parts dots) earlier = do
+    items ← the_items
+    t ← known Rule.T01 at (target_of items env first second)
+    of_target at e ty t (λ inside tys. do
+      ps ← part_patterns env inside tys parts earlier
+      pure (
+        fields_from 0 ps.0,
+        ps.1,
+        is_count dots (count_of parts) (length tys) && not (has_named_parts env t &&
+            not (count_of parts == 0)),
+        true,
+      ))
+  pattern_form env e ty at (FieldsPattern first second fields dots) earlier = do
+    items ← the_items
+    t ← known Rule.T01 at (target_of items env first second)
+    of_target at e ty t (λ inside tys. do
+      ps ← field_patterns env inside (option_map_or (λ v. v) (variant_at items t.adt t.variant) no_variant) fields
+          earlier
+      pure (ps.0, ps.1, are_given_once ps.2 && (dots || all_given (length tys) ps.2), are_known ps.2))
+  pattern_form env e ty at (ParensPattern inside) earlier = pattern env e ty inside earlier
+  pattern_form env e ty at (TuplePattern parts dots) earlier = do
+    id ← number
+    items ← the_items
+    tys ← known Rule.T03 at (tuple_types items ty)
+    ps ← part_patterns env e tys parts earlier
+    obeys Rule.T04 at (is_count dots (count_of parts) (length tys))
+    pure (a_node_of id at ty (tree.TuplePattern ps.0), ps.1)
+  pattern_form env e ty at (ArrayPattern elements dots) earlier = do
+    id ← number
+    items ← the_items
+    a ← known Rule.T03 at (array_of items ty)
+    ps ← part_patterns env e (replicate a.1 a.0) elements earlier
+    obeys Rule.T04 at (is_count dots (count_of elements) a.1)
+    pure (a_node_of id at ty (tree.ArrayPattern ps.0), ps.1)
+  pattern_form env e ty at (Alternatives patterns) earlier = do
+    id ← number
+    ps ← each_pattern env e ty patterns earlier
+    obeys Rule.T18 at (not (has_names earlier ps.1))
+    pure (a_node_of id at ty (tree.OrPattern ps.0), ps.1)
+  pattern_form env e ty at _ earlier = breaks Rule.T20 at
+
+  -- patterns of parts in their order; those past the last part are not typed
+  part_patterns : Env → Expected → List TyId → Syns → List Entry → Check (Nodes × List Entry)
+  part_patterns env e tys no_syn earlier = pure (no_node, earlier)
+  part_patterns env e [] (a_syn first rest) earlier = pure (no_node, earlier)
+  part_patterns env e (ty ∷ tys) (a_syn first rest) earlier = do
+    p ← pattern env e ty first earlier
+    ps ← part_patterns env e tys rest p.1
+    pure (a_node p.0 ps.0, ps.1)
+
+  each_pattern : Env → Expected → TyId → Syns → List Entry → Check (Nodes × List Entry)
+  each_pattern env e ty no_syn earlier = pure (no_node, earlier)
+  each_pattern env e ty (a_syn first rest) earlier = do
+    p ← pattern env e ty first earlier
+    ps ← each_pattern env e ty rest p.1
+    pure (a_node p.0 ps.0, ps.1)
+
+  -- patterns of fields by their names; one for a field that is not there is not typed
+  field_patterns : Env → Expected → Variant → Syns → List Entry → Check (Fields × List Entry × Given)
+  field_patterns env e v no_syn earlier = pure (tree.no_field, earlier, [])
+  field_patterns env e v (a_syn first rest) earlier = do
+    p ← field_pattern env e v first earlier
+    ps ← field_patterns env e v rest p.1
+    pure (with_field p.0 ps.0, ps.1, p.2 ∷ ps.2)
+
+  field_pattern : Env → Expected → Variant → Syn → List Entry → Check (Option (ℕ × Node) × List Entry × Option ℕ)
+  field_pattern env e v (syn at (FieldPattern name nothing)) earlier =
+      field_by v name earlier (λ ty. bind at e ty name earlier)
+  field_pattern env e v (syn at (FieldPattern name (just inside))) earlier =
+      field_by v name earlier (λ ty. pattern env e ty inside earlier)
+  field_pattern env e v (syn at _) earlier = breaks Rule.T20 at

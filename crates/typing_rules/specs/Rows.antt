@@ -1,0 +1,756 @@
+-- One row a form. A row has the checks of the node's children, each of which waits for the type that is required of it,
+-- and asks nothing else of them than the typed nodes that they give.
+use Rattle.std.specs.Prelude.{ℕ, zero, suc, ℤ, pos, negsuc, ◌^◌, ◌-◌, Bool, true, false, ◌==◌, ◌&&◌, ◌||◌, not, List, [], ◌∷◌, Option, Some, None, if◌then◌else◌, option_and_then, option_map, length, slice_get, map, nat_le, is_some, is_none, drop}
+use Rattle.std.specs.List.{list_all}
+use Rattle.std.specs.Option.{option_map_or}
+use Rattle.mir_base.specs.declared.int_kind.IntKind.{IntKind}
+use Rattle.mir_base.specs.declared.operator.Cmp.{Cmp}
+use Rattle.mir_base.specs.declared.operator.Math.{Math}
+use Rattle.mir_base.specs.declared.place_in_text.Pos.{Pos}
+use Rattle.mir_base.specs.declared.rule.Rule.{Rule}
+use Rattle.mir_ty.specs.declared.def.Sig.{Sig}
+use Rattle.mir_ty.specs.declared.ty.Ty.{Ty}
+use Rattle.mir_ty.specs.declared.ty.TyId.{TyId}
+use Rattle.mir_ty.specs.Facts.{is_copy}
+use Rattle.mir_ty.specs.ItemTable.{ItemTable}
+use Rattle.typed_tree.specs.declared.node.Use.{Use}
+use Rattle.typed_tree.specs.Tree as tree
+use Rattle.typed_tree.specs.Tree.{Node, node, Form, Nodes, no_node, a_node, Fields, no_field, a_field, MaybeNode, absent, present}
+use Rattle.well_typed.specs.Places.{ty_of, form_of, is_place}
+use Rattle.well_typed.specs.Types.{is_same, is_unit, is_bool, is_never, is_int, is_dyn, kind_of, tuple_of, array_of, boxed_of, closure_of, inside_of, reference_of, is_reference, fits}
+use Rattle.typing_rules.specs.Check.{Check, ◌>>=◌, ◌>>◌, ◌<$>◌, pure, breaks, obeys, known, the_items, number, interned, breaks_out, types_of_breaks}
+use Rattle.typing_rules.specs.Places.{place_in_text, used, a_node_of, unit, bool, never, int, Fit, Fits, Coerced, Differs, fit, agrees, wanted, is_any, is_fixed, is_behind_shared, in_own_guard, variable_place, through}
+use Rattle.typing_rules.specs.Scope.{Env, Entry, Around}
+use Rattle.typing_rules.specs.Syntax.{Word}
+
+-- a check of an expression, which waits for the type that is required of it
+abbrev pub Typer : Type 0
+Typer = Option TyId → Check Node
+
+-- ---- required types
+
+abbrev unsized : TyId → ℕ → Node → Check Node
+unsized want trait_no n = do
+  id ← number
+  pure (a_node_of id (place_in_text n) want (tree.Unsize trait_no n))
+
+-- a leaf of the type that is required, coerced to it where it is a box of a trait's implementor
+abbrev pub fitted_by : TyId → Node → Fit → Check Node
+fitted_by want n Fits = pure n
+fitted_by want n (Coerced trait_no) = unsized want trait_no n
+fitted_by want n Differs = breaks Rule.T03 (place_in_text n)
+
+abbrev pub fitted : Option TyId → Node → Check Node
+fitted None n = pure n
+fitted (Some want) n = do
+  items ← the_items
+  fitted_by want n (fit items want (ty_of n))
+
+-- a node that has passed its required type on has that type, or `!`
+abbrev pub settled : Option TyId → Node → Check Node
+settled want n = do
+  items ← the_items
+  obeys Rule.T03 (place_in_text n) (agrees items want (ty_of n))
+  pure n
+
+-- ---- literals
+
+abbrev chosen : Option IntKind → Option IntKind → IntKind
+chosen (Some suffix) want = suffix
+chosen None (Some kind) = kind
+chosen None None = IntKind.I32
+
+-- a number, and the number with a `-` before it
+abbrev negative : ℕ → ℤ
+negative zero = pos 0
+negative (suc n) = negsuc n
+
+abbrev pub literal_value : Bool → ℕ → ℤ
+literal_value is_negative value = if is_negative then negative value else pos value
+
+abbrev pub is_signed_kind : IntKind → Bool
+is_signed_kind IntKind.I32 = true
+is_signed_kind IntKind.I64 = true
+is_signed_kind _ = false
+
+-- how great a number may be, and how great behind a `-`
+abbrev pub most : IntKind → Bool → ℕ
+most IntKind.I32 is_negative = if is_negative then 2 ^ 31 else 2 ^ 31 - 1
+most IntKind.I64 is_negative = if is_negative then 2 ^ 63 else 2 ^ 63 - 1
+most IntKind.U32 is_negative = if is_negative then 0 else 2 ^ 32 - 1
+most _ is_negative = if is_negative then 0 else 2 ^ 64 - 1
+
+-- its suffix, else the required integer type, else `i32`
+abbrev pub literal : Pos → Bool → ℕ → Option IntKind → Typer
+literal at is_negative value suffix want = do
+  id ← number
+  items ← the_items
+  let kind = chosen suffix (option_and_then (kind_of items) want)
+  obeys Rule.T03 at (not is_negative || is_signed_kind kind)
+  n ← fitted want (a_node_of id at (int kind) (tree.Number (literal_value is_negative value)))
+  obeys Rule.T17 at (nat_le value (most kind is_negative))
+  pure n
+
+-- a leaf of a type that it has whatever is required
+abbrev pub leaf : Pos → TyId → Form → Typer
+leaf at ty form want = do
+  id ← number
+  fitted want (a_node_of id at ty form)
+
+-- ---- places
+
+abbrev pub taking : ItemTable → TyId → Use
+taking items ty = if is_copy items ty then Use.Copy else Use.Move
+
+-- a place in a value context is copied where its type is Copy, and moved out of otherwise
+abbrev pub taken : Env → Option TyId → Node → Check Node
+taken env want place = do
+  items ← the_items
+  let ty = ty_of place
+  n ← fitted want (used (taking items ty) place)
+  obeys Rule.T07 (place_in_text place) (is_copy items ty || not (is_fixed items (in_own_guard env.variables) place ||
+      is_dyn items ty))
+  obeys Rule.T08 (place_in_text place) (not (is_reference items ty))
+  pure n
+
+-- a reference variable does not stand by itself
+abbrev pub no_reference : Node → Check Node
+no_reference n = do
+  items ← the_items
+  obeys Rule.T08 (place_in_text n) (not (is_reference items (ty_of n)))
+  pure n
+
+abbrev pub field : Pos → (ItemTable → TyId → Option (ℕ × TyId)) → Check Node → Check Node
+field at member base = do
+  id ← number
+  b ← base
+  found ← through member at b
+  f ← known Rule.T12 at found.1
+  pure (a_node_of id at f.1 (tree.Field found.0 f.0))
+
+abbrev pub deref : Pos → Check Node → Check Node
+deref at base = do
+  id ← number
+  b ← base
+  items ← the_items
+  ty ← known Rule.T03 at (inside_of items (ty_of b))
+  pure (a_node_of id at ty (tree.Deref b))
+
+abbrev pub element : Pos → Check Node → Typer → Check Node
+element at base index = do
+  id ← number
+  b ← base >>= no_reference
+  i ← index (Some (int IntKind.Usize))
+  items ← the_items
+  a ← known Rule.T03 at (array_of items (ty_of b))
+  pure (a_node_of id at a.0 (tree.Index b i a.1))
+
+-- ---- operators
+
+abbrev pub not_row : Pos → Typer → Typer
+not_row at operand want = do
+  id ← number
+  n ← operand None
+  items ← the_items
+  obeys Rule.T03 at (fits items bool (ty_of n))
+  fitted want (a_node_of id at bool (tree.Not n))
+
+abbrev if_int : ItemTable → TyId → Option TyId
+if_int items ty = if is_int items ty then Some ty else None
+
+abbrev pub negate : Pos → Typer → Typer
+negate at operand want = do
+  id ← number
+  items ← the_items
+  n ← operand (wanted if_int items want)
+  obeys Rule.T03 at (is_same (ty_of n) (int IntKind.I32) || is_same (ty_of n) (int IntKind.I64))
+  fitted want (a_node_of id at (ty_of n) (tree.Negate n))
+
+abbrev unless_never : ItemTable → TyId → Option TyId
+unless_never items ty = if is_never items ty then None else Some ty
+
+-- Where the left operand is a literal without a suffix and no type is required of it, the right one is typed first and
+-- requires its type of the left.
+abbrev left_last : Typer → Typer → Check (Node × Node)
+left_last left right = do
+  r ← right None
+  items ← the_items
+  l ← left (unless_never items (ty_of r))
+  pure (l, r)
+
+-- The type of the left operand, where it is an integer type, is required of the right one.
+abbrev left_first : Option TyId → Typer → Typer → Check (Node × Node)
+left_first want left right = do
+  l ← left want
+  items ← the_items
+  r ← right (if_int items (ty_of l))
+  pure (l, r)
+
+abbrev pub operands : Bool → Option TyId → Typer → Typer → Check (Node × Node)
+operands true None left right = left_last left right
+operands _ want left right = left_first want left right
+
+-- branches and operands have one type, where `!` takes the other's
+abbrev pub one_of_two : ItemTable → TyId → TyId → Option TyId
+one_of_two items a b =
+    if is_never items a then Some b else (if is_never items b || is_same a b then Some a else None)
+
+abbrev pub one_type : ItemTable → List TyId → Option TyId
+one_type items [] = Some never
+one_type items (ty ∷ tys) = option_and_then (one_of_two items ty) (one_type items tys)
+
+abbrev int_or_bool : ItemTable → TyId → Option TyId
+int_or_bool items ty = if is_bool items ty then Some ty else if_int items ty
+
+abbrev pub arithmetic : Pos → Math → Bool → Typer → Typer → Typer
+arithmetic at operator is_literal left right want = do
+  id ← number
+  before ← the_items
+  both ← operands is_literal (wanted if_int before want) left right
+  items ← the_items
+  ty ← known Rule.T03 at (option_and_then (if_int items) (one_of_two items (ty_of both.0) (ty_of both.1)))
+  fitted want (a_node_of id at ty (tree.Arithmetic operator both.0 both.1))
+
+abbrev pub comparison : Pos → Cmp → Bool → Typer → Typer → Typer
+comparison at operator is_literal left right want = do
+  id ← number
+  both ← operands is_literal None left right
+  items ← the_items
+  _ ← known Rule.T03 at (option_and_then (int_or_bool items) (one_of_two items (ty_of both.0) (ty_of both.1)))
+  fitted want (a_node_of id at bool (tree.Comparison operator both.0 both.1))
+
+-- `&&`, `||`
+abbrev pub logic : Pos → (Node → Node → Form) → Typer → Typer → Typer
+logic at form left right want = do
+  id ← number
+  l ← left None
+  r ← right None
+  items ← the_items
+  obeys Rule.T03 at (fits items bool (ty_of l) && fits items bool (ty_of r))
+  fitted want (a_node_of id at bool (form l r))
+
+abbrev own_in : List ℕ → Form → Bool
+own_in keys (tree.Variable key) = is_any key keys
+own_in keys _ = false
+
+-- what is stored into is a place, and no binding inside its own guard
+abbrev pub store : Env → Pos → Check Node → Typer → Typer
+store env at place value want = do
+  id ← number
+  p ← place >>= no_reference
+  v ← value (Some (ty_of p))
+  items ← the_items
+  obeys Rule.T03 at (not (is_dyn items (ty_of p)))
+  n ← fitted want (a_node_of id at unit (tree.Assign (used Use.Store p) v))
+  obeys Rule.T05 at (is_place (form_of p) && not (own_in (in_own_guard env.variables) (form_of p)))
+  obeys Rule.T08 (place_in_text p) (not (is_behind_shared items p))
+  pure n
+
+-- ---- references
+
+abbrev pub borrow_by : Bool → Use
+borrow_by unique = if unique then Use.BorrowMut else Use.Borrow
+
+-- a place is used so, and a value becomes a temporary
+abbrev pub used_if_place : Use → Node → Node
+used_if_place by n = if is_place (form_of n) then used by n else n
+
+abbrev reference_ty : Bool → TyId → Ty
+reference_ty unique to = if unique then Ty.Unique to else Ty.Shared to
+
+abbrev is_same_truth : Bool → Bool → Bool
+is_same_truth a b = if a then b else not b
+
+-- an argument for a reference parameter: the parameter's type, whether it is unique, and the type that it names
+abbrev pub Referrer : Type 0
+Referrer = TyId → Bool → TyId → Check Node
+
+abbrev borrow_of : ℕ → Pos → Bool → Node → Check Node
+borrow_of id at unique base = do
+  ty ← interned (reference_ty unique (ty_of base))
+  pure (a_node_of id at ty (tree.Borrow unique (used_if_place (borrow_by unique) base)))
+
+-- `&e` and `&mut e`
+abbrev pub borrow : Pos → Bool → Check Node → Referrer
+borrow at unique base want is_unique to = do
+  id ← number
+  b ← base >>= no_reference
+  items ← the_items
+  obeys Rule.T03 at (is_same (ty_of b) to && is_same_truth unique is_unique)
+  obeys Rule.T08 (place_in_text b) (not (unique && is_behind_shared items b))
+  borrow_of id at unique b
+
+abbrev passes : Bool → TyId → Option (Bool × TyId) → Bool
+passes is_unique to None = false
+passes is_unique to (Some r) = is_same r.1 to && (r.0 || not is_unique)
+
+-- a reference variable that is passed on borrows what it names, by `&mut` where the parameter is `&mut T`
+abbrev pub passed_on : Pos → Entry → Referrer
+passed_on at x want is_unique to = do
+  items ← the_items
+  obeys Rule.T03 at (passes is_unique to (reference_of items x.ty))
+  id ← number
+  through_id ← number
+  v ← variable_place at x
+  borrow_of id at is_unique (a_node_of through_id at to (tree.Deref v))
+
+abbrev argument_by : TyId → Typer → Referrer → Option (Bool × TyId) → Check Node
+argument_by ty by_value by_reference None = by_value (Some ty)
+argument_by ty by_value by_reference (Some r) = by_reference ty r.0 r.1
+
+abbrev pub argument : TyId → Typer → Referrer → Check Node
+argument ty by_value by_reference = do
+  items ← the_items
+  argument_by ty by_value by_reference (reference_of items ty)
+
+-- ---- calls
+
+abbrev pub call : Pos → (Nodes → Form) → TyId → ℕ → List TyId → (List TyId → Check Nodes) → Bool → Typer
+call at form answer count params args may_be_called want = do
+  id ← number
+  given ← args params
+  n ← fitted want (a_node_of id at answer (form given))
+  obeys Rule.T04 at (count == length params)
+  obeys Rule.T13 at may_be_called
+  pure n
+
+-- what cannot be called, once its arguments are typed
+abbrev pub no_call : Pos → Rule → (List TyId → Check Nodes) → Typer
+no_call at rule args want = do
+  given ← args []
+  breaks rule at
+
+-- a method of a struct or an enum by its body, or of a trait object by its trait and number; and its head
+pub data Method : Type 0 where
+  OfAdt : (body : ℕ) (is_drop : Bool) (head : Sig) → Method
+  OfTrait : (trait_no method : ℕ) (head : Sig) → Method
+
+abbrev head_of : Method → Sig
+head_of (OfAdt body is_drop head) = head
+head_of (OfTrait trait_no method head) = head
+
+abbrev is_drop_method : Method → Bool
+is_drop_method (OfAdt body is_drop head) = is_drop
+is_drop_method (OfTrait trait_no method head) = false
+
+abbrev method_form : Method → Node → Nodes → Form
+method_form (OfAdt body is_drop head) receiver args = tree.MethodCall body receiver args
+method_form (OfTrait trait_no method head) receiver args = tree.VirtualCall trait_no method receiver args
+
+abbrev received_by : Env → Pos → Node → Option (Bool × TyId) → Check Node
+received_by env at base None = if is_place (form_of base) then taken env None base else pure base
+received_by env at base (Some r) = do
+  id ← number
+  borrow_of id at r.0 base
+
+-- `self` by reference borrows the place that was found, `self` by value takes it
+abbrev received : Env → Pos → Node → TyId → Check Node
+received env at base self = do
+  items ← the_items
+  received_by env at base (reference_of items self)
+
+abbrev is_unique_borrow : Form → Bool
+is_unique_borrow (tree.Borrow unique base) = unique
+is_unique_borrow _ = false
+
+abbrev with_self : Env → Pos → ℕ → Node → Method → ℕ → (List TyId → Check Nodes) → Option TyId → List TyId → Check Node
+with_self env at id base method count args want [] = args [] >> breaks Rule.T12 at
+with_self env at id base method count args want (self ∷ params) = do
+  receiver ← received env at base self
+  given ← args params
+  n ← fitted want (a_node_of id at (head_of method).result (method_form method receiver given))
+  items ← the_items
+  obeys Rule.T04 at (count == length params)
+  obeys Rule.T08 at (not (is_unique_borrow (form_of receiver) && is_behind_shared items base))
+  obeys Rule.T13 at (not (is_drop_method method))
+  pure n
+
+-- a function of the type that has no `self` is no method of a value
+abbrev takes_self : ItemTable → TyId → List TyId → Bool
+takes_self items own [] = false
+takes_self items own (self ∷ params) =
+    is_same self own || option_map_or (λ r. is_same r.1 own) (reference_of items self) false
+
+abbrev with_method : Env → Pos → ℕ → Node → Option Method → ℕ → (List TyId → Check Nodes) → Option TyId → Check Node
+with_method env at id base None count args want = args [] >> breaks Rule.T12 at
+with_method env at id base (Some method) count args want = do
+  items ← the_items
+  if takes_self items (ty_of base) (head_of method).params then
+      with_self env at id base method count args want (head_of method).params
+      else (args [] >> breaks Rule.T12 at)
+
+abbrev pub method_call : Env → Pos → (ItemTable → TyId → Option Method) → ℕ → Check Node → (List TyId → Check Nodes)
+    → Typer
+method_call env at named count receiver args want = do
+  id ← number
+  base ← receiver
+  found ← through named at base
+  with_method env at id found.0 found.1 count args want
+
+abbrev with_closure : Pos → ℕ → Node → ℕ → (List TyId → Check Nodes) → Option TyId → ℕ → Option Sig → Check Node
+with_closure at id c count args want body None = args [] >> breaks Rule.T13 at
+with_closure at id c count args want body (Some head) = do
+  given ← args (drop 1 head.params)
+  n ← fitted want (a_node_of id at head.result (tree.ClosureCall body c given))
+  obeys Rule.T04 at (count == length (drop 1 head.params))
+  pure n
+
+-- a value that is called is a closure
+abbrev pub closure_call : Pos → ℕ → Check Node → (List TyId → Check Nodes) → Typer
+closure_call at count callee args want = do
+  id ← number
+  c ← callee
+  items ← the_items
+  let def = option_and_then (slice_get items.closures) (closure_of items (ty_of c))
+  let body = option_map_or (λ d. d.body) def 0
+  with_closure at id c count args want body (option_and_then (λ d. slice_get items.bodies d.body) def)
+
+-- ---- built-in calls
+
+abbrev with_one : Nodes → (Node → Form) → Form
+with_one (a_node first rest) form = form first
+with_one no_node form = tree.UnitValue
+
+-- a built-in with parameters of these types; none where any type will do
+abbrev pub built_in : Pos → TyId → (Nodes → Form) → ℕ → ℕ → Check Nodes → Typer
+built_in at answer form count wants args want = do
+  id ← number
+  given ← args
+  n ← fitted want (a_node_of id at answer (form given))
+  obeys Rule.T04 at (count == wants)
+  pure n
+
+abbrev pub print_form : Nodes → Form
+print_form ns = with_one ns tree.Print
+
+abbrev pub drop_form : Nodes → Form
+drop_form ns = with_one ns tree.DropValue
+
+abbrev pub forget_form : Nodes → Form
+forget_form ns = with_one ns tree.Forget
+
+abbrev pub ask_form : Nodes → Form
+ask_form ns = tree.Ask
+
+-- ---- constructors
+
+-- a part has the type that is required of it, else its own
+abbrev part_ty : Option TyId → Node → TyId
+part_ty None n = ty_of n
+part_ty (Some ty) n = ty
+
+abbrev box_wanted : ItemTable → TyId → Option TyId
+box_wanted items ty = option_and_then (λ inside. if is_dyn items inside then None else Some inside) (boxed_of items ty)
+
+abbrev first_node : Nodes → Option Node
+first_node no_node = None
+first_node (a_node first rest) = Some first
+
+abbrev box_by : Pos → ℕ → ℕ → Option TyId → Option TyId → Option Node → Check Node
+box_by at id count want content None = breaks Rule.T04 at
+box_by at id count want content (Some c) = do
+  ty ← interned (Ty.Boxed (part_ty content c))
+  n ← fitted want (a_node_of id at ty (tree.NewBox c))
+  obeys Rule.T04 at (count == 1)
+  pure n
+
+-- `Box::new(e)`
+abbrev pub new_box : Pos → ℕ → (List TyId → Check Nodes) → Typer
+new_box at count args want = do
+  id ← number
+  items ← the_items
+  let content = wanted box_wanted items want
+  given ← args (listed content)
+  box_by at id count want content (first_node given)
+  where
+    listed : Option TyId → List TyId
+    listed None = []
+    listed (Some ty) = ty ∷ []
+
+abbrev numbered_fields : ℕ → Nodes → Fields
+numbered_fields k no_node = no_field
+numbered_fields k (a_node first rest) = a_field k first (numbered_fields (suc k) rest)
+
+-- `S(a)`, `E::V(a)`
+abbrev pub make : ℕ → ℕ → Nodes → Form
+make adt variant given = tree.Make adt variant (numbered_fields 0 given)
+
+-- the numbers of the fields that are given, none where there is no such field
+abbrev pub Given : Type 0
+Given = List (Option ℕ)
+
+abbrev is_given : ℕ → Given → Bool
+is_given k [] = false
+is_given k (None ∷ given) = is_given k given
+is_given k (Some n ∷ given) = k == n || is_given k given
+
+abbrev pub all_given : ℕ → Given → Bool
+all_given zero given = true
+all_given (suc n) given = is_given n given && all_given n given
+
+abbrev pub are_known : Given → Bool
+are_known given = list_all is_some given
+
+-- `S { f: a }`: each field once
+abbrev pub struct_row : Pos → ℕ → ℕ → List TyId → Check (Fields × Given) → Typer
+struct_row at adt variant types fields want = do
+  id ← number
+  ty ← interned (Ty.Adt adt)
+  fs ← fields
+  n ← fitted want (a_node_of id at ty (tree.Make adt variant fs.0))
+  obeys Rule.T04 at (all_given (length types) fs.1 && length fs.1 == length types)
+  obeys Rule.T12 at (are_known fs.1)
+  pure n
+
+-- parts, each with its type; where a tuple of as many is required, its parts are
+abbrev pub parts_wanted : ItemTable → ℕ → Option TyId → List (Option TyId)
+parts_wanted items count want =
+    option_map_or (λ tys. if length tys == count then map Some tys else []) (option_and_then (tuple_of items) want) []
+
+abbrev pub tuple_row : Pos → ℕ → (List (Option TyId) → Check (Nodes × List TyId)) → Typer
+tuple_row at count parts want = do
+  id ← number
+  before ← the_items
+  ps ← parts (parts_wanted before count want)
+  ty ← interned (Ty.Tuple ps.1)
+  n ← fitted want (a_node_of id at ty (tree.Tuple ps.0))
+  obeys Rule.T19 at (nat_le count 12)
+  pure n
+
+abbrev element_wanted : ItemTable → TyId → Option TyId
+element_wanted items ty = option_map (λ a. a.0) (array_of items ty)
+
+abbrev element_ty : ItemTable → Option TyId → List TyId → Option TyId
+element_ty items None tys = one_type items tys
+element_ty items (Some ty) tys = Some ty
+
+abbrev pub array_row : Pos → ℕ → (Option TyId → Check (Nodes × List TyId)) → Typer
+array_row at count elements want = do
+  id ← number
+  before ← the_items
+  let wants = wanted element_wanted before want
+  es ← elements wants
+  items ← the_items
+  element ← known Rule.T03 at (element_ty items wants es.1)
+  obeys Rule.T16 at (is_some wants || not (count == 0))
+  ty ← interned (Ty.Array element count)
+  n ← fitted want (a_node_of id at ty (tree.Array es.0))
+  obeys Rule.T19 at (nat_le count 32)
+  pure n
+
+-- ---- blocks and branches
+
+-- without a tail a block has the type `!` where some statement's expression or initialiser has it, else `()`
+abbrev pub block_ty : MaybeNode → Bool → TyId
+block_ty (present tail) ends = ty_of tail
+block_ty absent ends = if ends then never else unit
+
+abbrev pub block : Pos → Check (Nodes × Bool × Env) → (Env → Option TyId → Check MaybeNode) → Typer
+block at statements tail want = do
+  id ← number
+  done ← statements
+  last ← tail done.2 want
+  settled want (a_node_of id at (block_ty last done.1) (tree.Block done.0 last))
+
+-- a condition is `bool`
+abbrev pub condition : Typer → Check Node
+condition c = c (Some bool)
+
+abbrev pub if_alone : Pos → Typer → Typer → Typer
+if_alone at c body want = do
+  id ← number
+  n ← condition c
+  b ← body (Some unit)
+  settled want (a_node_of id at unit (tree.If n b absent))
+
+abbrev pub if_else : Pos → Typer → Typer → Typer → Typer
+if_else at c body otherwise want = do
+  id ← number
+  n ← condition c
+  b ← body want
+  o ← otherwise want
+  items ← the_items
+  ty ← known Rule.T03 at (one_of_two items (ty_of b) (ty_of o))
+  settled want (a_node_of id at ty (tree.If n b (present o)))
+
+-- a scrutinee is a place, which is borrowed, or a temporary
+abbrev pub scrutinised : Check Node → Check Node
+scrutinised scrutinee = (used_if_place Use.Borrow) <$> (scrutinee >>= no_reference)
+
+-- what a pattern is told of its place
+pub record Expected : Type 0 where
+  pub is_fixed : Bool
+  pub takes_all : Bool
+
+abbrev pub expected : Env → Bool → Node → ItemTable → Expected
+expected env takes_all place items =
+    record { is_fixed = is_fixed items (in_own_guard env.variables) place; takes_all = takes_all }
+
+-- a pattern for a place of a type; its bindings
+abbrev pub Matcher : Type 0
+Matcher = Expected → TyId → Check (Node × List Entry)
+
+abbrev pub if_let_alone : Env → Pos → Check Node → Matcher → (List Entry → Typer) → Typer
+if_let_alone env at scrutinee pattern body want = do
+  id ← number
+  s ← scrutinised scrutinee
+  items ← the_items
+  p ← pattern (expected env false s items) (ty_of s)
+  b ← body p.1 (Some unit)
+  settled want (a_node_of id at unit (tree.IfLet p.0 s b absent))
+
+abbrev pub if_let_else : Env → Pos → Check Node → Matcher → (List Entry → Typer) → Typer → Typer
+if_let_else env at scrutinee pattern body otherwise want = do
+  id ← number
+  s ← scrutinised scrutinee
+  before ← the_items
+  p ← pattern (expected env false s before) (ty_of s)
+  b ← body p.1 want
+  o ← otherwise want
+  items ← the_items
+  ty ← known Rule.T03 at (one_of_two items (ty_of b) (ty_of o))
+  settled want (a_node_of id at ty (tree.IfLet p.0 s b (present o)))
+
+abbrev pub arm : Check (Node × List Entry) → (List Entry → Check MaybeNode) → (List Entry → Typer) → Typer
+arm pattern guard body want = do
+  id ← number
+  p ← pattern
+  g ← guard p.1
+  b ← body p.1 want
+  pure (a_node_of id (place_in_text p.0) (ty_of b) (tree.Arm p.0 g b))
+
+abbrev pub match_row : Env → Pos → Check Node → (Expected → TyId → Option TyId → Check (Nodes × List TyId)) → Typer
+match_row env at scrutinee arms want = do
+  id ← number
+  s ← scrutinised scrutinee
+  before ← the_items
+  rows ← arms (expected env false s before) (ty_of s) want
+  items ← the_items
+  ty ← known Rule.T03 at (one_type items rows.1)
+  settled want (a_node_of id at ty (tree.Match s rows.0))
+
+-- ---- loops and jumps
+
+abbrev loop_around : Option Word → ℕ → Bool → Option TyId → Around
+loop_around label id has_value want = record { label = label; loop = id; has_value = has_value; want = want }
+
+-- the type of its breaks, `!` without any
+abbrev pub loop_row : Pos → Option Word → (Around → Typer) → Typer
+loop_row at label body want = do
+  id ← number
+  b ← body (loop_around label id true want) (Some unit)
+  tys ← types_of_breaks id
+  items ← the_items
+  ty ← known Rule.T03 at (one_type items tys)
+  settled want (a_node_of id at ty (tree.Loop b))
+
+-- the condition of a `while` and the scrutinee of a `while let` count as inside the loop
+abbrev pub while_row : Pos → Option Word → (Around → Typer) → (Around → Typer) → Typer
+while_row at label c body want = do
+  id ← number
+  n ← condition (c (loop_around label id false None))
+  b ← body (loop_around label id false None) (Some unit)
+  settled want (a_node_of id at unit (tree.While n b))
+
+abbrev pub while_let_row : Env → Pos → Option Word → (Around → Check Node) → Matcher → (Around → List Entry → Typer)
+    → Typer
+while_let_row env at label scrutinee pattern body want = do
+  id ← number
+  s ← scrutinised (scrutinee (loop_around label id false None))
+  items ← the_items
+  p ← pattern (expected env false s items) (ty_of s)
+  b ← body (loop_around label id false None) p.1 (Some unit)
+  settled want (a_node_of id at unit (tree.WhileLet p.0 s b))
+
+-- what a `break` carries: nothing is required outside a loop and in a `while`
+abbrev carried : Option Around → Option TyId
+carried None = None
+carried (Some a) = a.want
+
+abbrev ty_carried : MaybeNode → TyId
+ty_carried absent = unit
+ty_carried (present n) = ty_of n
+
+abbrev may_carry : MaybeNode → Around → Bool
+may_carry absent a = true
+may_carry (present n) a = a.has_value
+
+abbrev pub break_row : Pos → Option Around → (Option TyId → Check MaybeNode) → Typer
+break_row at to value want = do
+  id ← number
+  v ← value (carried to)
+  a ← known Rule.T06 at to
+  obeys Rule.T06 at (may_carry v a)
+  breaks_out a.loop (ty_carried v)
+  settled want (a_node_of id at never (tree.Break a.loop v))
+
+abbrev pub continue_row : Pos → Option Around → Typer
+continue_row at to want = do
+  id ← number
+  a ← known Rule.T06 at to
+  settled want (a_node_of id at never (tree.Continue a.loop))
+
+abbrev is_some_node : MaybeNode → Bool
+is_some_node absent = false
+is_some_node (present n) = true
+
+abbrev pub return_row : Pos → TyId → (Option TyId → Check MaybeNode) → Typer
+return_row at answer value want = do
+  id ← number
+  v ← value (Some answer)
+  items ← the_items
+  obeys Rule.T03 at (is_some_node v || is_unit items answer)
+  settled want (a_node_of id at never (tree.Return v))
+
+-- ---- statements
+
+-- the initialiser of a pattern with parts: a place that is taken apart where it stands, unless it is coerced; or a
+-- value
+abbrev as_part : Env → Option TyId → Node → Fit → Check Node
+as_part env want place Fits = no_reference place
+as_part env want place how = taken env want place
+
+abbrev pub place_for_parts : Env → Option TyId → Node → Check Node
+place_for_parts env None place = no_reference place
+place_for_parts env (Some want) place = do
+  items ← the_items
+  as_part env (Some want) place (fit items want (ty_of place))
+
+abbrev let_ty : Option TyId → MaybeNode → Option TyId
+let_ty (Some ty) value = Some ty
+let_ty None absent = None
+let_ty None (present n) = Some (ty_of n)
+
+abbrev is_unused_place : Node → Bool
+is_unused_place (node id at ty by form) = is_place form && is_none by
+
+abbrev ends_by : ItemTable → MaybeNode → Bool
+ends_by items absent = false
+ends_by items (present n) = is_never items (ty_of n) && not (is_unused_place n)
+
+-- what the pattern of a `let` is told: one name takes the whole value
+abbrev of_value : Env → Bool → MaybeNode → ItemTable → Expected
+of_value env is_one_name absent items = record { is_fixed = false; takes_all = true }
+of_value env true (present n) items = record { is_fixed = false; takes_all = true }
+of_value env false (present n) items = expected env true n items
+
+abbrev pub let_row : Pos → Env → Bool → Check (Option TyId) → (Option TyId → Check MaybeNode) → Matcher →
+    (List Entry → Env) → Check (Node × Bool × Env)
+let_row at env is_one_name written value pattern behind = do
+  id ← number
+  declared ← written
+  v ← value declared
+  ty ← known Rule.T16 at (let_ty declared v)
+  items ← the_items
+  p ← pattern (of_value env is_one_name v items) ty
+  after ← the_items
+  pure (a_node_of id at unit (tree.Let p.0 v), ends_by after v, behind p.1)
+
+-- a blocklike statement without `;` is `()` or `!`
+abbrev pub evaluate : Pos → Env → Bool → Typer → Check (Node × Bool × Env)
+evaluate at env has_semicolon e = do
+  id ← number
+  n ← e None
+  items ← the_items
+  obeys Rule.T03 (place_in_text n) (has_semicolon || (is_unit items (ty_of n) || is_never items (ty_of n)))
+  pure (a_node_of id at unit (tree.Evaluate n), is_never items (ty_of n), env)

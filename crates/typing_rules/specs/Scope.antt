@@ -1,0 +1,116 @@
+-- The names in scope.
+use Rattle.std.specs.Prelude.{ℕ, Bool, false, List, [], ◌∷◌, ◌++◌, Option, Some, None, slice_get, option_and_then, codes}
+use Rattle.std.specs.List.{find, position as position_of}
+use Rattle.std.specs.Str.{bytes_eq}
+use Rattle.mir_ty.specs.declared.adt.Variant.{Variant}
+use Rattle.mir_ty.specs.declared.ty.TyId.{TyId}
+use Rattle.mir_ty.specs.ItemTable.{ItemTable}
+use Rattle.typing_rules.specs.Syntax.{Word, Kind, Unit_}
+
+-- what a variable is: an entry of the body by its key, a capture by the key of the closure and its number, or a binding
+-- inside its own guard
+pub data Meaning : Type 0 where
+  Local : (key : ℕ) → Meaning
+  Capture : (closure part : ℕ) → Meaning
+  InGuard : (key : ℕ) → Meaning
+
+pub record Entry : Type 0 where
+  pub name : Word
+  pub ty : TyId
+  pub meaning : Meaning
+
+-- a loop around: its label, its number, whether its breaks may carry a value, and the type that is required of it
+pub record Around : Type 0 where
+  pub label : Option Word
+  pub loop : ℕ
+  pub has_value : Bool
+  pub want : Option TyId
+
+-- where an expression stands: the names of structs and enums, and of traits, as they are numbered; how the parts of
+-- each
+-- variant of each struct and enum are written; the struct or enum that `Self` is; variables, the youngest first; loops,
+-- the innermost first; the result of the body
+pub record Env : Type 0 where
+  pub adts : List Word
+  pub traits : List Word
+  pub kinds : List (List Kind)
+  pub self_adt : Option ℕ
+  pub variables : List Entry
+  pub loops : List Around
+  pub answer : TyId
+
+-- the youngest variable of a name: it hides the older ones
+abbrev pub variable : List Entry → Word → Option Entry
+variable xs name = find (λ x. bytes_eq x.name name) xs
+
+abbrev pub with_variables : List Entry → Env → Env
+with_variables new env = record env { variables = joined new env.variables }
+  where
+    -- names that come into scope: the last of them is the youngest
+    joined : List Entry → List Entry → List Entry
+    joined [] old = old
+    joined (x ∷ xs) old = joined xs (x ∷ old)
+
+-- the loop that a jump leaves: the innermost, or the innermost of that label
+abbrev labelled : Word → Option Word → Bool
+labelled name None = false
+labelled name (Some label) = bytes_eq label name
+
+abbrev innermost : List Around → Option Around
+innermost [] = None
+innermost (a ∷ around) = Some a
+
+abbrev pub jumps_to : List Around → Option Word → Option Around
+jumps_to loops None = innermost loops
+jumps_to loops (Some name) = find (λ a. labelled name a.label) loops
+
+abbrev pub within_loop : Around → Env → Env
+within_loop loop env = record env { loops = loop ∷ env.loops }
+
+-- inside the guard of an arm its names are the parts that they would bind
+abbrev guarded : Meaning → Meaning
+guarded (Local key) = InGuard key
+guarded m = m
+
+abbrev pub in_guard : List Entry → List Entry
+in_guard [] = []
+in_guard (x ∷ xs) = record x { meaning = guarded x.meaning } ∷ in_guard xs
+
+-- ---- names of items
+
+abbrev pub adt_named : ItemTable → Word → Option ℕ
+adt_named items name = position_of (λ adt. bytes_eq adt.name name) items.adts
+
+abbrev pub trait_named : ItemTable → Word → Option ℕ
+trait_named items name = position_of (λ def. bytes_eq def.name name) items.traits
+
+-- a function; the name of a method begins with its type's
+abbrev pub body_named : ItemTable → Word → Option ℕ
+body_named items name = position_of (λ sig. bytes_eq sig.name name) items.bodies
+
+abbrev pub method_word : Word → Word → Word
+method_word adt name = adt ++ codes "::" ++ name
+
+abbrev pub method_of : ItemTable → ℕ → Word → Option ℕ
+method_of items adt name =
+    option_and_then (λ def. body_named items (method_word def.name name)) (slice_get items.adts adt)
+
+abbrev pub variant_named : ItemTable → ℕ → Word → Option ℕ
+variant_named items adt name =
+    option_and_then (λ def. position_of (λ v. bytes_eq v.name name) def.variants) (slice_get items.adts adt)
+
+-- the number of a field of a variant
+abbrev pub field_named : Variant → Word → Option ℕ
+field_named variant name = position_of (bytes_eq name) variant.field_names
+
+abbrev or_unit : Option Kind → Kind
+or_unit None = Unit_
+or_unit (Some kind) = kind
+
+abbrev pub kind_at : List (List Kind) → ℕ → ℕ → Kind
+kind_at kinds adt variant = or_unit (option_and_then (λ ks. slice_get ks variant) (slice_get kinds adt))
+
+-- the struct or enum of a path's first part, which is a name or `Self`
+abbrev pub adt_at_head : ItemTable → Env → Option Word → Option ℕ
+adt_at_head items env None = env.self_adt
+adt_at_head items env (Some name) = adt_named items name

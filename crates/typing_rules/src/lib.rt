@@ -1,0 +1,2 @@
+//! The rules of typing: definitions.
+#![tactic(auto)]

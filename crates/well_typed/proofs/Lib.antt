@@ -1,0 +1,4 @@
+pub mod ClaimLemmas
+mod Examples
+pub mod ItemLemmas
+pub mod NumberLemmas

@@ -1,0 +1,9 @@
+pub mod Claim
+pub mod Items
+pub mod Laws
+pub mod Names
+pub mod Nodes
+pub mod Patterns
+pub mod Places
+pub mod Program
+pub mod Types
