@@ -1,1 +1,3 @@
+pub mod FreeWalks
 pub mod Simulation
+pub mod WalksOfBodies
