@@ -1,3 +1,4 @@
 pub mod FreeWalks
 pub mod Simulation
+pub mod StackOfBodies
 pub mod WalksOfBodies
