@@ -299,16 +299,16 @@ module _ (setting : Setting) where
         by_place Nowhere = refl
 
   -- where the bodies agree up to the place, so do the effects
-  pub tied_up_to_place : (run run' : Bodies) → Spending run → (n b : ℕ) → n < b → AgreeUpToPlace n run run' →
+  pub tied_up_to_place : (run run' : Bodies) → Spending run' → (n b : ℕ) → n < b → AgreeUpToPlace n run' run →
       Tied (naming without_place (concrete_effects setting run b)) (naming without_place (concrete_effects setting run' b)) ticks_of n
   tied_up_to_place run run' spending n b great agree = record {
-    acting = λ action w l. act_renamed run action w ∙ tied.acting action w l ∙ sym (act_renamed run' action w);
+    acting = λ action w l. act_renamed run action w ∙ sym (tied.acting action w l) ∙ sym (act_renamed run' action w);
     choosing = λ test w l. refl;
-    dropping = λ mode site w l. drop_renamed run b mode site w ∙ tied.dropping mode site w l ∙ sym (drop_renamed run' b mode site w);
+    dropping = λ mode site w l. drop_renamed run b mode site w ∙ sym (tied.dropping mode site w l) ∙ sym (drop_renamed run' b mode site w);
     panicking = λ why w l. refl;
     ticking = λ w l. refl;
     giving = λ site w l. refl;
   }
     where
-      tied : Tied (concrete_effects setting (bodies_without_place run) b) (concrete_effects setting (bodies_without_place run') b) ticks_of n
-      tied = values_tied setting (bodies_without_place run) (bodies_without_place run') (spending_without_place run spending) n agree b b great great
+      tied : Tied (concrete_effects setting (bodies_without_place run') b) (concrete_effects setting (bodies_without_place run) b) ticks_of n
+      tied = values_tied setting (bodies_without_place run') (bodies_without_place run) (spending_without_place run' spending) n agree b b great great
