@@ -1,5 +1,5 @@
 -- The free walk of a body that holds the code of a body of the source is its free run.
-use Rattle.std.proofs.Common.{◌≡◌, ℕ, suc, ◌<◌, ◌≤◌, Bool, true, false, List, [], ◌∷◌, length, map, Option, slice_get, refl, ap, sym, ◌∙◌, subst, arith, if◌then◌else◌}
+use Rattle.std.proofs.Common.{◌≡◌, ℕ, suc, Bool, true, false, List, [], ◌∷◌, length, Option, slice_get, refl, ap, sym, ◌∙◌, arith}
 use Rattle.std.specs.List.{range_with_len}
 use Rattle.cfg_graph.specs.declared.graph.Body.{Body}
 use Rattle.cfg_graph.specs.declared.statement.Stmt.{Stmt}
@@ -12,17 +12,16 @@ use Rattle.mir_ty.specs.ItemTable.{ItemTable}
 use Rattle.store_model.proofs.Abstract.Effects.{choices_of, free_laws}
 use Rattle.store_model.proofs.Effects.Agreement.{tied_itself}
 use Rattle.store_model.proofs.Effects.NeverStores.{free_runs_store_no_never}
-use Rattle.store_model.specs.Abstract.Effects.{AbstractState, at_start, abstract_effects, when, using, unless_never, operand_used, operands_used, store, never_at, acted_on, after}
+use Rattle.store_model.specs.Abstract.Effects.{AbstractState, at_start, abstract_effects, when, unless_never, operand_used, operands_used, store, never_at, acted_on, after}
 use Rattle.store_model.specs.Effects as effects
 use Rattle.store_model.specs.Effects.{Site, Action, Halt, Stuck, StuckAt, Out, Go, Unwind, Halts, Effects, halting_if, DoesNotGoOn}
 use Rattle.typed_tree.specs.Tree.{BodyTree}
 use Rattle.src_meaning.specs.Locals.Effects.{at_locals}
-use Rattle.src_meaning.specs.Locals.OfBody.{local_of, local_ty, local_tys}
+use Rattle.src_meaning.specs.Locals.OfBody.{local_of, local_ty}
 use Rattle.src_meaning.specs.Programs.{activation, free_run, refused_of, reached_by}
 use Rattle.cfg_code.proofs.Simulation.{NoUnwind, Settled, body_runs}
 use Rattle.cfg_code.proofs.WalksOfBodies.{Walk, walks}
 use Rattle.cfg_code.specs.Laws.{without_place, target_of, HoldsBody, WalksAsItRunsFreely}
-use Rattle.cfg_code.specs.Spots.{Target}
 
 pub renamed_no_unwind : {W : Type 0} (name : Halt → Halt) (o : Out W) → NoUnwind o → NoUnwind (renamed name o)
 renamed_no_unwind name (Go w) u = tt

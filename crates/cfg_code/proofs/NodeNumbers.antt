@@ -1,15 +1,14 @@
 -- The effects on values do not look at the numbers of nodes, so a block does the same whatever these are.
-use Rattle.std.proofs.Common.{◌≡◌, ℕ, suc, List, [], ◌∷◌, ◌++◌, length, Option, Some, None, refl, ap, ◌∙◌}
+use Rattle.std.proofs.Common.{◌≡◌, ℕ, suc, List, [], ◌∷◌, length, Option, Some, None, refl, ap, ◌∙◌}
 use Rattle.std.specs.Option.{option_map_or, option_and_then}
-use Rattle.cfg_graph.specs.declared.graph.Block.{Block}
 use Rattle.cfg_graph.specs.declared.place.Operand.{Operand}
 use Rattle.cfg_graph.specs.declared.place.Place.{Place}
 use Rattle.cfg_graph.specs.declared.statement.Stmt.{Stmt}
 use Rattle.cfg_graph.specs.declared.terminator.Term.{Term}
-use Rattle.cfg_meaning.specs.Actions.{site_of, operand_of, operands_of, action_of, mode_of}
-use Rattle.cfg_meaning.specs.Walk.{Next, ◌>>=◌, branch, renamed, renamed_choice, naming, stmts_do, acts, term_does, block_does}
+use Rattle.cfg_meaning.specs.Actions.{site_of, operand_of, operands_of, action_of}
+use Rattle.cfg_meaning.specs.Walk.{Next, ◌>>=◌, branch, renamed, renamed_choice, naming, stmts_do, acts, term_does}
 use Rattle.mir_base.specs.declared.operator.Math.{Math}
-use Rattle.store_model.specs.Concrete.Effects.{or_stuck, evaluate_operand, evaluate_operands, put, put_if, compute, bounded, printed, built, boxed, called, chosen_truth, virtual_body, never_at, acted, act, choose, concrete_effects}
+use Rattle.store_model.specs.Concrete.Effects.{or_stuck, evaluate_operand, evaluate_operands, bounded, built, called, chosen_truth, virtual_body, never_at, act, concrete_effects}
 use Rattle.store_model.specs.Concrete.Location.{Setting}
 use Rattle.store_model.specs.Concrete.State.{State, Bodies}
 use Rattle.store_model.specs.Effects as effects

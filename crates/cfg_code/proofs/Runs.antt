@@ -1,6 +1,6 @@
 -- A graph that holds the code of a program runs as the program does, up to the place of being stuck: by induction on the
 -- nesting of bodies, which spend a tick each.
-use Rattle.std.proofs.Common.{◌≡◌, ◌≢◌, ◌⊎◌, ℕ, zero, suc, ◌+◌, ◌<◌, ◌≤◌, ◌==◌, Bool, true, false, ◌&&◌, ℤ, List, [], ◌∷◌, length, map, Option, Some, None, slice_get, if◌then◌else◌, inl, inr, refl, ap, sym, ◌∙◌, subst, arith}
+use Rattle.std.proofs.Common.{◌≡◌, ◌≢◌, ◌⊎◌, ℕ, zero, suc, ◌+◌, ◌<◌, ◌≤◌, ◌==◌, Bool, true, false, ◌&&◌, ℤ, List, [], ◌∷◌, map, Option, Some, None, slice_get, inl, inr, refl, ap, sym, ◌∙◌, subst, arith}
 use Rattle.std.proofs.lemmas.Bool.Decides.{eqb_tells}
 use Rattle.std.proofs.lemmas.Option.{none-some}
 use Rattle.std.proofs.Math.Path.{fun_ext}
@@ -12,34 +12,33 @@ use Rattle.cfg_meaning.proofs.Walks.{naming_laws, walk_less}
 use Rattle.cfg_meaning.specs.Actions.{action_of}
 use Rattle.cfg_meaning.specs.Programs as cfg
 use Rattle.cfg_meaning.specs.Walk.{renamed, naming, walk}
-use Rattle.mir_base.specs.declared.trace.End.{End}
 use Rattle.mir_base.specs.declared.trace.Event.{Event}
-use Rattle.mir_base.specs.Trace.{Trace}
 use Rattle.mir_ty.specs.declared.ty.TyId.{TyId}
 use Rattle.mir_ty.specs.ItemTable.{ItemTable}
-use Rattle.store_model.proofs.Concrete.Effects.{ticks_of, Spending, values_laws, body_thrifty, body_spends}
+use Rattle.store_model.proofs.Concrete.Effects.{ticks_of, values_laws, body_thrifty, body_spends}
 use Rattle.store_model.proofs.Effects.Laws.{NoMore, NoMoreOf, Ticked, Laws, Tied}
 use Rattle.store_model.proofs.Effects.NeverStores.{runs_store_no_never}
 use Rattle.store_model.specs.Abstract.Effects as free
-use Rattle.store_model.specs.Concrete.Bodies.{Code, run_body, ended, after_tick, main_of, run_of, outcome_of}
+use Rattle.store_model.specs.Concrete.Bodies.{run_body, ended, after_tick, main_of, run_of, outcome_of}
 use Rattle.store_model.specs.Concrete.Effects.{concrete_effects, never_at}
 use Rattle.store_model.specs.Concrete.Location.{Setting}
-use Rattle.store_model.specs.Concrete.State.{Activation, State, Answer, Returns, Unwinds, HaltsIn, Bodies, spend, tick, with_event, with_activation, without_activation, beginning}
+use Rattle.store_model.specs.Concrete.State.{Activation, Cells, State, Answer, Returns, Unwinds, HaltsIn, Bodies, spend, with_event, with_activation, without_activation, beginning}
 use Rattle.store_model.specs.Effects as effects
 use Rattle.store_model.specs.Effects.{Halt, OutOfTicks, Stuck, Out, Go, Unwind, Halts, Choice, Yes, No, Neither, Effects, Action, Site, stores_where, DoesNotGoOn}
 use Rattle.store_model.specs.Values.Datum.{Datum}
 use Rattle.typed_tree.specs.Tree.{BodyTree, ProgramTree}
 use Rattle.src_meaning.specs.Locals.Effects.{at_locals}
 use Rattle.src_meaning.specs.Locals.OfBody.{local_of, local_tys}
+use Rattle.src_meaning.specs.Programs as programs
 use Rattle.src_meaning.specs.Programs.{activation, setting_of, code_of, source}
 use Rattle.cfg_code.proofs.FreeWalks.{renamed_no_unwind, renamed_not_on}
 use Rattle.cfg_code.proofs.NodeNumbers.{block_same}
 use Rattle.cfg_code.proofs.PlacesOfHalts.{answer_without_place, AgreeUpToPlace, tied_up_to_place}
 use Rattle.cfg_code.proofs.Simulation.{Settled, body_runs}
-use Rattle.cfg_code.proofs.StackOfBodies.{stack, bodies_in, SameStack, SameStackOf, KeepsStack, KeptAnswer, AnswerSame, StackLaws, stack_laws}
+use Rattle.cfg_code.proofs.StackOfBodies.{stack, bodies_in, SameStack, SameStackOf, KeepsStack, KeptAnswer, StackLaws, stack_laws}
 use Rattle.cfg_code.proofs.ValuesSettled.{values_settled}
 use Rattle.cfg_code.proofs.WalksOfBodies.{Walk, walks}
-use Rattle.cfg_code.specs.Laws.{without_place, end_without_place, outcome_without_place, target_of, HoldsBody, HoldsProgram, RunsAsItsSource}
+use Rattle.cfg_code.specs.Laws.{without_place, outcome_without_place, target_of, HoldsBody, HoldsProgram, RunsAsItsSource}
 use Rattle.cfg_code.specs.Spots.{Target}
 
 -- what is left in a body: the ticks; and more than all of them if the stack of bodies is another than it was
@@ -209,6 +208,39 @@ there_too f g (x ∷ as1) [] e n a h = cons-nil e
 there_too f g (x ∷ as1) (y ∷ bs) e zero a h = (y, refl)
 there_too f g (x ∷ as1) (y ∷ bs) e (suc n) a h = there_too f g as1 bs (ap tail_of e) n a h
 
+arguments_same : (local : ℕ) (args : List Datum) → programs.arguments_from local args ≡ cfg.arguments_from local args
+arguments_same local [] = refl
+arguments_same local (arg ∷ args) = ap {B = Cells} (λ cells. (local, arg) ∷ cells) (arguments_same (suc local) args)
+
+ended_without_place : (body answer : ℕ) (o : Out State) → answer_without_place (ended body answer o) ≡ ended body answer (renamed without_place o)
+ended_without_place body answer (Go w) = refl
+ended_without_place body answer (Unwind w) = refl
+ended_without_place body answer (Halts halt w) = refl
+
+ended_same : (body answer : ℕ) (o o' : Out State) → renamed without_place o ≡ renamed without_place o' → answer_without_place (ended body answer o) ≡ answer_without_place (ended body answer o')
+ended_same body answer o o' e = ended_without_place body answer o ∙ ap (ended body answer) e ∙ sym (ended_without_place body answer o')
+
+-- a missing step has no place in the outcome
+outcome_of_place : (a : Answer) → outcome_without_place (outcome_of a) ≡ outcome_without_place (outcome_of (answer_without_place a))
+outcome_of_place (Returns value w) = refl
+outcome_of_place (Unwinds w) = refl
+outcome_of_place (HaltsIn effects.Aborted w) = refl
+outcome_of_place (HaltsIn OutOfTicks w) = refl
+outcome_of_place (HaltsIn Stuck w) = refl
+outcome_of_place (HaltsIn (effects.StuckAt body block) w) = refl
+outcome_of_place (HaltsIn (effects.BadUse site) w) = refl
+outcome_of_place (HaltsIn (effects.BadStore site) w) = refl
+outcome_of_place (HaltsIn effects.NoChoice w) = refl
+outcome_of_place (HaltsIn effects.Infeasible w) = refl
+outcome_of_place (HaltsIn effects.Unreachable w) = refl
+
+none_there : {A B C : Type 0} (f : A → C) (g : B → C) (as1 : List A) (bs : List B) → map f as1 ≡ map g bs → (n : ℕ) → slice_get as1 n ≡ None → slice_get bs n ≡ None
+none_there f g [] [] e n h = refl
+none_there f g [] (y ∷ bs) e n h = cons-nil (sym e)
+none_there f g (x ∷ as1) [] e n h = refl
+none_there f g (x ∷ as1) (y ∷ bs) e zero h = absurd (none-some x (sym h))
+none_there f g (x ∷ as1) (y ∷ bs) e (suc n) h = none_there f g as1 bs (ap tail_of e) n h
+
 abbrev head_or : ℕ → List ℕ → ℕ
 head_or d [] = d
 head_or d (x ∷ xs) = x
@@ -279,3 +311,51 @@ module _ (program : ProgramTree) (graph : Graph) (held : HoldsProgram program gr
       size w = left_in (number ∷ bodies) (suc n) w
       laws : Laws q size
       laws = left_laws (number ∷ bodies) (suc n) q (graph_laws graph n) (stack_laws (here graph) (graph_bodies graph n) (bodies_keep graph n) (suc n))
+
+  abbrev called_with : ℕ → List Datum → State → State
+  called_with number args w = with_activation (record { body = number; cells = cfg.arguments_from 1 args }) w
+
+  abbrev graph_does : ℕ → Option Body → ℕ → State → Out State
+  graph_does n o number w = option_map_or (λ body. walk (graph_effects graph n) number (λ block line. 0) body (suc n) 0 w) o (Halts Stuck w)
+
+  abbrev source_does : ℕ → Option BodyTree → State → Out State
+  source_does n o w = option_map_or (λ tree. activation program.items (at_locals (local_of program.items tree) (source_effects n)) (suc n) tree w) o (Halts Stuck w)
+
+  does_same : (n : ℕ) → AgreeUpToPlace n (graph_bodies graph n) (source_bodies n) → (number : ℕ) (o : Option BodyTree) → slice_get program.bodies number ≡ o → (bodies : List ℕ) (w : State) →
+      stack w ≡ number ∷ bodies → w.ticks ≤ n → renamed without_place (graph_does n (slice_get graph.bodies number) number w) ≡ renamed without_place (source_does n o w)
+  does_same n agree number None h bodies w e l =
+      ap (λ o. renamed without_place (graph_does n o number w)) (none_there (local_tys program.items) (λ body. body.locals) program.bodies graph.bodies (sym held.locals) number h)
+  does_same n agree number (Some tree) h bodies w e l =
+      let body = there_too (local_tys program.items) (λ (body : Body). body.locals) program.bodies graph.bodies (sym held.locals) number tree h in
+      ap (λ o. renamed without_place (graph_does n o number w)) body.1
+      ∙ sym (within_same n agree number tree body.0 body.1 (held.bodies number tree body.0 h body.1) bodies w e l)
+
+  -- by induction on the nesting of bodies
+  pub bodies_same : (n : ℕ) → AgreeUpToPlace n (graph_bodies graph n) (source_bodies n)
+  bodies_same zero event number args w l = refl
+  bodies_same (suc n) event number args w l = by_ticks (bodies_same n) w.ticks refl
+    where
+      by_ticks : AgreeUpToPlace n (graph_bodies graph n) (source_bodies n) → (ticks : ℕ) → w.ticks ≡ ticks →
+          answer_without_place (after_tick (spend ticks w) (λ w. ended number 0 (graph_does n (slice_get graph.bodies number) number (called_with number args (with_event event w)))))
+          ≡ answer_without_place (after_tick (spend ticks w) (λ w. ended number 0
+          (source_does n (slice_get program.bodies number) (with_activation (record { body = number; cells = programs.arguments_from 1 args }) (with_event event w)))))
+      by_ticks agree zero e = refl
+      by_ticks agree (suc ticks) e =
+          ended_same number 0 _ _
+          (does_same n agree number (slice_get program.bodies number) refl (stack w) (called_with number args (with_event event (record w { ticks = ticks }))) refl (omega arith)
+          ∙ ap (λ cells. renamed without_place (source_does n (slice_get program.bodies number) (with_activation (record { body = number; cells = cells }) (with_event event (record w { ticks = ticks })))))
+          (sym (arguments_same 1 args)))
+
+  run_same : (asked : List ℤ) (ticks : ℕ) → outcome_without_place (cfg.raw_graph_run graph asked ticks) ≡ outcome_without_place (source program asked ticks)
+  run_same asked ticks =
+      ap (λ items. outcome_without_place (run_of (here graph) (cfg.code_of graph) (main_of items) asked ticks)) held.items
+      ∙ outcome_of_place (graph_bodies graph (suc ticks) (Event.Call main) main [] (beginning asked ticks))
+      ∙ ap (λ a. outcome_without_place (outcome_of a)) (bodies_same (suc ticks) (Event.Call main) main [] (beginning asked ticks) (omega arith))
+      ∙ sym (outcome_of_place (source_bodies (suc ticks) (Event.Call main) main [] (beginning asked ticks)))
+      ∙ ap (λ setting. outcome_without_place (run_of setting (code_of program) main asked ticks)) (sym same_setting)
+    where
+      main : ℕ
+      main = main_of program.items
+
+pub runs_as_its_source : RunsAsItsSource
+runs_as_its_source program graph held asked ticks = run_same program graph held asked ticks

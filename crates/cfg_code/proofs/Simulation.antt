@@ -1,5 +1,5 @@
 -- A graph that holds the code of a node does what the node does, over any effects that are tied: one lemma a rule.
-use Rattle.std.proofs.Common.{◌≡◌, ◌⊎◌, inl, inr, ℕ, zero, suc, ◌<◌, ◌≤◌, ◌==◌, nat_lt, Bool, true, false, not, ◌||◌, List, [], ◌∷◌, ◌++◌, length, map, Option, Some, None, slice_get, if◌then◌else◌, refl, sym, ap, ◌∙◌, subst, arith, append_assoc}
+use Rattle.std.proofs.Common.{◌≡◌, inl, inr, ℕ, zero, suc, ◌<◌, ◌≤◌, ◌==◌, nat_lt, Bool, true, false, not, ◌||◌, List, [], ◌∷◌, ◌++◌, length, map, Option, Some, None, slice_get, if◌then◌else◌, refl, sym, ap, ◌∙◌, subst, arith}
 use Rattle.std.proofs.lemmas.Bool.{le-ltb, lt-ltb}
 use Rattle.std.proofs.lemmas.Option.{none-some}
 use Rattle.cfg_graph.specs.declared.graph.Block.{Block}
@@ -8,7 +8,7 @@ use Rattle.cfg_graph.specs.declared.statement.Stmt.{Stmt}
 use Rattle.cfg_graph.specs.declared.terminator.Term.{Term}
 use Rattle.cfg_graph.specs.declared.terminator.Unwind as graph
 use Rattle.cfg_graph.specs.Edges.{is_turn}
-use Rattle.cfg_meaning.specs.Actions.{site_of, operand_of, action_of}
+use Rattle.cfg_meaning.specs.Actions.{action_of}
 use Rattle.cfg_meaning.specs.Walk.{Next, ◌>>=◌, fork, branch, renamed, renamed_choice, naming, unwinding, stmts_do, acts, term_does, block_does}
 use Rattle.mir_base.specs.declared.operator.Cmp.{Cmp}
 use Rattle.mir_base.specs.declared.trace.Why.{Why}
@@ -26,16 +26,16 @@ use Rattle.src_meaning.specs.Evaluation as evaluation
 use Rattle.src_meaning.specs.Evaluation.{meaning, meaning_of, meanings, fields_of, meaning_if_any, values_of, in_number_order, insert_field, to_own_key}
 use Rattle.src_meaning.specs.Forms as forms
 use Rattle.src_meaning.specs.Forms.{Destination, Into, Coerced, Around, in_loop, loop_destination, in_guard, Meaning, entry_of, bound_entry, site_in, site_of_key, moved, is_never, changed_if, deliver, put_unit, put_unit_if, in_own_scope, alone, operand, operands, acting, dropping, temporary, use_of_place, borrowing, stored, stored_after, dropped_first, replacing, assigning, condition, tested, equals, tests_after, alternatives_after, holds, all_hold, any_holds, bind, touched, scrutinised, if_taken, arms_in_order, matching, taken_arm, guarded, arm, statements, tail_of, block, evaluating, let_name, let_parts, emptied, declared, let_value, letting, turned, turns, jumping}
-use Rattle.src_meaning.specs.Locals.Effects.{site_at as site_on, operand_at as operand_in, action_at, test_at, at_locals}
+use Rattle.src_meaning.specs.Locals.Effects.{site_at as site_on, action_at, at_locals}
 use Rattle.src_meaning.specs.Locals.OfBody.{param_key, answer_key}
 use Rattle.src_meaning.specs.Programs as programs
 use Rattle.src_meaning.specs.Programs.{params_entered, body_end, activation, entire_function}
-use Rattle.src_meaning.specs.Scopes.{Entry, Scope, Scopes, with_scope, innermost, around_innermost, nearest_from, nearest_temporary, with_entry, with_pending, without_pending, becomes_entry, without_operands, all_entries, needing_drop, Exit, Value, Breaks, Continues, Returns, Panics, Run, At, Over, Does, on_value, ◌>>◌, in_scopes, doing, changing, chosen, choosing, back_in, entry_site, dropped_unwinding, drop_unwinding, dropped_normally, drop_normally, leave, leaving, in_scope, then_or_leave, in_scope_with}
+use Rattle.src_meaning.specs.Scopes.{Entry, Scope, Scopes, with_scope, innermost, around_innermost, nearest_from, nearest_temporary, with_entry, with_pending, without_pending, becomes_entry, without_operands, all_entries, needing_drop, Exit, Value, Breaks, Continues, Returns, Panics, Run, At, Over, Does, on_value, ◌>>◌, in_scopes, doing, changing, chosen, choosing, back_in, entry_site, dropped_unwinding, drop_unwinding, dropped_normally, drop_normally, leave, leaving, in_scope, then_or_leave}
 use Rattle.src_meaning.specs.Shape.{Head, head, Shape, PatternTest, IsVariant, IsNumber, IsTruth, AnyOf, PatternTests, no_test, a_test, Alternatives, no_alternative, an_alternative, Bound, kind_of, shape, shape_of, site_at, operand_of_bound, operand_at}
 use Rattle.cfg_code.specs.Code as code
 use Rattle.cfg_code.specs.Laws.{without_place}
-use Rattle.cfg_code.specs.Rules.{EvaluatesAt, ReachesAt, ArmsAt, NodeCode, CodeIfAny, no_code, a_code, keys_of, all_moved, place_of, Delivers, PutsUnit, PutsUnitIf, InOwnScope, AloneAt, pending_if, completed, OperandAt, OperandsAt, taken, ActingAt, DroppingAt, TemporaryAt, UseAt, array_around, ElementAt, BorrowAt, UnitAfterAt, StoresAt, StoresUnwindingAt, ReplacesAt, AssignAt, IfAt, CaseAt, BranchesAt, ConditionAt, BranchAt, EqualsAt, TestAt, TestsAt, AnyTestAt, BindsAt, TouchedAt, ScrutinisedAt, PanicsAt, IfTakenAt, ArmsInOrderAt, MatchAt, TakenArmAt, IfTakenElse, GuardedAt, ArmAt, StatementsAt, TailAt, BlockAt, EvaluatingAt, named, LetNameAt, LetPartsAt, EmptiedAt, DeclaredAt, LetValueAt, LetAt, LoopAt, JumpValueAt}
-use Rattle.cfg_code.specs.Spots.{Target, Pos, Way, Ways, LoopWays, loop_ways, ways_of, ways_in_loop, body_ways, Spot, HasNoEnd, Then, Changes, After, Nothing, BackIn, action_of_term, node_at, panic_drops, StepAt, TurnAt, EntersAt, TermAt, StmtAt, Leads, stays, goes, Joins, CleanAt, Cleans, IsLast, ActionTermAt, Acts, by_statement, by_terminator, by_last_statement, by_last_terminator, DropsAt, AllDropAt, Left, Scoped, InScope, leaves_one, LeavesTo, JumpAt}
+use Rattle.cfg_code.specs.Rules.{EvaluatesAt, ReachesAt, ArmsAt, NodeCode, CodeIfAny, no_code, a_code, keys_of, all_moved, Delivers, PutsUnit, PutsUnitIf, InOwnScope, AloneAt, pending_if, OperandAt, OperandsAt, taken, ActingAt, DroppingAt, TemporaryAt, UseAt, array_around, ElementAt, BorrowAt, UnitAfterAt, StoresAt, StoresUnwindingAt, ReplacesAt, AssignAt, IfAt, CaseAt, BranchesAt, ConditionAt, BranchAt, EqualsAt, TestAt, TestsAt, AnyTestAt, BindsAt, TouchedAt, ScrutinisedAt, PanicsAt, IfTakenAt, ArmsInOrderAt, MatchAt, TakenArmAt, IfTakenElse, GuardedAt, ArmAt, StatementsAt, TailAt, BlockAt, EvaluatingAt, named, LetNameAt, LetPartsAt, EmptiedAt, DeclaredAt, LetValueAt, LetAt, LoopAt, JumpValueAt}
+use Rattle.cfg_code.specs.Spots.{Target, Pos, Way, Ways, LoopWays, loop_ways, ways_of, ways_in_loop, body_ways, Spot, HasNoEnd, Then, Changes, After, Nothing, BackIn, action_of_term, panic_drops, StepAt, TurnAt, EntersAt, TermAt, StmtAt, Leads, stays, goes, Joins, CleanAt, Cleans, IsLast, ActionTermAt, Acts, by_statement, by_terminator, by_last_statement, by_last_terminator, DropsAt, AllDropAt, Left, Scoped, InScope, leaves_one, LeavesTo, JumpAt}
 
 abbrev pub NoUnwind : {W : Type 0} → Out W → Type 0
 NoUnwind (Go w) = Unit {0}

@@ -1,20 +1,18 @@
 -- What is done in a body leaves the stack of bodies as it was: those that run, and those that wait for them.
-use Rattle.std.proofs.Common.{◌≡◌, sym, ℕ, zero, suc, ◌==◌, ◌<◌, ◌≤◌, ℤ, Bool, true, false, List, [], ◌∷◌, Option, Some, None, refl, ap, ◌∙◌, arith, map, length, if◌then◌else◌}
+use Rattle.std.proofs.Common.{◌≡◌, ℕ, zero, suc, ◌==◌, ℤ, Bool, true, false, List, [], ◌∷◌, Option, Some, None, refl, ap, ◌∙◌, map, length, if◌then◌else◌}
 use Rattle.std.specs.Option.{option_map_or, option_and_then}
 use Rattle.mir_base.specs.declared.int_kind.IntKind.{IntKind}
 use Rattle.mir_base.specs.declared.operator.Math.{Math}
 use Rattle.mir_base.specs.declared.trace.Event.{Event}
 use Rattle.mir_base.specs.declared.trace.Why.{Why}
-use Rattle.store_model.specs.Concrete.Effects.{Computed, Gives, PanicsBy, computed, or_stuck, whole_at, evaluate_operand, evaluate_operands, with_operand, with_two_operands, with_operands, put, put_if, tell_after, made_event, built, boxed, printed, if_nothing_numbered, freed, put_computed, compute, negate, within_bounds, bounded, answered, asked, chosen_truth, chosen_if, variant_tested, choose, never_at, virtual_body, called, acted, act, give, dropped_if, nothing_if, drop, concrete_effects}
-use Rattle.mir_ty.specs.ItemTable.{ItemTable}
+use Rattle.store_model.specs.Concrete.Effects.{Computed, Gives, PanicsBy, computed, or_stuck, whole_at, evaluate_operand, evaluate_operands, with_operand, with_two_operands, with_operands, put, put_if, tell_after, made_event, built, boxed, printed, if_nothing_numbered, freed, put_computed, compute, negate, within_bounds, bounded, answered, asked, chosen_truth, chosen_if, variant_tested, choose, never_at, called, acted, act, give, dropped_if, nothing_if, drop, concrete_effects}
 use Rattle.store_model.specs.declared.address.Addr.{Addr}
 use Rattle.store_model.specs.declared.address.At.TheVariants.{Part, Inside}
-use Rattle.store_model.specs.Values.Access.{replaced}
 use Rattle.store_model.specs.Values.Datum.{Datum, Data, Gone, Number, Truth, UnitValue, Aggregate, Box, Address, no_part, a_part}
-use Rattle.store_model.specs.Concrete.Drops.{drop_body_out, unwinding_out, in_mode, same_if, if_still_typed, Stage, Begins, HasRun, gone_at, freed_there, freed_at, as_read, if_part, with_body, own_body, drop_impl, drop_value, drop_parts, dropped_there, drop_at}
+use Rattle.store_model.specs.Concrete.Drops.{drop_body_out, unwinding_out, in_mode, same_if, if_still_typed, Stage, Begins, HasRun, gone_at, freed_there, freed_at, as_read, if_part, with_body, drop_value, drop_parts, dropped_there, drop_at}
 use Rattle.store_model.specs.Effects as effects
 use Rattle.store_model.specs.Effects.{Site, Operand, Kind, OfTuple, OfArray, OfVariant, OfClosure, Action, Test, Mode, Normal, Unwinding, Halt, OutOfTicks, Stuck, Out, Go, Unwind, Halts, Choice, Yes, No, Neither, Effects}
-use Rattle.store_model.specs.Concrete.Location.{Setting, DynamicType, concrete_ty, Located, into, Reached, Reaches, CutOff, Nowhere, reach, on_reached, stored_at}
+use Rattle.store_model.specs.Concrete.Location.{Setting, DynamicType, Located, into, Reached, Reaches, CutOff, Nowhere, reach, on_reached, stored_at}
 use Rattle.store_model.specs.Concrete.State.{State, Activation, with_cell, with_cell_at, with_event, numbered_next, spend, Answer, Returns, Unwinds, HaltsIn, Bodies}
 use Rattle.store_model.specs.Values.Wholeness.{serials}
 

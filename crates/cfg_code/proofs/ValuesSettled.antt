@@ -1,14 +1,14 @@
 -- On values no statement panics.
-use Rattle.std.proofs.Common.{◌≡◌, ℕ, Bool, true, false, List, [], ◌∷◌, Option, Some, None}
+use Rattle.std.proofs.Common.{ℕ, List, [], ◌∷◌, Option, Some, None}
 use Rattle.cfg_graph.specs.declared.statement.Stmt.{Stmt}
 use Rattle.cfg_meaning.specs.Actions.{site_of, operand_of, operands_of, action_of}
 use Rattle.mir_base.specs.declared.trace.Event.{Event}
-use Rattle.store_model.specs.Concrete.Effects.{or_stuck, whole_at, evaluate_operand, evaluate_operands, with_operand, with_operands, put, put_if, tell_after, made_event, built, boxed, printed, if_nothing_numbered, freed, never_at, acted, act}
+use Rattle.store_model.specs.Concrete.Effects.{or_stuck, whole_at, evaluate_operand, evaluate_operands, with_operand, with_operands, put, put_if, tell_after, made_event, built, printed, if_nothing_numbered, freed, never_at, acted, act}
 use Rattle.store_model.specs.Concrete.Location.{Setting, Located, Reached, Reaches, CutOff, Nowhere, reach, on_reached, stored_at}
 use Rattle.store_model.specs.Concrete.State.{State, Bodies, numbered_next}
 use Rattle.store_model.specs.Effects as effects
 use Rattle.store_model.specs.Effects.{Site, Stuck, Out, Go, Unwind, Halts, stores_where}
-use Rattle.store_model.specs.Values.Datum.{Datum, Gone, Number, Truth, UnitValue, Aggregate, Box, Address}
+use Rattle.store_model.specs.Values.Datum.{Datum, Number, Box, Address}
 use Rattle.store_model.specs.Values.Wholeness.{serials}
 use Rattle.cfg_code.proofs.FreeWalks.{halting_no_unwind}
 use Rattle.cfg_code.proofs.Simulation.{NoUnwind}

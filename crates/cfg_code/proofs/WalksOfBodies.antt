@@ -1,13 +1,12 @@
 -- The walk of a ranked body, up to the place of being stuck, is one equation over effects that do not name it.
-use Rattle.std.proofs.Common.{◌≡◌, ℕ, suc, ◌<◌, ◌≤◌, List, [], ◌∷◌, length, Option, Some, None, slice_get, Bool, true, false, refl, ap, sym, ◌∙◌, arith}
+use Rattle.std.proofs.Common.{◌≡◌, ℕ, suc, ◌<◌, List, [], ◌∷◌, length, Option, true, false, refl, ap, ◌∙◌, arith}
 use Rattle.cfg_graph.specs.declared.graph.Block.{Block}
-use Rattle.cfg_graph.specs.declared.graph.Body.{Body}
 use Rattle.cfg_graph.specs.declared.graph.Kind.{Kind}
 use Rattle.cfg_graph.specs.declared.statement.Stmt.{Stmt}
 use Rattle.cfg_graph.specs.declared.terminator.Term.{Term}
 use Rattle.cfg_graph.specs.declared.terminator.Unwind.{Unwind}
-use Rattle.cfg_graph.specs.Edges.{IsRanked, is_turn, is_turn_kind}
-use Rattle.cfg_meaning.proofs.Walks.{naming_laws, walk_on}
+use Rattle.cfg_graph.specs.Edges.{IsRanked, is_turn_kind}
+use Rattle.cfg_meaning.proofs.Walks.{walk_on}
 use Rattle.cfg_meaning.specs.Actions.{site_of, operand_of, operands_of, action_of, mode_of}
 use Rattle.cfg_meaning.specs.Walk.{Next, stuck_in, ◌>>=◌, fork, branch, renamed, renamed_choice, naming, unwinding, stmts_do, acts, term_does, block_does, by_kind, if_there, does_block, does_turn, walk}
 use Rattle.store_model.proofs.Effects.Laws.{Laws}

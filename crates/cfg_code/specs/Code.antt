@@ -1,10 +1,7 @@
 -- Where the code of a node stands: one line a form, beside the lines of `src_meaning/specs/Evaluation`; and that of a
 -- body, and of a program.
 use Rattle.std.specs.Prelude.{◌≡◌, ℕ, Bool, true, false, List, [], ◌∷◌, map, None, slice_get}
-use Rattle.cfg_graph.specs.declared.graph.Body.{Body}
-use Rattle.cfg_graph.specs.declared.graph.Graph.{Graph}
 use Rattle.cfg_graph.specs.declared.terminator.Term.{Term}
-use Rattle.cfg_graph.specs.Edges.{IsRanked}
 use Rattle.mir_base.specs.declared.trace.Why.{Why}
 use Rattle.store_model.specs.Effects as effects
 use Rattle.store_model.specs.Effects.{Site, Operand, Action, OfTuple, OfArray, OfVariant, OfClosure}
@@ -14,11 +11,11 @@ use Rattle.typed_tree.specs.Tree as tree
 use Rattle.typed_tree.specs.Tree.{Node, node, Form, Nodes, no_node, a_node, Fields, no_field, a_field, MaybeNode, absent, present, ParamTree, BodyTree, ProgramTree}
 use Rattle.src_meaning.specs.Evaluation.{in_number_order, to_own_key}
 use Rattle.src_meaning.specs.Forms.{Destination, Into, coerced, Around, in_loop, loop_destination, moved, is_never}
-use Rattle.src_meaning.specs.Locals.OfBody.{param_key, answer_key, local_of, local_tys}
+use Rattle.src_meaning.specs.Locals.OfBody.{param_key, answer_key}
 use Rattle.src_meaning.specs.Scopes.{Scopes, innermost, with_scope, with_entry, with_pending}
 use Rattle.src_meaning.specs.Shape.{Head, head, Shape, Bound, kind_of, shape, shape_of}
 use Rattle.cfg_code.specs.Rules.{EvaluatesAt, ReachesAt, NodeCode, CodeIfAny, no_code, a_code, all_moved, Delivers, PutsUnit, InOwnScope, AloneAt, ActingAt, DroppingAt, TemporaryAt, UseAt, ElementAt, BorrowAt, UnitAfterAt, AssignAt, ConditionAt, BranchAt, BindsAt, PanicsAt, IfTakenAt, MatchAt, ArmAt, BlockAt, EvaluatingAt, LetAt, LoopAt, JumpValueAt}
-use Rattle.cfg_code.specs.Spots.{Target, Pos, Ways, ways_of, body_ways, Spot, Then, After, Nothing, StepAt, TermAt, Scoped, InScope, JumpAt, node_at}
+use Rattle.cfg_code.specs.Spots.{Target, Pos, Ways, ways_of, body_ways, Spot, Then, After, Nothing, StepAt, TermAt, InScope, JumpAt, node_at}
 
 -- a field's number and the key of its value
 abbrev pub field_keys : Fields → List (ℕ × ℕ)

@@ -1,6 +1,6 @@
 -- The laws of code: a graph that holds the code of a typed program runs as the program does, and its free walks are the
 -- program's free runs, but for the block in which a run without a next step is stuck.
-use Rattle.std.specs.Prelude.{◌≡◌, ℕ, ℤ, Bool, List, length, map, Some, None, slice_get}
+use Rattle.std.specs.Prelude.{◌≡◌, ℕ, ℤ, Bool, List, length, map, Some, slice_get}
 use Rattle.cfg_graph.specs.declared.graph.Body.{Body}
 use Rattle.cfg_graph.specs.declared.graph.Graph.{Graph}
 use Rattle.cfg_graph.specs.Edges.{IsRanked}
@@ -9,8 +9,7 @@ use Rattle.cfg_meaning.specs.Walk.{renamed}
 use Rattle.mir_base.specs.declared.trace.End.{End}
 use Rattle.mir_base.specs.Trace.{Trace}
 use Rattle.mir_ty.specs.ItemTable.{ItemTable}
-use Rattle.store_model.specs.Abstract.Effects.{AbstractState}
-use Rattle.store_model.specs.Effects.{Halt, Stuck, StuckAt, Out}
+use Rattle.store_model.specs.Effects.{Halt, Stuck, StuckAt}
 use Rattle.typed_tree.specs.Tree.{BodyTree, ProgramTree}
 use Rattle.src_meaning.specs.Locals.OfBody.{local_of, local_tys}
 use Rattle.src_meaning.specs.Programs.{source, free_run, reached_by, refused_of}

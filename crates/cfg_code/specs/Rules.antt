@@ -16,7 +16,7 @@ use Rattle.src_meaning.specs.Forms.{Destination, Into, Coerced, Around, in_guard
 use Rattle.src_meaning.specs.Locals.Effects.{operand_at as operand_in, site_at as site_on}
 use Rattle.src_meaning.specs.Scopes.{Scope, Scopes, with_scope, innermost, around_innermost, nearest_temporary, with_entry, with_pending, without_pending, becomes_entry, without_operands}
 use Rattle.src_meaning.specs.Shape.{Head, Shape, PatternTest, IsVariant, IsNumber, IsTruth, AnyOf, PatternTests, no_test, a_test, Alternatives, no_alternative, an_alternative, Bound, site_at, operand_of_bound, operand_at}
-use Rattle.cfg_code.specs.Spots.{Target, Pos, Way, Ways, ways_in_loop, Spot, Then, Changes, After, Nothing, BackIn, node_at, panic_drops, StepAt, TurnAt, EntersAt, TermAt, StmtAt, Leads, Joins, CleanAt, Cleans, Acts, DropsAt, Left, Scoped, InScope}
+use Rattle.cfg_code.specs.Spots.{Target, Pos, Ways, ways_in_loop, Spot, Then, Changes, After, Nothing, BackIn, node_at, panic_drops, StepAt, TurnAt, EntersAt, TermAt, StmtAt, Leads, Joins, CleanAt, Cleans, Acts, DropsAt, Left, InScope}
 
 -- the code by which a node is evaluated, as a scope for temporaries of its own or not, into a destination
 abbrev pub EvaluatesAt : Type 1
