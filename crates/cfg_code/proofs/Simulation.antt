@@ -79,7 +79,6 @@ pub record Walks {W : Type 0} (t : Target) (q : Effects W) (size : W → ℕ) (b
       Walk n w ≡ block_does q (t.node n) block Walk w
   pub turn : (n : ℕ) (block : Block) → slice_get t.body.blocks n ≡ Some block → block.kind ≡ Kind.Turn → (w : W) → size w ≤ bound →
       Walk n w ≡ ◌>>=◌ (q.tick w) (block_does q (t.node n) block Walk)
-  pub nowhere : (n : ℕ) → slice_get t.body.blocks n ≡ None → (w : W) → size w ≤ bound → Walk n w ≡ Halts Stuck w
 
 -- statements do not panic, and no run comes behind an action that stores into a place of type `!`
 pub record Settled {W : Type 0} (t : Target) (q : Effects W) (size : W → ℕ) (bound : ℕ) : Type 0 where
@@ -1403,7 +1402,7 @@ module _ {W : Type 0} (t : Target) (p q : Effects W) (size : W → ℕ) (bound :
     -- a graph that holds the code of a body does what is done within the body
     module _ (b : BodyTree) (held : code.BodyAt t b) where
       abbrev ways : Ways
-      ways = body_ways held.0 held.1
+      ways = body_ways held.0
 
       abbrev outer : Scopes
       outer = code.answer_scope t b
@@ -1411,20 +1410,21 @@ module _ {W : Type 0} (t : Target) (p q : Effects W) (size : W → ℕ) (bound :
       give_same : (w : W) → size w ≤ bound → renamed without_place (keyed.give (site_of_key (answer_key b)) w) ≡ From (held.0, 0) w
       give_same w l =
           tied.giving (site_on t.local_of (site_of_key (answer_key b))) w l
-          ∙ ap (λ n. q.give (record { node = answer_key b; place = whole_local n }) w) held.6
-          ∙ ap (λ n. q.give (record { node = n; place = whole_local 0 }) w) (sym held.5)
-          ∙ sym (at_term Term.Return (held.0, 0) held.4 w)
+          ∙ ap (λ n. q.give (record { node = answer_key b; place = whole_local n }) w) held.5
+          ∙ ap (λ n. q.give (record { node = n; place = whole_local 0 }) w) (sym held.4)
+          ∙ sym (at_term Term.Return (held.0, 0) held.3 w)
+
+      not_used : {A : Type 0} → false ≡ true → A
+      not_used e = absurd (let never : false ≡ true = e in cc)
 
       ended_same : (w : W) → size w ≤ bound → (r : Run W) → Ends ways (size w) 1 outer (held.0, 0) r (From (0, 0) w) →
           renamed without_place (body_end t.items keyed fuel (answer_key b) r) ≡ From (0, 0) w
       ended_same w l (At Value S v) h = give_same v (let k = h.2 in omega arith) ∙ sym h.3
-      ended_same w l (At (Breaks loop) S v) h =
-          sym (h.3 ∙ stays_at 1 S (Walk held.1) v (let i = h.0 in omega arith) ∙ walks.nowhere held.1 held.7 v (let k = h.1 in omega arith))
-      ended_same w l (At (Continues loop) S v) h =
-          sym (h.3 ∙ stays_at 1 S (Walk held.1) v (let i = h.0 in omega arith) ∙ walks.nowhere held.1 held.7 v (let k = h.1 in omega arith))
+      ended_same w l (At (Breaks loop) S v) h = not_used h.2
+      ended_same w l (At (Continues loop) S v) h = not_used h.2
       ended_same w l (At Returns S v) h =
           give_same v (let k = h.1 in omega arith)
-          ∙ sym (h.3 ∙ stays_at 1 S (Walk held.0) v (let i = h.0 in omega arith) ∙ enters held.0 held.3 v (let k = h.1 in omega arith))
+          ∙ sym (h.3 ∙ stays_at 1 S (Walk held.0) v (let i = h.0 in omega arith) ∙ enters held.0 held.2 v (let k = h.1 in omega arith))
       ended_same w l (At Panics S v) h = unwinds_same (panic_drops t S) v (let k = h.0 in omega arith) ∙ sym h.1
       ended_same w l (Over halt v) h = sym h
 
@@ -1434,7 +1434,8 @@ module _ {W : Type 0} (t : Target) (p q : Effects W) (size : W → ℕ) (bound :
       pub body_runs : (w : W) → size w ≤ bound → renamed without_place (activation t.items keyed fuel b w) ≡ Walk 0 w
       body_runs w l =
           ended_same w l (entire_function t.items keyed fuel b outer w)
+          (joins_sim ways _ _
           (in_scope_sim (answer_key b) true ways _ _
-          (then_sim ways _ _ _ _ (params_sim b.params ways) (given_sim _ _ (simulates b.block) (code.around_body t b) ways (Into (answer_key b))))
-          outer (0, 0) outer (held.0, 0) ways_within held.8 w l)
-          ∙ sym (enters 0 held.2 w l)
+          (then_sim ways _ _ _ _ (params_sim b.params ways) (given_sim _ _ (simulates b.block) (code.around_body t b) ways (Into (answer_key b)))))
+          outer (0, 0) outer (held.0, 0) ways_within held.6 w l)
+          ∙ sym (enters 0 held.1 w l)

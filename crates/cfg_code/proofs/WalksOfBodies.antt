@@ -143,5 +143,4 @@ module _ {W : Type 0} (size : W → ℕ) (q : Effects W) (laws : Laws q size) (n
         ap (renamed without_place) (walk_on size q laws number node t.body ranked fuel n w (omega arith) ∙ ap (λ o. there o n w) h
         ∙ ap (λ k. by_kind q number node t.body k n block (λ n. does_turn q number node t.body n block next) (λ n. does_block q number node t.body n block next) w) e)
         ∙ tick_renamed (q.tick w) _ _ (λ v. block_same n block v);
-    nowhere = λ n h w l. ap (renamed without_place) (walk_on size q laws number node t.body ranked fuel n w (omega arith) ∙ ap (λ o. there o n w) h);
   }

@@ -1,6 +1,6 @@
 -- Where the code of a node stands: one line a form, beside the lines of `src_meaning/specs/Evaluation`; and that of a
 -- body, and of a program.
-use Rattle.std.specs.Prelude.{◌≡◌, ℕ, Bool, true, false, List, [], ◌∷◌, map, None, slice_get}
+use Rattle.std.specs.Prelude.{◌≡◌, ℕ, Bool, true, false, List, [], ◌∷◌, map}
 use Rattle.cfg_graph.specs.declared.terminator.Term.{Term}
 use Rattle.mir_base.specs.declared.trace.Why.{Why}
 use Rattle.store_model.specs.Effects as effects
@@ -15,7 +15,7 @@ use Rattle.src_meaning.specs.Locals.OfBody.{param_key, answer_key}
 use Rattle.src_meaning.specs.Scopes.{Scopes, innermost, with_scope, with_entry, with_pending}
 use Rattle.src_meaning.specs.Shape.{Head, head, Shape, Bound, kind_of, shape, shape_of}
 use Rattle.cfg_code.specs.Rules.{EvaluatesAt, ReachesAt, NodeCode, CodeIfAny, no_code, a_code, all_moved, Delivers, PutsUnit, InOwnScope, AloneAt, ActingAt, DroppingAt, TemporaryAt, UseAt, ElementAt, BorrowAt, UnitAfterAt, AssignAt, ConditionAt, BranchAt, BindsAt, PanicsAt, IfTakenAt, MatchAt, ArmAt, BlockAt, EvaluatingAt, LetAt, LoopAt, JumpValueAt}
-use Rattle.cfg_code.specs.Spots.{Target, Pos, Ways, ways_of, body_ways, Spot, Then, After, Nothing, StepAt, TermAt, InScope, JumpAt, node_at}
+use Rattle.cfg_code.specs.Spots.{Target, Pos, Ways, ways_of, body_ways, Spot, Then, After, Nothing, StepAt, TermAt, Joins, InScope, JumpAt, node_at}
 
 -- a field's number and the key of its value
 abbrev pub field_keys : Fields → List (ℕ × ℕ)
@@ -255,15 +255,15 @@ module _ (t : Target) where
       innermost (with_pending (record { key = answer_key body; ty = body.answer }))
       (with_scope (answer_key body) false [])
 
-  abbrev pub FunctionAt : BodyTree → (returns nowhere : ℕ) → Spot
-  FunctionAt body n nowhere =
+  -- the entire function: the parameters, and the block into the result
+  abbrev pub FunctionAt : BodyTree → (returns : ℕ) → Spot
+  FunctionAt body n =
       InScope t (answer_key body) true (Then (ParamsAt body.params)
-      ((code body.block).evaluates (around_body body) (body_ways n nowhere) false (Into (answer_key body))))
+      ((code body.block).evaluates (around_body body) (body_ways n) false (Into (answer_key body))))
 
-  -- the code of a body, from its first block to the one that returns; a jump that names no loop leads to no block
+  -- the code of a body, from its first block to one that returns
   abbrev pub BodyAt : BodyTree → Type 0
   BodyAt body =
-      (returns : ℕ) × (nowhere : ℕ) × StepAt t 0 × StepAt t returns × TermAt t Term.Return (returns, 0)
+      (returns : ℕ) × StepAt t 0 × StepAt t returns × TermAt t Term.Return (returns, 0)
       × (node_at t (returns, 0) ≡ answer_key body) × (t.local_of (answer_key body) ≡ 0)
-      × (slice_get t.body.blocks nowhere ≡ None)
-      × FunctionAt body returns nowhere (answer_scope body) (0, 0) (answer_scope body) (returns, 0)
+      × Joins t (FunctionAt body returns) (answer_scope body) (0, 0) (answer_scope body) (returns, 0)

@@ -38,7 +38,7 @@ pub record LoopWays : Type 0 where
   pub breaks : Way
   pub continues : Way
 
--- the ways of jumps: by `return`; by those that name a loop; by one that names no loop around it
+-- the ways of jumps: by `return`; by those that name a loop; and by one that names no loop around it, which there is not
 pub record Ways : Type 0 where
   pub returns : Way
   pub nowhere : Way
@@ -60,11 +60,11 @@ loop_ways base exit turn is_left = record {
 abbrev pub ways_in_loop : ℕ → (base exit turn : ℕ) (is_left : Bool) → Ways → Ways
 ways_in_loop id base exit turn is_left c = record c { loops = (id, loop_ways base exit turn is_left) ∷ c.loops }
 
--- in a body one scope stays, that of the result
-abbrev pub body_ways : (returns nowhere : ℕ) → Ways
-body_ways returns nowhere = record {
+-- in a body one scope stays, that of the result, and each jump names a loop around it
+abbrev pub body_ways : (returns : ℕ) → Ways
+body_ways returns = record {
   returns = record { base = 1; block = returns; is_used = true };
-  nowhere = record { base = 1; block = nowhere; is_used = true };
+  nowhere = record { base = 1; block = returns; is_used = false };
   loops = [];
 }
 
