@@ -1,0 +1,580 @@
+-- What the lowering builds holds the code: one lemma a rule of `Build`, in every graph that has the blocks that are made. With it
+-- each edge leads to a number that was given out, and to no block 0.
+use Rattle.std.proofs.Common.{◌≡◌, ◌≢◌, ◌⊎◌, inl, inr, ℕ, zero, suc, ◌+◌, ◌<◌, ◌≤◌, ◌==◌, ◌&&◌, ◌||◌, nat_lt, not, Bool, true, false, List, [], ◌∷◌, ◌++◌, length, map, Option, Some, None, slice_get, slice_set, if◌then◌else◌, refl, sym, ap, ◌∙◌, subst, arith, length-append, add-one}
+use Rattle.std.proofs.lemmas.Bool.{eqb-true}
+use Rattle.std.proofs.lemmas.Option.{none-some, slice_get_within, same_Some}
+use Rattle.mir_ty.proofs.ListLemmas.{slice_get-last, slice_get-below}
+use Rattle.cfg_graph.specs.declared.graph.Block.{Block}
+use Rattle.cfg_graph.specs.declared.graph.Kind.{Kind}
+use Rattle.cfg_graph.specs.declared.statement.Stmt.{Stmt}
+use Rattle.cfg_graph.specs.declared.terminator.Term.{Term}
+use Rattle.cfg_graph.specs.declared.terminator.Unwind.{Unwind}
+use Rattle.cfg_graph.specs.Edges.{is_turn_kind, targets, unwind_block}
+use Rattle.cfg_graph.specs.Places.{named_step}
+use Rattle.cfg_meaning.specs.Actions as actions
+use Rattle.mir_base.specs.declared.operator.Cmp.{Cmp}
+use Rattle.mir_base.specs.declared.trace.Why.{Why}
+use Rattle.store_model.specs.Effects as effects
+use Rattle.store_model.specs.Effects.{Site, Action}
+use Rattle.store_model.specs.Places.Place.{Step, ToPart, ToField, ToContent, ToElement, whole_local}
+use Rattle.src_meaning.specs.Forms.{site_of_key, moved}
+use Rattle.src_meaning.specs.Locals.Effects.{step_at, site_at, operand_at, action_at}
+use Rattle.src_meaning.specs.Scopes.{Entry, Scope, Scopes, with_scope, needing_drop, all_entries, entry_site, Exit, Value, Breaks, Continues, Returns, Panics}
+use Rattle.src_meaning.specs.Shape.{PatternTest, IsVariant, IsNumber, IsTruth, AnyOf, PatternTests, no_test, a_test, Alternatives, no_alternative, an_alternative}
+use Rattle.cfg_code.specs.Rules.{taken, StoresAt, StoresUnwindingAt, ReplacesAt, IfAt, CaseAt, BranchesAt, EqualsAt, TestAt, TestsAt, AnyTestAt, PanicsAt, LoopAt}
+use Rattle.cfg_code.specs.Spots.{Target, Pos, Way, Ways, loop_ways, ways_of, ways_in_loop, Spot, HasNoEnd, Then, Changes, After, Nothing, BackIn, action_of_term, node_at, panic_drops, StepAt, TurnAt, EntersAt, TermAt, StmtAt, Leads, stays, goes, Joins, CleanAt, Cleans, IsLast, ActionTermAt, Acts, by_statement, by_terminator, by_last_statement, by_last_terminator, DropsAt, AllDropAt, Left, Scoped, InScope, leaves_one, LeavesTo, JumpAt}
+use Rattle.cfg_build.specs.Build as build
+use Rattle.cfg_build.specs.Build.{Frame, Line, Rest, Made, Building, ending, with_line, made, next_number, closed, closing, reserved, filled, same_entries, chain_among, kept_chain, chain_or, way_of, naming, names, breaks_from, is_left_by, outside, jumps_if, Lowers, Done, ByStmt, ByTerm, change, nothing, from_changed, back_in, then_build, then_lower, joined, after_either, branches, with_exit, looped, step_of, place_of, done_by, chain, unwind_to, unwinding, done, is_last, act_by, act, drop_one, drop_all, outer, leave_from, leave, scoped, in_scope, leaves_to, exits, jump, panics, if_true, compared, equals, test, tests, any_test, put_into, replaces_from, stores, replaces}
+
+-- ---- what was made stays
+pub record Grows (s s' : Building) : Type 0 where
+  pub longer : length s.blocks ≤ length s'.blocks
+  pub keeps : (n : ℕ) → n < length s.blocks → slice_get s'.blocks n ≡ slice_get s.blocks n
+
+pub grows_not : (s : Building) → Grows s s
+grows_not s = record { longer = omega arith; keeps = λ n l. refl }
+
+pub grows_on : (s t u : Building) → Grows s t → Grows t u → Grows s u
+grows_on s t u a b = record {
+  longer = let i = a.longer in let j = b.longer in omega arith;
+  keeps = λ n l. b.keeps n (let i = a.longer in omega arith) ∙ a.keeps n l;
+}
+
+pub closed_grows : (kind : Kind) (k : Rest) (s : Building) → Grows s (closed kind k s)
+closed_grows kind k s = record {
+  longer = let e = length-append s.blocks (Some (made kind (length s.blocks) k) ∷ []) in omega arith;
+  keeps = λ n l. slice_get-below s.blocks (Some (made kind (length s.blocks) k) ∷ []) n l;
+}
+
+pub closed_length : (kind : Kind) (k : Rest) (s : Building) → length (closed kind k s).blocks ≡ suc (length s.blocks)
+closed_length kind k s = length-append s.blocks (Some (made kind (length s.blocks) k) ∷ []) ∙ add-one (length s.blocks)
+
+-- ---- numbers that were given out
+abbrev pub Given : ℕ → ℕ → Type 0
+Given n d = (0 < d) × (d < n)
+
+abbrev pub AllGiven : ℕ → List ℕ → Type 0
+AllGiven n [] = Unit {0}
+AllGiven n (d ∷ ds) = Given n d × AllGiven n ds
+
+given_more : (n m : ℕ) → n ≤ m → (ds : List ℕ) → AllGiven n ds → AllGiven m ds
+given_more n m l [] h = tt
+given_more n m l (d ∷ ds) h = ((h.0.0, (let i = h.0.1 in omega arith)), given_more n m l ds h.1)
+
+given_append : (n : ℕ) (ds es : List ℕ) → AllGiven n ds → AllGiven n es → AllGiven n (ds ++ es)
+given_append n [] es h k = k
+given_append n (d ∷ ds) es h k = (h.0, given_append n ds es h.1 k)
+
+-- a block that is made has its number as its rank, if it is no turn block, and its edges lead below its rank
+abbrev pub MadeWell : ℕ → Made → Type 0
+MadeWell n m = (is_turn_kind m.block.kind ≡ false → m.block.rank ≡ n) × AllGiven m.block.rank (targets m.block.term)
+
+pub record Ranked (s : Building) : Type 0 where
+  pub blocks : (n : ℕ) (m : Made) → slice_get s.blocks n ≡ Some (Some m) → MadeWell n m
+  pub chains : (es : List Entry) (n : ℕ) → chain_among es s.chains ≡ Some n → Given (length s.blocks) n
+  pub begun : 0 < length s.blocks
+
+-- the edges of what comes next
+abbrev pub LeadsOn : Rest → Building → Type 0
+LeadsOn k s = AllGiven (length s.blocks) (targets k.term)
+
+push_cases : {A : Type 0} (xs : List A) (x : A) (n : ℕ) (y : A) → slice_get (xs ++ x ∷ []) n ≡ Some y → (slice_get xs n ≡ Some y) ⊎ ((n ≡ length xs) × (x ≡ y))
+push_cases [] x zero y e = inr (refl, same_Some x y e)
+push_cases [] x (suc n) y e = absurd (none-some y e)
+push_cases (z ∷ xs) x zero y e = inl e
+push_cases (z ∷ xs) x (suc n) y e = elim (push_cases xs x n y e) [ inl h ↦ inl h | inr h ↦ inr (ap suc h.0, h.1) ]
+
+pub closed_ranked : (kind : Kind) (k : Rest) (s : Building) → Ranked s → LeadsOn k s → Ranked (closed kind k s)
+closed_ranked kind k s h l = record {
+  blocks = λ n m e. by_place n m (push_cases s.blocks (Some (made kind (length s.blocks) k)) n (Some m) e);
+  chains = λ es n e. let i = h.chains es n e in let j = closed_length kind k s in (i.0, (let i1 = i.1 in omega arith));
+  begun = let j = closed_length kind k s in omega arith;
+}
+  where
+    by_place : (n : ℕ) (m : Made) → (slice_get s.blocks n ≡ Some (Some m)) ⊎ ((n ≡ length s.blocks) × (Some (made kind (length s.blocks) k) ≡ Some m)) → MadeWell n m
+    by_place n m (inl e) = h.blocks n m e
+    by_place n m (inr e) = subst (MadeWell n) (same_Some (made kind (length s.blocks) k) m e.1) ((λ x. sym e.0), l)
+
+-- ---- the ways of jumps
+abbrev pub AllWays : (Way → Type 0) → Ways → List Exit → Type 0
+AllWays P c [] = Unit {0}
+AllWays P c (exit ∷ exits) = P (way_of exit c) × AllWays P c exits
+
+abbrev pub IsUsed : Way → Type 0
+IsUsed way = way.is_used ≡ true
+
+-- `return`, and the jumps that name loops
+abbrev pub JumpWays : (Way → Type 0) → Ways → List Exit → Type 0
+JumpWays P c jumps = P c.returns × AllWays P c jumps
+
+abbrev pub BlockGiven : ℕ → Way → Type 0
+BlockGiven n way = Given n way.block
+
+all_first : (P : Way → Type 0) (c : Ways) (xs ys : List Exit) → AllWays P c (xs ++ ys) → AllWays P c xs
+all_first P c [] ys h = tt
+all_first P c (x ∷ xs) ys h = (h.0, all_first P c xs ys h.1)
+
+all_second : (P : Way → Type 0) (c : Ways) (xs ys : List Exit) → AllWays P c (xs ++ ys) → AllWays P c ys
+all_second P c [] ys h = h
+all_second P c (x ∷ xs) ys h = all_second P c xs ys h.1
+
+all_ways_more : (n m : ℕ) → n ≤ m → (c : Ways) (xs : List Exit) → AllWays (BlockGiven n) c xs → AllWays (BlockGiven m) c xs
+all_ways_more n m l c [] h = tt
+all_ways_more n m l c (x ∷ xs) h = ((h.0.0, (let i = h.0.1 in omega arith)), all_ways_more n m l c xs h.1)
+
+pub ways_more : (n m : ℕ) → n ≤ m → (c : Ways) (xs : List Exit) → JumpWays (BlockGiven n) c xs → JumpWays (BlockGiven m) c xs
+ways_more n m l c xs h = ((h.0.0, (let i = h.0.1 in omega arith)), all_ways_more n m l c xs h.1)
+
+pub ways_first : (P : Way → Type 0) (c : Ways) (xs ys : List Exit) → JumpWays P c (xs ++ ys) → JumpWays P c xs
+ways_first P c xs ys h = (h.0, all_first P c xs ys h.1)
+
+pub ways_second : (P : Way → Type 0) (c : Ways) (xs ys : List Exit) → JumpWays P c (xs ++ ys) → JumpWays P c ys
+ways_second P c xs ys h = (h.0, all_second P c xs ys h.1)
+
+module _ (t : Target) where
+  abbrev pub f : Frame
+  f = record { items = t.items; local_of = t.local_of; tys = t.body.locals }
+
+  -- ---- a graph in which the blocks that are made stand, with the nodes of their lines
+  abbrev NodesAt : ℕ → ℕ → List ℕ → Type 0
+  NodesAt n l [] = Unit {0}
+  NodesAt n l (x ∷ xs) = (t.node n l ≡ x) × NodesAt n (suc l) xs
+
+  abbrev pub Later : Building → Type 0
+  Later s = (n : ℕ) (m : Made) → slice_get s.blocks n ≡ Some (Some m) → (slice_get t.body.blocks n ≡ Some m.block) × NodesAt n 0 m.nodes
+
+  abbrev LinesAt : Block → ℕ → ℕ → List Line → Term → ℕ → Type 0
+  LinesAt block n l [] term node = (l ≡ length block.stmts) × (block.term ≡ term) × (t.node n l ≡ node)
+  LinesAt block n l (x ∷ xs) term node = (slice_get block.stmts l ≡ Some x.stmt) × (t.node n l ≡ x.node) × LinesAt block n (suc l) xs term node
+
+  -- the rest of a block stands from a place on
+  abbrev pub Stands : Rest → Pos → Type 0
+  Stands k b = (block : Block) × (slice_get t.body.blocks b.0 ≡ Some block) × LinesAt block b.0 b.1 k.lines k.term k.node
+
+  lines_stand : (pre : List Stmt) (block : Block) (n : ℕ) (xs : List Line) (node : ℕ) → block.stmts ≡ pre ++ map (λ l. l.stmt) xs →
+      NodesAt n (length pre) (map (λ l. l.node) xs ++ node ∷ []) → LinesAt block n (length pre) xs block.term node
+  lines_stand pre block n [] node e h = (sym (ap length e ∙ length-append pre [] ∙ (let k : length pre + 0 ≡ length pre = omega arith in k)), refl, h.0)
+  lines_stand pre block n (x ∷ xs) node e h =
+      (ap (λ z. slice_get z (length pre)) e ∙ seam pre, h.0,
+      subst (λ l. LinesAt block n l xs block.term node) (length-append pre (x.stmt ∷ []) ∙ add-one (length pre))
+      (lines_stand (pre ++ x.stmt ∷ []) block n xs node (e ∙ with_one pre)
+      (subst (λ l. NodesAt n l (map (λ l. l.node) xs ++ node ∷ [])) (sym (length-append pre (x.stmt ∷ []) ∙ add-one (length pre))) h.1)))
+    where
+      seam : (pre : List Stmt) → slice_get (pre ++ x.stmt ∷ map (λ l. l.stmt) xs) (length pre) ≡ Some x.stmt
+      seam [] = refl
+      seam (y ∷ pre) = seam pre
+      with_one : (pre : List Stmt) → pre ++ x.stmt ∷ map (λ l. l.stmt) xs ≡ (pre ++ x.stmt ∷ []) ++ map (λ l. l.stmt) xs
+      with_one [] = refl
+      with_one (y ∷ pre) = ap (λ z. y ∷ z) (with_one pre)
+
+  made_stands : (kind : Kind) (rank : ℕ) (k : Rest) (n : ℕ) (s : Building) → Later s → slice_get s.blocks n ≡ Some (Some (made kind rank k)) → Stands k (n, 0)
+  made_stands kind rank k n s later e =
+      let h = later n (made kind rank k) e in ((made kind rank k).block, h.0, lines_stand [] (made kind rank k).block n k.lines k.node refl h.1)
+
+  closed_at : (kind : Kind) (k : Rest) (s : Building) → slice_get (closed kind k s).blocks (length s.blocks) ≡ Some (Some (made kind (length s.blocks) k))
+  closed_at kind k s = slice_get-last s.blocks (Some (made kind (length s.blocks) k))
+
+  closed_stands : (kind : Kind) (k : Rest) (s : Building) → Later (closed kind k s) → Stands k (length s.blocks, 0)
+  closed_stands kind k s later = made_stands kind (length s.blocks) k (length s.blocks) (closed kind k s) later (closed_at kind k s)
+
+  step_stands : (kind : Kind) (k : Rest) (s : Building) → is_turn_kind kind ≡ false → Later (closed kind k s) → StepAt t (length s.blocks)
+  step_stands kind k s e later = ((made kind (length s.blocks) k).block, (later (length s.blocks) (made kind (length s.blocks) k) (closed_at kind k s)).0, e)
+
+  plain_stands : (k : Rest) (s : Building) → Later (closed Kind.Plain k s) → StepAt t (length s.blocks)
+  plain_stands k s later = step_stands Kind.Plain k s refl later
+
+  later_before : (s s' : Building) → Grows s s' → Later s' → Later s
+  later_before s s' grows later n m e = later n m (grows.keeps n (slice_get_within s.blocks n (Some m) e) ∙ e)
+
+  -- what ends a block
+  ends_with : (term : Term) (node : ℕ) (b : Pos) → Stands (ending term node) b → TermAt t term b
+  ends_with term node b st = (st.0, st.1, st.2.0, st.2.1)
+
+  -- ---- the chains that are kept stand
+  abbrev pub ChainAt : List Entry → ℕ → Type 0
+  ChainAt es n = StepAt t n × CleanAt t es (n, 0)
+
+  abbrev pub ChainsStand : Building → Type 0
+  ChainsStand s = (es : List Entry) (n : ℕ) → chain_among es s.chains ≡ Some n → ChainAt es n
+
+  -- ---- what is built
+  abbrev pub CodeEnds : Bool → Lowers → (Ways → Spot) → Ways → Scopes → Rest → Pos → Type 0
+  CodeEnds true P spot c S k b = (b' : Pos) × Stands k b' × spot c S b (P.after S) b'
+  CodeEnds false P spot c S k b = HasNoEnd (spot c) S b
+
+  abbrev pub CodeStands : Bool → Lowers → (Ways → Spot) → Ways → Scopes → Rest → Rest × Building → Type 0
+  CodeStands has_end P spot c S k r = ChainsStand r.1 × ((b : Pos) → Stands r.0 b → CodeEnds has_end P spot c S k b)
+
+  -- the code of what is lowered stands, whatever is built before it; and each edge leads to a number that was given out
+  pub record Lowered (P : Lowers) (spot : Ways → Spot) : Type 0 where
+    pub grows : (c : Ways) (S : Scopes) (k : Rest) (s : Building) → Grows s (P.build c S k s).1
+    pub holds : (c : Ways) (S : Scopes) (k : Rest) (s : Building) → JumpWays IsUsed c P.jumps → Later (P.build c S k s).1 → ChainsStand s →
+        CodeStands P.has_end P spot c S k (P.build c S k s)
+    pub ranks : (c : Ways) (S : Scopes) (k : Rest) (s : Building) → JumpWays (BlockGiven (length s.blocks)) c P.jumps → Ranked s → LeadsOn k s →
+        Ranked (P.build c S k s).1 × LeadsOn (P.build c S k s).0 (P.build c S k s).1
+
+  -- ---- one after the other
+  module _ (P Q : Lowers) (sp sq : Ways → Spot) (lp : Lowered P sp) (lq : Lowered Q sq) where
+    then_grows : (x : Bool) (c : Ways) (S : Scopes) (k : Rest) (s : Building) → Grows s (then_build x P Q c S k s).1
+    then_grows true c S k s =
+        grows_on s (Q.build c (P.after S) k s).1 _ (lq.grows c (P.after S) k s) (lp.grows c S (Q.build c (P.after S) k s).0 (Q.build c (P.after S) k s).1)
+    then_grows false c S k s = lp.grows c S k s
+
+    then_code : (x y : Bool) (c : Ways) (S : Scopes) (k k1 : Rest) (b : Pos) → CodeEnds true P sp c S k1 b → ((m : Pos) → Stands k1 m → CodeEnds y Q sq c (P.after S) k m) →
+        CodeEnds y (then_lower P Q) (λ c. Then (sp c) (sq c)) c S k b
+    then_code x true c S k k1 b first second =
+        let rest = second first.0 first.1 in (rest.0, rest.1, inr (P.after S, first.0, first.2, rest.2))
+    then_code x false c S k k1 b first second = λ S' b'. inr (P.after S, first.0, first.2, second first.0 first.1 S' b')
+
+    then_holds : (x : Bool) (c : Ways) (S : Scopes) →
+        ((k : Rest) (s : Building) → Later (P.build c S k s).1 → ChainsStand s → CodeStands x P sp c S k (P.build c S k s)) → JumpWays IsUsed c (jumps_if x Q.jumps) →
+        (k : Rest) (s : Building) → Later (then_build x P Q c S k s).1 → ChainsStand s →
+        CodeStands (x && Q.has_end) (then_lower P Q) (λ c. Then (sp c) (sq c)) c S k (then_build x P Q c S k s)
+    then_holds true c S hp u k s later chains =
+        let r = Q.build c (P.after S) k s in
+        let second = lq.holds c (P.after S) k s u (later_before r.1 _ (lp.grows c S r.0 r.1) later) chains in
+        let first = hp r.0 r.1 later second.0 in
+        (first.0, λ b st. then_code true Q.has_end c S k r.0 b (first.1 b st) second.1)
+    then_holds false c S hp u k s later chains =
+        let first = hp k s later chains in (first.0, λ b st S' b'. inl (first.1 b st))
+
+    then_ranks : (x : Bool) (c : Ways) (S : Scopes) (k : Rest) (s : Building) → JumpWays (BlockGiven (length s.blocks)) c P.jumps →
+        JumpWays (BlockGiven (length s.blocks)) c (jumps_if x Q.jumps) → Ranked s → LeadsOn k s → Ranked (then_build x P Q c S k s).1 × LeadsOn (then_build x P Q c S k s).0 (then_build x P Q c S k s).1
+    then_ranks true c S k s wp wq h l =
+        let r = Q.build c (P.after S) k s in
+        let second = lq.ranks c (P.after S) k s wq h l in
+        lp.ranks c S r.0 r.1 (ways_more (length s.blocks) (length r.1.blocks) (lq.grows c (P.after S) k s).longer c P.jumps wp) second.0 second.1
+    then_ranks false c S k s wp wq h l = lp.ranks c S k s wp h l
+
+    pub then_lowered : Lowered (then_lower P Q) (λ c. Then (sp c) (sq c))
+    then_lowered = record {
+      grows = then_grows P.has_end;
+      holds = λ c S k s u later chains.
+        then_holds P.has_end c S (λ k s later chains. lp.holds c S k s (ways_first IsUsed c P.jumps (jumps_if P.has_end Q.jumps) u) later chains)
+        (ways_second IsUsed c P.jumps (jumps_if P.has_end Q.jumps) u) k s later chains;
+      ranks = λ c S k s w h l.
+        then_ranks P.has_end c S k s (ways_first (BlockGiven (length s.blocks)) c P.jumps (jumps_if P.has_end Q.jumps) w)
+        (ways_second (BlockGiven (length s.blocks)) c P.jumps (jumps_if P.has_end Q.jumps) w) h l;
+    }
+
+  pub change_lowered : (g : Scopes → Scopes) → Lowered (change g) (λ c. Changes g)
+  change_lowered g = record {
+    grows = λ c S k s. grows_not s;
+    holds = λ c S k s u later chains. (chains, λ b st. (b, st, (refl, refl)));
+    ranks = λ c S k s w h l. (h, l);
+  }
+
+  pub nothing_lowered : Lowered nothing (λ c. Nothing)
+  nothing_lowered = change_lowered (λ S. S)
+
+  changed_ends : (x : Bool) (g : Scopes → Scopes) (P : Lowers) (sp : Ways → Spot) (c : Ways) (S : Scopes) (k : Rest) (b : Pos) → CodeEnds x P sp c (g S) k b →
+      CodeEnds x (from_changed g P) (λ c. After g (sp c)) c S k b
+  changed_ends true g P sp c S k b h = h
+  changed_ends false g P sp c S k b h = h
+
+  pub changed_lowered : (g : Scopes → Scopes) (P : Lowers) (sp : Ways → Spot) → Lowered P sp → Lowered (from_changed g P) (λ c. After g (sp c))
+  changed_lowered g P sp lp = record {
+    grows = λ c S k s. lp.grows c (g S) k s;
+    holds = λ c S k s u later chains. let it = lp.holds c (g S) k s u later chains in (it.0, λ b st. changed_ends P.has_end g P sp c S k b (it.1 b st));
+    ranks = λ c S k s w h l. lp.ranks c (g S) k s w h l;
+  }
+
+  back_ends : (x : Bool) (P : Lowers) (sp : Ways → Spot) (c : Ways) (S : Scopes) (k : Rest) (b : Pos) → CodeEnds x P sp c S k b → CodeEnds x (back_in P) (λ c. BackIn (sp c)) c S k b
+  back_ends true P sp c S k b h = (h.0, h.1, inr (refl, P.after S, h.2))
+  back_ends false P sp c S k b h = λ S' b'. inl h
+
+  pub back_lowered : (P : Lowers) (sp : Ways → Spot) → Lowered P sp → Lowered (back_in P) (λ c. BackIn (sp c))
+  back_lowered P sp lp = record {
+    grows = lp.grows;
+    holds = λ c S k s u later chains. let it = lp.holds c S k s u later chains in (it.0, λ b st. back_ends P.has_end P sp c S k b (it.1 b st));
+    ranks = lp.ranks;
+  }
+
+  -- ---- effects as statements and terminators
+  step_same : (step : Step) → named_step (step_of f step) ≡ step_at t.local_of step
+  step_same (ToPart n) = refl
+  step_same (ToField variant n) = refl
+  step_same ToContent = refl
+  step_same (ToElement index) = refl
+
+  steps_same : (steps : List Step) → map named_step (map (step_of f) steps) ≡ map (step_at t.local_of) steps
+  steps_same [] = refl
+  steps_same (step ∷ steps) = λ i. step_same step i ∷ steps_same steps i
+
+  site_same : (n : ℕ) (site : Site) → site.node ≡ n → actions.site_of n (place_of f site) ≡ site_at t.local_of site
+  site_same n site e = λ i. record { node = sym e i; place = record { local = t.local_of site.place.local; steps = steps_same site.place.steps i } }
+
+  -- all sites have the number of one node
+  abbrev pub OperandOf : ℕ → effects.Operand → Type 0
+  OperandOf n (effects.Copied site) = site.node ≡ n
+  OperandOf n (effects.Moved site) = site.node ≡ n
+  OperandOf n (effects.Number value kind) = Unit {0}
+  OperandOf n (effects.Truth value) = Unit {0}
+  OperandOf n effects.UnitValue = Unit {0}
+
+  abbrev pub OperandsOf : ℕ → List effects.Operand → Type 0
+  OperandsOf n [] = Unit {0}
+  OperandsOf n (o ∷ os) = OperandOf n o × OperandsOf n os
+
+  abbrev pub ActionOf : ℕ → Action → Type 0
+  ActionOf n (effects.Put to from) = (to.node ≡ n) × OperandOf n from
+  ActionOf n (effects.Compare to operator left right) = (to.node ≡ n) × OperandOf n left × OperandOf n right
+  ActionOf n (effects.Not to operand) = (to.node ≡ n) × OperandOf n operand
+  ActionOf n (effects.Build to kind parts) = (to.node ≡ n) × OperandsOf n parts
+  ActionOf n (effects.NewBox to content) = (to.node ≡ n) × OperandOf n content
+  ActionOf n (effects.Unsize to trait_no operand) = (to.node ≡ n) × OperandOf n operand
+  ActionOf n (effects.Borrow to unique base) = (to.node ≡ n) × (base.node ≡ n)
+  ActionOf n (effects.Touch base) = base.node ≡ n
+  ActionOf n (effects.Print operand) = OperandOf n operand
+  ActionOf n (effects.Forget operand) = OperandOf n operand
+  ActionOf n (effects.Free box) = box.node ≡ n
+  ActionOf n (effects.Compute to operator left right) = (to.node ≡ n) × OperandOf n left × OperandOf n right
+  ActionOf n (effects.Negate to operand) = (to.node ≡ n) × OperandOf n operand
+  ActionOf n (effects.Bounds index count) = OperandOf n index
+  ActionOf n (effects.Call to g args) = (to.node ≡ n) × OperandsOf n args
+  ActionOf n (effects.CallVirtual to trait_no method args) = (to.node ≡ n) × OperandsOf n args
+  ActionOf n (effects.Ask to) = to.node ≡ n
+
+  operand_same : (n : ℕ) (o : effects.Operand) → OperandOf n o → actions.operand_of n (build.operand_of f o) ≡ operand_at t.local_of o
+  operand_same n (effects.Copied site) e = ap effects.Copied (site_same n site e)
+  operand_same n (effects.Moved site) e = ap effects.Moved (site_same n site e)
+  operand_same n (effects.Number value kind) e = refl
+  operand_same n (effects.Truth value) e = refl
+  operand_same n effects.UnitValue e = refl
+
+  operands_same : (n : ℕ) (os : List effects.Operand) → OperandsOf n os → actions.operands_of n (build.operands_of f os) ≡ map (operand_at t.local_of) os
+  operands_same n [] e = refl
+  operands_same n (o ∷ os) e = λ i. operand_same n o e.0 i ∷ operands_same n os e.1 i
+
+  -- ---- chains
+  keys_clean : (es ds : List Entry) → same_entries es ds ≡ true → (b : Pos) → CleanAt t ds b → CleanAt t es b
+  keys_clean [] [] e b h = h
+  keys_clean [] (d ∷ ds) e b h = absurd (let never : false ≡ true = e in cc)
+  keys_clean (x ∷ es) [] e b h = absurd (let never : false ≡ true = e in cc)
+  keys_clean (x ∷ es) (d ∷ ds) e b h =
+      let both = and_true (x.key == d.key) (same_entries es ds) e in
+      (h.0, h.1, h.2,
+      h.3 ∙ ap (λ k. site_at t.local_of (record { node = k; place = whole_local k })) (sym (eqb-true x.key d.key both.0)),
+      h.4, keys_clean es ds both.1 (h.1, 0) h.5)
+    where
+      and_true : (a b : Bool) → (a && b) ≡ true → (a ≡ true) × (b ≡ true)
+      and_true true b e = (refl, e)
+      and_true false b e = absurd (let never : false ≡ true = e in cc)
+
+  kept_grows : (es : List Entry) (k : Rest) (s : Building) → Grows s (kept_chain es k s).1
+  kept_grows es k s = let g = closed_grows Kind.Cleanup k s in record { longer = g.longer; keeps = g.keeps }
+
+  -- a new chain is kept, and those before it stand
+  kept_stand : (es : List Entry) (k : Rest) (s : Building) → ChainsStand s → (Stands k (length s.blocks, 0) → CleanAt t es (length s.blocks, 0)) → Later (kept_chain es k s).1 →
+      ChainsStand (kept_chain es k s).1 × ChainAt es (kept_chain es k s).0
+  kept_stand es k s h clean later = (chains, here)
+    where
+      here : ChainAt es (length s.blocks)
+      here = (step_stands Kind.Cleanup k s refl later, clean (closed_stands Kind.Cleanup k s later))
+
+      by_entries : (x : Bool) (ds : List Entry) (n : ℕ) → same_entries ds es ≡ x → (if x then Some (length s.blocks) else chain_among ds s.chains) ≡ Some n → ChainAt ds n
+      by_entries true ds n same e =
+          subst (λ i. ChainAt ds i) (same_Some (length s.blocks) n e) (here.0, keys_clean ds es same (length s.blocks, 0) here.1)
+      by_entries false ds n same e = h ds n e
+
+      chains : ChainsStand (kept_chain es k s).1
+      chains ds n e = by_entries (same_entries ds es) ds n refl e
+
+  kept_ranked : (es : List Entry) (k : Rest) (s : Building) → Ranked s → LeadsOn k s → Ranked (kept_chain es k s).1 × Given (length (kept_chain es k s).1.blocks) (kept_chain es k s).0
+  kept_ranked es k s h l =
+      let c = closed_ranked Kind.Cleanup k s h l in
+      let j = closed_length Kind.Cleanup k s in
+      let g : Given (length (closed Kind.Cleanup k s).blocks) (length s.blocks) = (h.begun, omega arith) in
+      (record { blocks = c.blocks; chains = λ ds n e. by_entries g (same_entries ds es) ds n e; begun = c.begun }, g)
+    where
+      by_entries : Given (length (closed Kind.Cleanup k s).blocks) (length s.blocks) → (x : Bool) (ds : List Entry) (n : ℕ) → (if x then Some (length s.blocks) else chain_among ds s.chains) ≡ Some n →
+          Given (length (closed Kind.Cleanup k s).blocks) n
+      by_entries g true ds n e = subst (Given (length (closed Kind.Cleanup k s).blocks)) (same_Some (length s.blocks) n e) g
+      by_entries g false ds n e = let i = h.chains ds n e in let j = closed_length Kind.Cleanup k s in (i.0, (let i1 = i.1 in omega arith))
+
+  abbrev drop_rest : Entry → ℕ × Building → Rest
+  drop_rest x rest = ending (Term.DropAt (place_of f (entry_site x)) rest.0 Unwind.Abort) x.key
+
+  abbrev after_chain : Entry → List Entry → Building → ℕ × Building
+  after_chain x es s = let rest = chain f es s in kept_chain (x ∷ es) (drop_rest x rest) rest.1
+
+  chain_grows : (es : List Entry) (s : Building) → Grows s (chain f es s).1
+  chain_grows [] s = by_kept (chain_among [] s.chains)
+    where
+      by_kept : (o : Option ℕ) → Grows s (chain_or o s (kept_chain [] (ending Term.Resume 0))).1
+      by_kept (Some n) = grows_not s
+      by_kept None = kept_grows [] (ending Term.Resume 0) s
+  chain_grows (x ∷ es) s = by_kept (chain_grows es s) (chain_among (x ∷ es) s.chains)
+    where
+      by_kept : Grows s (chain f es s).1 → (o : Option ℕ) → Grows s (chain_or o s (after_chain x es)).1
+      by_kept ih (Some n) = grows_not s
+      by_kept ih None = grows_on s (chain f es s).1 _ ih (kept_grows (x ∷ es) (drop_rest x (chain f es s)) (chain f es s).1)
+
+  chain_made : (es : List Entry) (s : Building) → ChainsStand s → Later (chain f es s).1 → ChainsStand (chain f es s).1 × ChainAt es (chain f es s).0
+  chain_made [] s h = by_kept (chain_among [] s.chains) refl
+    where
+      by_kept : (o : Option ℕ) → chain_among [] s.chains ≡ o → Later (chain_or o s (kept_chain [] (ending Term.Resume 0))).1 →
+          ChainsStand (chain_or o s (kept_chain [] (ending Term.Resume 0))).1 × ChainAt [] (chain_or o s (kept_chain [] (ending Term.Resume 0))).0
+      by_kept (Some n) e later = (h, h [] n e)
+      by_kept None e later = kept_stand [] (ending Term.Resume 0) s h (λ st. ends_with Term.Resume 0 (length s.blocks, 0) st) later
+  chain_made (x ∷ es) s h = by_kept (chain_made es s h) (chain_among (x ∷ es) s.chains) refl
+    where
+      by_kept : (Later (chain f es s).1 → ChainsStand (chain f es s).1 × ChainAt es (chain f es s).0) → (o : Option ℕ) → chain_among (x ∷ es) s.chains ≡ o →
+          Later (chain_or o s (after_chain x es)).1 → ChainsStand (chain_or o s (after_chain x es)).1 × ChainAt (x ∷ es) (chain_or o s (after_chain x es)).0
+      by_kept ih (Some n) e later = (h, h (x ∷ es) n e)
+      by_kept ih None e later =
+          let r = chain f es s in
+          let rest = ih (later_before r.1 _ (kept_grows (x ∷ es) (drop_rest x r) r.1) later) in
+          kept_stand (x ∷ es) (drop_rest x r) r.1 rest.0
+          (λ st. (place_of f (entry_site x), r.0, ends_with (Term.DropAt (place_of f (entry_site x)) r.0 Unwind.Abort) x.key (length r.1.blocks, 0) st,
+          site_same (t.node (length r.1.blocks) 0) (entry_site x) (sym st.2.2), rest.1.0, rest.1.1)) later
+
+  chain_ranked : (es : List Entry) (s : Building) → Ranked s → Ranked (chain f es s).1 × Given (length (chain f es s).1.blocks) (chain f es s).0
+  chain_ranked [] s h = by_kept (chain_among [] s.chains) refl
+    where
+      by_kept : (o : Option ℕ) → chain_among [] s.chains ≡ o → Ranked (chain_or o s (kept_chain [] (ending Term.Resume 0))).1
+          × Given (length (chain_or o s (kept_chain [] (ending Term.Resume 0))).1.blocks) (chain_or o s (kept_chain [] (ending Term.Resume 0))).0
+      by_kept (Some n) e = (h, h.chains [] n e)
+      by_kept None e = kept_ranked [] (ending Term.Resume 0) s h tt
+  chain_ranked (x ∷ es) s h = by_kept (chain_ranked es s h) (chain_among (x ∷ es) s.chains) refl
+    where
+      by_kept : Ranked (chain f es s).1 × Given (length (chain f es s).1.blocks) (chain f es s).0 → (o : Option ℕ) → chain_among (x ∷ es) s.chains ≡ o →
+          Ranked (chain_or o s (after_chain x es)).1 × Given (length (chain_or o s (after_chain x es)).1.blocks) (chain_or o s (after_chain x es)).0
+      by_kept ih (Some n) e = (h, h.chains (x ∷ es) n e)
+      by_kept ih None e = kept_ranked (x ∷ es) (drop_rest x (chain f es s)) (chain f es s).1 ih.0 (ih.1, tt)
+
+  -- where a panic goes on
+  unwind_grows : (es : List Entry) (s : Building) → Grows s (unwind_to f es s).1
+  unwind_grows [] s = grows_not s
+  unwind_grows (x ∷ es) s = chain_grows (x ∷ es) s
+
+  unwind_made : (es : List Entry) (s : Building) → ChainsStand s → Later (unwind_to f es s).1 → ChainsStand (unwind_to f es s).1 × Cleans t es (unwind_to f es s).0
+  unwind_made [] s h later = (h, refl)
+  unwind_made (x ∷ es) s h later = chain_made (x ∷ es) s h later
+
+  unwind_ranked : (es : List Entry) (s : Building) → Ranked s → Ranked (unwind_to f es s).1 × AllGiven (length (unwind_to f es s).1.blocks) (unwind_block (unwind_to f es s).0 ++ [])
+  unwind_ranked [] s h = (h, tt)
+  unwind_ranked (x ∷ es) s h = let c = chain_ranked (x ∷ es) s h in (c.0, (c.1, tt))
+
+  -- ---- a terminator with its two ways on
+  abbrev two_ways : (ℕ → Unwind → Term) → ℕ → List Entry → Rest → Building → Rest × Building
+  two_ways term node es k s = unwinding f (term (length s.blocks)) node es (closed Kind.Plain k s)
+
+  two_grow : (term : ℕ → Unwind → Term) (node : ℕ) (es : List Entry) (k : Rest) (s : Building) → Grows s (two_ways term node es k s).1
+  two_grow term node es k s = grows_on s (closed Kind.Plain k s) _ (closed_grows Kind.Plain k s) (unwind_grows es (closed Kind.Plain k s))
+
+  two_later : (term : ℕ → Unwind → Term) (node : ℕ) (es : List Entry) (k : Rest) (s : Building) → Later (two_ways term node es k s).1 → Later (closed Kind.Plain k s)
+  two_later term node es k s later = later_before (closed Kind.Plain k s) _ (unwind_grows es (closed Kind.Plain k s)) later
+
+  two_made : (term : ℕ → Unwind → Term) (node : ℕ) (es : List Entry) (k : Rest) (s : Building) → ChainsStand s → Later (two_ways term node es k s).1 →
+      ChainsStand (two_ways term node es k s).1 × Cleans t es (unwind_to f es (closed Kind.Plain k s)).0
+  two_made term node es k s h later = unwind_made es (closed Kind.Plain k s) h later
+
+  two_ranked : (term : ℕ → Unwind → Term) (node : ℕ) (es : List Entry) (k : Rest) (s : Building) → ((n : ℕ) (u : Unwind) → targets (term n u) ≡ n ∷ unwind_block u ++ []) → Ranked s → LeadsOn k s →
+      Ranked (two_ways term node es k s).1 × LeadsOn (two_ways term node es k s).0 (two_ways term node es k s).1
+  two_ranked term node es k s e h l =
+      let u = unwind_ranked es (closed Kind.Plain k s) (closed_ranked Kind.Plain k s h l) in
+      let j = closed_length Kind.Plain k s in
+      let g = unwind_grows es (closed Kind.Plain k s) in
+      (u.0, subst (AllGiven (length (two_ways term node es k s).1.blocks)) (sym (e (length s.blocks) (unwind_to f es (closed Kind.Plain k s)).0))
+      ((h.begun, (let i = g.longer in omega arith)), u.1))
+
+  stmt_lowered : (n : ℕ) (action : Action) (stmt : Stmt) → actions.action_of n stmt ≡ action_at t.local_of action → Lowered (act_by f false n (ByStmt stmt)) (λ c. Acts t action)
+  stmt_lowered n action stmt e = record {
+    grows = λ c S k s. grows_not s;
+    holds = λ c S k s u later chains.
+      (chains, λ b st. ((b.0, suc b.1), (st.0, st.1, st.2.2), by_statement (b.0, suc b.1) (st.0, stmt, st.1, st.2.0, ap (λ i. actions.action_of i stmt) st.2.1 ∙ e, refl)));
+    ranks = λ c S k s w h l. (h, l);
+  }
+
+  stmt_last : (n : ℕ) (action : Action) (stmt : Stmt) → actions.action_of n stmt ≡ action_at t.local_of action → IsLast t action → Lowered (act_by f true n (ByStmt stmt)) (λ c. Acts t action)
+  stmt_last n action stmt e last = record {
+    grows = λ c S k s. grows_not s;
+    holds = λ c S k s u later chains.
+      (chains, λ b st S' b'. by_last_statement (b.0, suc b.1) S' b' (st.0, stmt, st.1, st.2.0, ap (λ i. actions.action_of i stmt) st.2.1 ∙ e, refl) last);
+    ranks = λ c S k s w h l. (h, (w.0, tt));
+  }
+
+  -- the effect of a terminator
+  abbrev TermOf : ℕ → Action → (ℕ → Unwind → Term) → Type 0
+  TermOf n action term = ((m : ℕ) (u : Unwind) → action_of_term n (term m u) ≡ Some (action_at t.local_of action, m, u)) × ((m : ℕ) (u : Unwind) → targets (term m u) ≡ m ∷ unwind_block u ++ [])
+
+  term_stands : (n : ℕ) (action : Action) (term : ℕ → Unwind → Term) → TermOf n action term → (S : Scopes) (k : Rest) (s : Building) →
+      Cleans t (panic_drops t S) (unwind_to f (panic_drops t S) (closed Kind.Plain k s)).0 → (b : Pos) → Stands (two_ways term n (panic_drops t S) k s).0 b → ActionTermAt t action S (length s.blocks) b
+  term_stands n action term e S k s clean b st =
+      (st.0, (unwind_to f (panic_drops t S) (closed Kind.Plain k s)).0, st.1, st.2.0,
+      ap (λ i. action_of_term i st.0.term) st.2.2 ∙ ap (action_of_term n) st.2.1 ∙ e.0 (length s.blocks) _, clean)
+
+  term_lowered : (n : ℕ) (action : Action) (term : ℕ → Unwind → Term) → TermOf n action term → Lowered (act_by f false n (ByTerm term)) (λ c. Acts t action)
+  term_lowered n action term e = record {
+    grows = λ c S k s. two_grow term n (panic_drops t S) k s;
+    holds = λ c S k s u later chains.
+      let made = two_made term n (panic_drops t S) k s chains later in
+      let before = two_later term n (panic_drops t S) k s later in
+      (made.0, λ b st. ((length s.blocks, 0), closed_stands Kind.Plain k s before,
+      by_terminator (length s.blocks) (length s.blocks, 0) (term_stands n action term e S k s made.1 b st) (plain_stands k s before, refl)));
+    ranks = λ c S k s w h l. two_ranked term n (panic_drops t S) k s e.1 h l;
+  }
+
+  term_last : (n : ℕ) (action : Action) (term : ℕ → Unwind → Term) → TermOf n action term → IsLast t action → Lowered (act_by f true n (ByTerm term)) (λ c. Acts t action)
+  term_last n action term e last = record {
+    grows = λ c S k s. two_grow term n (panic_drops t S) (ending (Term.Goto c.returns.block) n) s;
+    holds = λ c S k s u later chains.
+      let made = two_made term n (panic_drops t S) (ending (Term.Goto c.returns.block) n) s chains later in
+      (made.0, λ b st S' b'. by_last_terminator (length s.blocks) S' b' (term_stands n action term e S (ending (Term.Goto c.returns.block) n) s made.1 b st) last);
+    ranks = λ c S k s w h l. two_ranked term n (panic_drops t S) (ending (Term.Goto c.returns.block) n) s e.1 h (w.0, tt);
+  }
+
+  -- whether it is the last or not
+  by_stmt : (n : ℕ) (action : Action) (stmt : Stmt) → actions.action_of n stmt ≡ action_at t.local_of action → Lowered (act_by f (is_last f action) n (ByStmt stmt)) (λ c. Acts t action)
+  by_stmt n action stmt e = by_last (is_last f action) refl
+    where
+      by_last : (x : Bool) → is_last f action ≡ x → Lowered (act_by f x n (ByStmt stmt)) (λ c. Acts t action)
+      by_last true last = stmt_last n action stmt e last
+      by_last false last = stmt_lowered n action stmt e
+
+  by_term : (n : ℕ) (action : Action) (term : ℕ → Unwind → Term) → TermOf n action term → Lowered (act_by f (is_last f action) n (ByTerm term)) (λ c. Acts t action)
+  by_term n action term e = by_last (is_last f action) refl
+    where
+      by_last : (x : Bool) → is_last f action ≡ x → Lowered (act_by f x n (ByTerm term)) (λ c. Acts t action)
+      by_last true last = term_last n action term e last
+      by_last false last = term_lowered n action term e
+
+  -- ---- any effect
+  pub act_lowered : (n : ℕ) (action : Action) → ActionOf n action → Lowered (act f n action) (λ c. Acts t action)
+  act_lowered n (effects.Put to from) one = by_stmt n (effects.Put to from) _ (λ i. effects.Put (site_same n to one.0 i) (operand_same n from one.1 i))
+  act_lowered n (effects.Compare to operator left right) one =
+      by_stmt n (effects.Compare to operator left right) _ (λ i. effects.Compare (site_same n to one.0 i) operator (operand_same n left one.1 i) (operand_same n right one.2 i))
+  act_lowered n (effects.Not to operand) one = by_stmt n (effects.Not to operand) _ (λ i. effects.Not (site_same n to one.0 i) (operand_same n operand one.1 i))
+  act_lowered n (effects.Build to effects.OfTuple parts) one =
+      by_stmt n (effects.Build to effects.OfTuple parts) _ (λ i. effects.Build (site_same n to one.0 i) effects.OfTuple (operands_same n parts one.1 i))
+  act_lowered n (effects.Build to effects.OfArray parts) one =
+      by_stmt n (effects.Build to effects.OfArray parts) _ (λ i. effects.Build (site_same n to one.0 i) effects.OfArray (operands_same n parts one.1 i))
+  act_lowered n (effects.Build to (effects.OfVariant adt variant) parts) one =
+      by_stmt n (effects.Build to (effects.OfVariant adt variant) parts) _ (λ i. effects.Build (site_same n to one.0 i) (effects.OfVariant adt variant) (operands_same n parts one.1 i))
+  act_lowered n (effects.Build to (effects.OfClosure closure) parts) one =
+      by_stmt n (effects.Build to (effects.OfClosure closure) parts) _ (λ i. effects.Build (site_same n to one.0 i) (effects.OfClosure closure) (operands_same n parts one.1 i))
+  act_lowered n (effects.NewBox to content) one = by_stmt n (effects.NewBox to content) _ (λ i. effects.NewBox (site_same n to one.0 i) (operand_same n content one.1 i))
+  act_lowered n (effects.Unsize to trait_no operand) one =
+      by_stmt n (effects.Unsize to trait_no operand) _ (λ i. effects.Unsize (site_same n to one.0 i) trait_no (operand_same n operand one.1 i))
+  act_lowered n (effects.Borrow to unique base) one = by_stmt n (effects.Borrow to unique base) _ (λ i. effects.Borrow (site_same n to one.0 i) unique (site_same n base one.1 i))
+  act_lowered n (effects.Touch base) one = by_stmt n (effects.Touch base) _ (ap effects.Touch (site_same n base one))
+  act_lowered n (effects.Print operand) one = by_stmt n (effects.Print operand) _ (ap effects.Print (operand_same n operand one))
+  act_lowered n (effects.Forget operand) one = by_stmt n (effects.Forget operand) _ (ap effects.Forget (operand_same n operand one))
+  act_lowered n (effects.Free box) one = by_stmt n (effects.Free box) _ (ap effects.Free (site_same n box one))
+  act_lowered n (effects.Compute to operator left right) one =
+      by_term n (effects.Compute to operator left right) (Term.Math (place_of f to) operator (build.operand_of f left) (build.operand_of f right))
+      ((λ m u. λ i. Some (effects.Compute (site_same n to one.0 i) operator (operand_same n left one.1 i) (operand_same n right one.2 i), m, u)), λ m u. refl)
+  act_lowered n (effects.Negate to operand) one =
+      by_term n (effects.Negate to operand) (Term.Negate (place_of f to) (build.operand_of f operand))
+      ((λ m u. λ i. Some (effects.Negate (site_same n to one.0 i) (operand_same n operand one.1 i), m, u)), λ m u. refl)
+  act_lowered n (effects.Bounds index count) one =
+      by_term n (effects.Bounds index count) (Term.Bounds (build.operand_of f index) count) ((λ m u. λ i. Some (effects.Bounds (operand_same n index one i) count, m, u)), λ m u. refl)
+  act_lowered n (effects.Call to g args) one =
+      by_term n (effects.Call to g args) (Term.Call (place_of f to) g (build.operands_of f args))
+      ((λ m u. λ i. Some (effects.Call (site_same n to one.0 i) g (operands_same n args one.1 i), m, u)), λ m u. refl)
+  act_lowered n (effects.CallVirtual to trait_no method args) one =
+      by_term n (effects.CallVirtual to trait_no method args) (Term.Virtual (place_of f to) trait_no method (build.operands_of f args))
+      ((λ m u. λ i. Some (effects.CallVirtual (site_same n to one.0 i) trait_no method (operands_same n args one.1 i), m, u)), λ m u. refl)
+  act_lowered n (effects.Ask to) one =
+      by_term n (effects.Ask to) (Term.Ask (place_of f to)) ((λ m u. λ i. Some (effects.Ask (site_same n to one i), m, u)), λ m u. refl)

@@ -1,0 +1,2 @@
+//! The lowering of typed programs to raw graphs.
+#![tactic(auto)]
