@@ -578,3 +578,435 @@ module _ (t : Target) where
       ((λ m u. λ i. Some (effects.CallVirtual (site_same n to one.0 i) trait_no method (operands_same n args one.1 i), m, u)), λ m u. refl)
   act_lowered n (effects.Ask to) one =
       by_term n (effects.Ask to) (Term.Ask (place_of f to)) ((λ m u. λ i. Some (effects.Ask (site_same n to one i), m, u)), λ m u. refl)
+
+  -- ---- drops
+  drop_one_at : (site : Site) (es : List Entry) (k : Rest) (s : Building) → Cleans t es (unwind_to f es (closed Kind.Plain k s)).0 → Later (closed Kind.Plain k s) → (b : Pos) →
+      Stands (drop_one f site es k s).0 b → DropsAt t site es b (length s.blocks, 0)
+  drop_one_at site es k s clean before b st =
+      (place_of f site, length s.blocks, (unwind_to f es (closed Kind.Plain k s)).0, ends_with _ site.node b st, site_same (t.node b.0 b.1) site (sym st.2.2), clean, (plain_stands k s before, refl))
+
+  abbrev drop_term : Site → ℕ → Unwind → Term
+  drop_term site = Term.DropAt (place_of f site)
+
+  drops_grow : (es : List Entry) (S : Scopes) (k : Rest) (s : Building) → Grows s (drop_all f es S k s).1
+  drops_grow [] S k s = grows_not s
+  drops_grow (x ∷ es) S k s =
+      let r = drop_all f es S k s in
+      grows_on s r.1 _ (drops_grow es S k s) (two_grow (drop_term (entry_site x)) x.key (es ++ panic_drops t S) r.0 r.1)
+
+  drops_made : (es : List Entry) (S : Scopes) (k : Rest) (s : Building) → ChainsStand s → Later (drop_all f es S k s).1 →
+      ChainsStand (drop_all f es S k s).1 × ((b : Pos) → Stands (drop_all f es S k s).0 b → (b' : Pos) × Stands k b' × AllDropAt t es S b b')
+  drops_made [] S k s h later = (h, λ b st. (b, st, refl))
+  drops_made (x ∷ es) S k s h later =
+      let r = drop_all f es S k s in
+      let before = two_later (drop_term (entry_site x)) x.key (es ++ panic_drops t S) r.0 r.1 later in
+      let rest = drops_made es S k s h (later_before r.1 _ (closed_grows Kind.Plain r.0 r.1) before) in
+      let made = two_made (drop_term (entry_site x)) x.key (es ++ panic_drops t S) r.0 r.1 rest.0 later in
+      let on = rest.1 (length r.1.blocks, 0) (closed_stands Kind.Plain r.0 r.1 before) in
+      (made.0, λ b st. (on.0, on.1, ((length r.1.blocks, 0), drop_one_at (entry_site x) (es ++ panic_drops t S) r.0 r.1 made.1 before b st, on.2)))
+
+  drops_ranked : (es : List Entry) (S : Scopes) (k : Rest) (s : Building) → Ranked s → LeadsOn k s → Ranked (drop_all f es S k s).1 × LeadsOn (drop_all f es S k s).0 (drop_all f es S k s).1
+  drops_ranked [] S k s h l = (h, l)
+  drops_ranked (x ∷ es) S k s h l =
+      let r = drop_all f es S k s in
+      let rest = drops_ranked es S k s h l in
+      two_ranked (drop_term (entry_site x)) x.key (es ++ panic_drops t S) r.0 r.1 (λ n u. refl) rest.0 rest.1
+
+  -- ---- scopes are left
+  abbrev dropped_of : Scope → List Entry
+  dropped_of scope = needing_drop t.items scope.entries
+
+  leave_grows : (S : Scopes) (k : Rest) (s : Building) → Grows s (leave_from f S k s).1
+  leave_grows [] k s = grows_not s
+  leave_grows (scope ∷ S) k s = drops_grow (dropped_of scope) S k s
+
+  leave_holds : (S : Scopes) (k : Rest) (s : Building) → ChainsStand s → Later (leave_from f S k s).1 →
+      ChainsStand (leave_from f S k s).1 × ((b : Pos) → Stands (leave_from f S k s).0 b → (b' : Pos) × Stands k b' × Left t S b (outer f S) b')
+  leave_holds [] k s h later = (h, λ b st. (b, st, (refl, stays)))
+  leave_holds (scope ∷ S) k s h later =
+      let d = drops_made (dropped_of scope) S k s h later in
+      (d.0, λ b st. let on = d.1 b st in (on.0, on.1, (refl, on.0, on.2, stays)))
+
+  leave_ranks : (S : Scopes) (k : Rest) (s : Building) → Ranked s → LeadsOn k s → Ranked (leave_from f S k s).1 × LeadsOn (leave_from f S k s).0 (leave_from f S k s).1
+  leave_ranks [] k s h l = (h, l)
+  leave_ranks (scope ∷ S) k s h l = drops_ranked (dropped_of scope) S k s h l
+
+  pub leave_lowered : Lowered (leave f) (λ c. Left t)
+  leave_lowered = record {
+    grows = λ c S k s. leave_grows S k s;
+    holds = λ c S k s u later chains. leave_holds S k s chains later;
+    ranks = λ c S k s w h l. leave_ranks S k s h l;
+  }
+
+  pub scoped_lowered : (enter : Scopes → Scopes) (P : Lowers) (sp : Ways → Spot) → Lowered P sp → Lowered (scoped f enter P) (λ c. Scoped t enter (sp c))
+  scoped_lowered enter P sp lp = changed_lowered enter (then_lower P (leave f)) _ (then_lowered P (leave f) sp (λ c. Left t) lp leave_lowered)
+
+  pub in_scope_lowered : (node : ℕ) (own : Bool) (P : Lowers) (sp : Ways → Spot) → Lowered P sp → Lowered (in_scope f node own P) (λ c. InScope t node own (sp c))
+  in_scope_lowered node own P sp lp = scoped_lowered (with_scope node own) P sp lp
+
+  -- ---- jumps
+  leaves_grow : (node : ℕ) (way : Way) (S : Scopes) (s : Building) → Grows s (leaves_to f node way S s).1
+  leaves_grow node way [] s = grows_not s
+  leaves_grow node way (scope ∷ S) s = by_base (leaves_grow node way S s) (not (nat_lt (length S) way.base))
+    where
+      by_base : Grows s (leaves_to f node way S s).1 → (x : Bool) →
+          Grows s (build.leaves_one f x (let rest = leaves_to f node way S s in drop_all f (dropped_of scope) S rest.0 rest.1) (ending (Term.Goto way.block) node, s)).1
+      by_base ih true = grows_on s (leaves_to f node way S s).1 _ ih (drops_grow (dropped_of scope) S (leaves_to f node way S s).0 (leaves_to f node way S s).1)
+      by_base ih false = grows_not s
+
+  abbrev LeavesMade : ℕ → Way → Scopes → Rest × Building → Type 0
+  LeavesMade node way S r = ChainsStand r.1 × ((b : Pos) → Stands r.0 b → LeavesTo t way.base way.block S b)
+
+  leaves_made : (node : ℕ) (way : Way) (S : Scopes) (s : Building) → ChainsStand s → Later (leaves_to f node way S s).1 → LeavesMade node way S (leaves_to f node way S s)
+  leaves_made node way [] s h later = (h, λ b st. ends_with (Term.Goto way.block) node b st)
+  leaves_made node way (scope ∷ S) s h later = by_base (leaves_made node way S s h) (not (nat_lt (length S) way.base)) later
+    where
+      by_base : (Later (leaves_to f node way S s).1 → LeavesMade node way S (leaves_to f node way S s)) → (x : Bool) →
+          Later (build.leaves_one f x (let rest = leaves_to f node way S s in drop_all f (dropped_of scope) S rest.0 rest.1) (ending (Term.Goto way.block) node, s)).1 →
+          ChainsStand (build.leaves_one f x (let rest = leaves_to f node way S s in drop_all f (dropped_of scope) S rest.0 rest.1) (ending (Term.Goto way.block) node, s)).1
+          × ((b : Pos) → Stands (build.leaves_one f x (let rest = leaves_to f node way S s in drop_all f (dropped_of scope) S rest.0 rest.1) (ending (Term.Goto way.block) node, s)).0 b →
+          leaves_one t x ((m : Pos) × AllDropAt t (dropped_of scope) S b m × LeavesTo t way.base way.block S m) (TermAt t (Term.Goto way.block) b))
+      by_base ih true later =
+          let r = leaves_to f node way S s in
+          let rest = ih (later_before r.1 _ (drops_grow (dropped_of scope) S r.0 r.1) later) in
+          let d = drops_made (dropped_of scope) S r.0 r.1 rest.0 later in
+          (d.0, λ b st. let on = d.1 b st in (on.0, on.2, rest.1 on.0 on.1))
+      by_base ih false later = (h, λ b st. ends_with (Term.Goto way.block) node b st)
+
+  leaves_ranked : (node : ℕ) (way : Way) (S : Scopes) (s : Building) → Given (length s.blocks) way.block → Ranked s →
+      Ranked (leaves_to f node way S s).1 × LeadsOn (leaves_to f node way S s).0 (leaves_to f node way S s).1
+  leaves_ranked node way [] s g h = (h, (g, tt))
+  leaves_ranked node way (scope ∷ S) s g h = by_base (leaves_ranked node way S s g h) (not (nat_lt (length S) way.base))
+    where
+      by_base : Ranked (leaves_to f node way S s).1 × LeadsOn (leaves_to f node way S s).0 (leaves_to f node way S s).1 → (x : Bool) →
+          Ranked (build.leaves_one f x (let rest = leaves_to f node way S s in drop_all f (dropped_of scope) S rest.0 rest.1) (ending (Term.Goto way.block) node, s)).1
+          × LeadsOn (build.leaves_one f x (let rest = leaves_to f node way S s in drop_all f (dropped_of scope) S rest.0 rest.1) (ending (Term.Goto way.block) node, s)).0
+          (build.leaves_one f x (let rest = leaves_to f node way S s in drop_all f (dropped_of scope) S rest.0 rest.1) (ending (Term.Goto way.block) node, s)).1
+      by_base ih true = drops_ranked (dropped_of scope) S (leaves_to f node way S s).0 (leaves_to f node way S s).1 ih.0 ih.1
+      by_base ih false = (h, (g, tt))
+
+  -- an exit that is a jump: by `return`, or one that names a loop
+  abbrev pub IsJump : Exit → Type 0
+  IsJump Value = ⊥
+  IsJump (Breaks loop) = Unit {0}
+  IsJump (Continues loop) = Unit {0}
+  IsJump Returns = Unit {0}
+  IsJump Panics = ⊥
+
+  way_has : (P : Way → Type 0) (exit : Exit) (c : Ways) → JumpWays P c (naming exit) → P (way_of exit c)
+  way_has P Value c h = h.0
+  way_has P (Breaks loop) c h = h.1.0
+  way_has P (Continues loop) c h = h.1.0
+  way_has P Returns c h = h.0
+  way_has P Panics c h = h.0
+
+  exits_lowered : (node : ℕ) (exit : Exit) → Lowered (exits f node exit) (λ c S b S' b'. ((way_of exit c).is_used ≡ true) × LeavesTo t (way_of exit c).base (way_of exit c).block S b)
+  exits_lowered node exit = record {
+    grows = λ c S k s. leaves_grow node (way_of exit c) S s;
+    holds = λ c S k s u later chains.
+      let made = leaves_made node (way_of exit c) S s chains later in (made.0, λ b st S' b'. (way_has IsUsed exit c u, made.1 b st));
+    ranks = λ c S k s w h l. leaves_ranked node (way_of exit c) S s (way_has (BlockGiven (length s.blocks)) exit c w) h;
+  }
+
+  pub jump_lowered : (node : ℕ) (exit : Exit) (P : Lowers) (sp : Ways → Spot) → Lowered P sp → Lowered (jump f node exit P) (λ c. JumpAt t (way_of exit c) (sp c))
+  jump_lowered node exit P sp lp = then_lowered P (exits f node exit) sp _ lp (exits_lowered node exit)
+
+  -- ---- a panic
+  pub panics_lowered : (node : ℕ) (why : Why) → Lowered (panics f node why) (λ c. PanicsAt t why)
+  panics_lowered node why = record {
+    grows = λ c S k s. unwind_grows (panic_drops t S) s;
+    holds = λ c S k s u later chains.
+      let made = unwind_made (panic_drops t S) s chains later in (made.0, λ b st S' b'. ((unwind_to f (panic_drops t S) s).0, ends_with _ node b st, made.1));
+    ranks = λ c S k s w h l. unwind_ranked (panic_drops t S) s h;
+  }
+
+  -- ---- tests
+  abbrev pub TestMade : Building → Rest × Building → (Pos → Pos → Pos → Type 0) → ℕ → ℕ → Type 0
+  TestMade s r spot y n =
+      Grows s r.1 × (ChainsStand s → Later r.1 → StepAt t y → StepAt t n → ChainsStand r.1 × ((b : Pos) → Stands r.0 b → spot b (y, 0) (n, 0)))
+      × (Ranked s → Given (length s.blocks) y → Given (length s.blocks) n → Ranked r.1 × LeadsOn r.0 r.1)
+
+  pub if_made : (operand : effects.Operand) (node : ℕ) → OperandOf node operand → (y n : ℕ) (s : Building) → TestMade s (if_true f operand node y n s) (IfAt t operand) y n
+  if_made operand node one y n s =
+      (grows_not s,
+      (λ h later py pn. (h, λ b st.
+      (build.operand_of f operand, y, n, ends_with _ node b st, ap (λ i. actions.operand_of i (build.operand_of f operand)) st.2.2 ∙ operand_same node operand one, (py, refl), (pn, refl)))),
+      λ h gy gn. (h, (gn, (gy, tt))))
+
+  equals_made : (site : Site) (value : effects.Operand) → OperandOf site.node value → (y n : ℕ) (s : Building) → TestMade s (equals f site value y n s) (EqualsAt t site value) y n
+  equals_made site value one y n s =
+      (grows_not s,
+      (λ h later py pn. (h, λ b st.
+      ((b.0, suc b.1),
+      (st.0, compared f site value, st.1, st.2.0,
+      ap (λ i. actions.action_of i (compared f site value)) st.2.1
+      ∙ (λ i. effects.Compare (site_same site.node (site_of_key site.node) refl i) Cmp.Eq (effects.Copied (site_same site.node site refl i)) (operand_same site.node value one i)), refl),
+      (build.operand_of f (moved site.node site.node), y, n, (st.0, st.1, st.2.2.0, st.2.2.1),
+      ap (λ i. actions.operand_of i (build.operand_of f (moved site.node site.node))) st.2.2.2 ∙ operand_same site.node (moved site.node site.node) refl, (py, refl), (pn, refl))))),
+      λ h gy gn. (h, (gn, (gy, tt))))
+
+  given_on : (n m d : ℕ) → n ≤ m → Given n d → Given m d
+  given_on n m d l g = (g.0, (let i = g.1 in omega arith))
+
+  mutual
+    test_made : (x : PatternTest) (y n : ℕ) (s : Building) → TestMade s (test f x y n s) (TestAt t x) y n
+    test_made (IsVariant site variant) y n s =
+        (grows_not s,
+        (λ h later py pn. (h, λ b st. (place_of f site, y, n, ends_with _ site.node b st, site_same (t.node b.0 b.1) site (sym st.2.2), (py, refl), (pn, refl)))),
+        λ h gy gn. (h, (gn, (gy, tt))))
+    test_made (IsNumber site value kind) y n s = equals_made site (effects.Number value kind) tt y n s
+    test_made (IsTruth site value) y n s = equals_made site (effects.Truth value) tt y n s
+    test_made (AnyOf alternatives) y n s = any_made alternatives y n s
+
+    pub tests_made : (x : PatternTests) (y n : ℕ) (s : Building) → TestMade s (tests f x y n s) (TestsAt t x) y n
+    tests_made no_test y n s = (grows_not s, (λ h later py pn. (h, λ b st. goes y (ends_with _ 0 b st) py)), λ h gy gn. (h, (gy, tt)))
+    tests_made (a_test first rest) y n s =
+        let r = tests f rest y n s in
+        let c = closed Kind.Plain r.0 r.1 in
+        let g = closed_grows Kind.Plain r.0 r.1 in
+        let second = tests_made rest y n s in
+        let one = test_made first (length r.1.blocks) n c in
+        (grows_on s r.1 _ second.0 (grows_on r.1 c _ g one.0),
+        (λ h later py pn.
+        let l2 = later_before c _ one.0 later in
+        let more = second.1 h (later_before r.1 c g l2) py pn in
+        let it = one.1 more.0 later (plain_stands r.0 r.1 l2) pn in
+        (it.0, λ b st. ((length r.1.blocks, 0), it.1 b st, more.1 (length r.1.blocks, 0) (closed_stands Kind.Plain r.0 r.1 l2)))),
+        λ h gy gn.
+        let more = second.2 h gy gn in
+        let j = closed_length Kind.Plain r.0 r.1 in
+        one.2 (closed_ranked Kind.Plain r.0 r.1 more.0 more.1) (more.0.begun, omega arith) (given_on (length s.blocks) (length c.blocks) n (let a = second.0.longer in omega arith) gn))
+
+    any_made : (x : Alternatives) (y n : ℕ) (s : Building) → TestMade s (any_test f x y n s) (AnyTestAt t x) y n
+    any_made no_alternative y n s = (grows_not s, (λ h later py pn. (h, λ b st. goes n (ends_with _ 0 b st) pn)), λ h gy gn. (h, (gn, tt)))
+    any_made (an_alternative first rest) y n s =
+        let r = any_test f rest y n s in
+        let c = closed Kind.Plain r.0 r.1 in
+        let g = closed_grows Kind.Plain r.0 r.1 in
+        let second = any_made rest y n s in
+        let one = tests_made first y (length r.1.blocks) c in
+        (grows_on s r.1 _ second.0 (grows_on r.1 c _ g one.0),
+        (λ h later py pn.
+        let l2 = later_before c _ one.0 later in
+        let more = second.1 h (later_before r.1 c g l2) py pn in
+        let it = one.1 more.0 later py (plain_stands r.0 r.1 l2) in
+        (it.0, λ b st. ((length r.1.blocks, 0), it.1 b st, more.1 (length r.1.blocks, 0) (closed_stands Kind.Plain r.0 r.1 l2)))),
+        λ h gy gn.
+        let more = second.2 h gy gn in
+        let j = closed_length Kind.Plain r.0 r.1 in
+        one.2 (closed_ranked Kind.Plain r.0 r.1 more.0 more.1) (given_on (length s.blocks) (length c.blocks) y (let a = second.0.longer in omega arith) gy) (more.0.begun, omega arith))
+
+  -- ---- branches
+  -- a place to which codes come
+  joined_grows : (x : Bool) (node : ℕ) (k : Rest) (s : Building) → Grows s (joined x node k s).1
+  joined_grows true node k s = closed_grows Kind.Plain k s
+  joined_grows false node k s = grows_not s
+
+  joined_chains : (x : Bool) (node : ℕ) (k : Rest) (s : Building) → ChainsStand s → ChainsStand (joined x node k s).1
+  joined_chains true node k s h = h
+  joined_chains false node k s h = h
+
+  joined_ranked : (x : Bool) (node : ℕ) (k : Rest) (s : Building) → Ranked s → LeadsOn k s → Ranked (joined x node k s).1 × LeadsOn (joined x node k s).0 (joined x node k s).1
+  joined_ranked true node k s h l = let j = closed_length Kind.Plain k s in (closed_ranked Kind.Plain k s h l, ((h.begun, omega arith), tt))
+  joined_ranked false node k s h l = (h, l)
+
+  -- a code that may join others, given where it ends if it has an end
+  abbrev pub MayJoin : Bool → Spot → Scopes → Rest → Pos → Type 0
+  MayJoin x spot S k b = (S' : Scopes) (b' : Pos) → (x ≡ true → (S' ≡ S) × ((m : Pos) → Stands k m → Leads t m b')) → Joins t spot S b S' b'
+
+  may_join : (x : Bool) (P : Lowers) (sp : Ways → Spot) (c : Ways) (S after : Scopes) (k : Rest) (b : Pos) → CodeEnds x P sp c S k b → P.after S ≡ after → (S' : Scopes) (b' : Pos) →
+      (x ≡ true → (S' ≡ after) × ((m : Pos) → Stands k m → Leads t m b')) → Joins t (sp c) S b S' b'
+  may_join true P sp c S after k b h e S' b' on =
+      let j = on refl in (h.0, subst (λ z. sp c S b z h.0) (e ∙ sym j.0) h.2, j.1 h.0 h.1)
+  may_join false P sp c S after k b h e S' b' on = (b', h S' b', stays)
+
+  -- the place behind both: the block that joins them
+  joined_on : (node : ℕ) (k : Rest) (s : Building) → Later (closed Kind.Plain k s) → (m : Pos) → Stands (joined true node k s).0 m → Leads t m (length s.blocks, 0)
+  joined_on node k s later m st = goes (length s.blocks) (ends_with _ node m st) (plain_stands k s later)
+
+  module _ (node : ℕ) (T : Pos → Pos → Pos → Type 0) (x : ℕ → ℕ → Building → Rest × Building) (made_test : (y n : ℕ) (s : Building) → TestMade s (x y n s) T y n) (P Q : Lowers) (sp sq : Ways → Spot)
+      (lp : Lowered P sp) (lq : Lowered Q sq) (same : (S : Scopes) → P.after S ≡ Q.after S) where
+    abbrev join : Rest → Building → Rest × Building
+    join k s = joined (P.has_end || Q.has_end) node k s
+
+    abbrev no_code : Ways → Scopes → Rest → Building → Rest × Building
+    no_code c S k s = Q.build c S (join k s).0 (join k s).1
+
+    abbrev no_made : Ways → Scopes → Rest → Building → Building
+    no_made c S k s = closed Kind.Plain (no_code c S k s).0 (no_code c S k s).1
+
+    abbrev yes_code : Ways → Scopes → Rest → Building → Rest × Building
+    yes_code c S k s = P.build c S (join k s).0 (no_made c S k s)
+
+    abbrev yes_made : Ways → Scopes → Rest → Building → Building
+    yes_made c S k s = closed Kind.Plain (yes_code c S k s).0 (yes_code c S k s).1
+
+    abbrev yes_at : Ways → Scopes → Rest → Building → ℕ
+    yes_at c S k s = length (yes_code c S k s).1.blocks
+
+    abbrev no_at : Ways → Scopes → Rest → Building → ℕ
+    no_at c S k s = length (no_code c S k s).1.blocks
+
+    no_grows : (c : Ways) (S : Scopes) (k : Rest) (s : Building) → Grows (join k s).1 (no_made c S k s)
+    no_grows c S k s = grows_on (join k s).1 (no_code c S k s).1 _ (lq.grows c S (join k s).0 (join k s).1) (closed_grows Kind.Plain (no_code c S k s).0 (no_code c S k s).1)
+
+    yes_grows : (c : Ways) (S : Scopes) (k : Rest) (s : Building) → Grows (no_made c S k s) (yes_made c S k s)
+    yes_grows c S k s = grows_on (no_made c S k s) (yes_code c S k s).1 _ (lp.grows c S (join k s).0 (no_made c S k s)) (closed_grows Kind.Plain (yes_code c S k s).0 (yes_code c S k s).1)
+
+    -- both have no end, or they join
+    abbrev Both : Bool → Ways → Scopes → Rest → Building → Pos → Type 0
+    Both z c S k s b = CodeEnds z (branches node x P Q) (λ c. BranchesAt t T (sp c) (sq c)) c S k b
+
+    after_same : (z : Bool) (S : Scopes) → after_either z P Q S ≡ Q.after S
+    after_same true S = same S
+    after_same false S = refl
+
+    true_or : (y z : Bool) → z ≡ true → y || z ≡ true
+    true_or true z e = refl
+    true_or false z e = e
+
+    both_end : (z : Bool) → P.has_end || Q.has_end ≡ z → (c : Ways) (S : Scopes) (k : Rest) (s : Building) → Later (joined z node k s).1 → (b y n : Pos) → T b y n →
+        ((S' : Scopes) (b' : Pos) → (z ≡ true → (S' ≡ Q.after S) × ((m : Pos) → Stands (joined z node k s).0 m → Leads t m b')) → Joins t (sp c) S y S' b' × Joins t (sq c) S n S' b') → Both z c S k s b
+    both_end true e c S k s later b y n it codes =
+        let end = codes (after_either P.has_end P Q S) (length s.blocks, 0) (λ one. (after_same P.has_end S, joined_on node k s later)) in
+        ((length s.blocks, 0), closed_stands Kind.Plain k s later, (y, n, it, end.0, end.1))
+    both_end false e c S k s later b y n it codes = λ S' b'.
+        let end = codes S' b' (λ one. absurd (let never : false ≡ true = one in cc)) in (y, n, it, end.0, end.1)
+
+    pub branches_lowered : Lowered (branches node x P Q) (λ c. BranchesAt t T (sp c) (sq c))
+    branches_lowered = record {
+      grows = λ c S k s. grows_on s (join k s).1 _ (joined_grows (P.has_end || Q.has_end) node k s) (grows_on (join k s).1 (no_made c S k s) _ (no_grows c S k s)
+        (grows_on (no_made c S k s) (yes_made c S k s) _ (yes_grows c S k s) (made_test (yes_at c S k s) (no_at c S k s) (yes_made c S k s)).0));
+      holds = λ c S k s u later chains.
+        let z = P.has_end || Q.has_end in
+        let one = made_test (yes_at c S k s) (no_at c S k s) (yes_made c S k s) in
+        let l5 = later_before (yes_made c S k s) _ one.0 later in
+        let l4 = later_before (yes_code c S k s).1 (yes_made c S k s) (closed_grows Kind.Plain (yes_code c S k s).0 (yes_code c S k s).1) l5 in
+        let l3 = later_before (no_made c S k s) (yes_code c S k s).1 (lp.grows c S (join k s).0 (no_made c S k s)) l4 in
+        let l2 = later_before (no_code c S k s).1 (no_made c S k s) (closed_grows Kind.Plain (no_code c S k s).0 (no_code c S k s).1) l3 in
+        let l1 = later_before (join k s).1 (no_code c S k s).1 (lq.grows c S (join k s).0 (join k s).1) l2 in
+        let no = lq.holds c S (join k s).0 (join k s).1 (ways_second IsUsed c P.jumps Q.jumps u) l2 (joined_chains z node k s chains) in
+        let yes = lp.holds c S (join k s).0 (no_made c S k s) (ways_first IsUsed c P.jumps Q.jumps u) l4 no.0 in
+        let it = one.1 yes.0 later (plain_stands (yes_code c S k s).0 (yes_code c S k s).1 l5) (plain_stands (no_code c S k s).0 (no_code c S k s).1 l3) in
+        let yes_ends = yes.1 (yes_at c S k s, 0) (closed_stands Kind.Plain (yes_code c S k s).0 (yes_code c S k s).1 l5) in
+        let no_ends = no.1 (no_at c S k s, 0) (closed_stands Kind.Plain (no_code c S k s).0 (no_code c S k s).1 l3) in
+        (it.0, λ b st. both_end z refl c S k s l1 b (yes_at c S k s, 0) (no_at c S k s, 0) (it.1 b st)
+        (λ S' b' on. (may_join P.has_end P sp c S (Q.after S) (join k s).0 (yes_at c S k s, 0) yes_ends (same S) S' b' (λ e. on (or_true P.has_end Q.has_end e)),
+        may_join Q.has_end Q sq c S (Q.after S) (join k s).0 (no_at c S k s, 0) no_ends refl S' b' (λ e. on (true_or P.has_end Q.has_end e)))));
+      ranks = λ c S k s w h l.
+        let z = P.has_end || Q.has_end in
+        let r1 = joined_ranked z node k s h l in
+        let g1 = joined_grows z node k s in
+        let r2 = lq.ranks c S (join k s).0 (join k s).1 (ways_more (length s.blocks) (length (join k s).1.blocks) g1.longer c Q.jumps (ways_second (BlockGiven (length s.blocks)) c P.jumps Q.jumps w)) r1.0 r1.1 in
+        let c3 = closed_ranked Kind.Plain (no_code c S k s).0 (no_code c S k s).1 r2.0 r2.1 in
+        let g3 = no_grows c S k s in
+        let j3 = closed_length Kind.Plain (no_code c S k s).0 (no_code c S k s).1 in
+        let r4 = lp.ranks c S (join k s).0 (no_made c S k s) (ways_more (length s.blocks) (length (no_made c S k s).blocks) (let a = g1.longer in let b = g3.longer in omega arith) c P.jumps
+          (ways_first (BlockGiven (length s.blocks)) c P.jumps Q.jumps w)) c3 (given_more (length (join k s).1.blocks) (length (no_made c S k s).blocks) g3.longer (targets (join k s).0.term) r1.1) in
+        let c5 = closed_ranked Kind.Plain (yes_code c S k s).0 (yes_code c S k s).1 r4.0 r4.1 in
+        let g5 = yes_grows c S k s in
+        let j5 = closed_length Kind.Plain (yes_code c S k s).0 (yes_code c S k s).1 in
+        (made_test (yes_at c S k s) (no_at c S k s) (yes_made c S k s)).2 c5 (r4.0.begun, omega arith) (r2.0.begun, (let a = g5.longer in omega arith));
+    }
+      where
+        or_true : (y z : Bool) → y ≡ true → y || z ≡ true
+        or_true true z e = refl
+        or_true false z e = absurd (let never : false ≡ true = e in cc)
+
+  -- ---- loops
+  set_length : {X : Type 0} (xs : List X) (n : ℕ) (x : X) → length (slice_set xs n x) ≡ length xs
+  set_length [] n x = refl
+  set_length (y ∷ xs) zero x = refl
+  set_length (y ∷ xs) (suc n) x = ap suc (set_length xs n x)
+
+  set_same : {X : Type 0} (xs : List X) (n : ℕ) (x : X) → n < length xs → slice_get (slice_set xs n x) n ≡ Some x
+  set_same [] n x h = absurd (let never : ⊥ = omega arith in never)
+  set_same (y ∷ xs) zero x h = refl
+  set_same (y ∷ xs) (suc n) x h = set_same xs n x (omega arith)
+
+  set_other : {X : Type 0} (xs : List X) (n i : ℕ) (x : X) → i ≢ n → slice_get (slice_set xs n x) i ≡ slice_get xs i
+  set_other [] n i x h = refl
+  set_other (y ∷ xs) zero zero x h = absurd (h refl)
+  set_other (y ∷ xs) zero (suc i) x h = refl
+  set_other (y ∷ xs) (suc n) zero x h = refl
+  set_other (y ∷ xs) (suc n) (suc i) x h = set_other xs n i x (λ e. h (ap suc e))
+
+  set_cases : {X : Type 0} (xs : List X) (n i : ℕ) (x y : X) → slice_get (slice_set xs n x) i ≡ Some y → (slice_get xs i ≡ Some y) ⊎ ((i ≡ n) × (x ≡ y))
+  set_cases [] n i x y e = inl e
+  set_cases (z ∷ xs) zero zero x y e = inr (refl, same_Some x y e)
+  set_cases (z ∷ xs) zero (suc i) x y e = inl e
+  set_cases (z ∷ xs) (suc n) zero x y e = inl e
+  set_cases (z ∷ xs) (suc n) (suc i) x y e = elim (set_cases xs n i x y e) [ inl h ↦ inl h | inr h ↦ inr (ap suc h.0, h.1) ]
+
+  reserved_grows : (s : Building) → Grows s (reserved s)
+  reserved_grows s = record {
+    longer = let e = length-append s.blocks (None ∷ []) in omega arith;
+    keeps = λ n l. slice_get-below s.blocks (None ∷ []) n l;
+  }
+
+  pub reserved_length : (s : Building) → length (reserved s).blocks ≡ suc (length s.blocks)
+  reserved_length s = length-append s.blocks (None ∷ []) ∙ add-one (length s.blocks)
+
+  reserved_ranked : (s : Building) → Ranked s → Ranked (reserved s)
+  reserved_ranked s h = record {
+    blocks = λ n m e. by_place n m (push_cases s.blocks None n (Some m) e);
+    chains = λ es n e. let i = h.chains es n e in let j = reserved_length s in (i.0, (let i1 = i.1 in omega arith));
+    begun = let j = reserved_length s in omega arith;
+  }
+    where
+      by_place : (n : ℕ) (m : Made) → (slice_get s.blocks n ≡ Some (Some m)) ⊎ ((n ≡ length s.blocks) × (None ≡ Some m)) → MadeWell n m
+      by_place n m (inl e) = h.blocks n m e
+      by_place n m (inr e) = absurd (none-some m e.1)
+
+  -- a block whose number was given out is made
+  module _ (kind : Kind) (n : ℕ) (k : Rest) (s : Building) (free : slice_get s.blocks n ≡ Some None) where
+    abbrev block_filled : Made
+    block_filled = made kind (length s.blocks) k
+
+    filled_later : Later (filled kind n k s) → Later s
+    filled_later later i m e =
+        later i m (set_other s.blocks n i (Some block_filled) (λ same. none-some m (same_Some None (Some m) (sym free ∙ ap (slice_get s.blocks) (sym same) ∙ e))) ∙ e)
+
+    filled_grows : (s0 : Building) → length s0.blocks ≤ n → Grows s0 s → Grows s0 (filled kind n k s)
+    filled_grows s0 l grows = record {
+      longer = let i = set_length s.blocks n (Some block_filled) in let j = grows.longer in omega arith;
+      keeps = λ i h. set_other s.blocks n i (Some block_filled) (λ same. absurd (let never : ⊥ = omega arith in never)) ∙ grows.keeps i h;
+    }
+
+    filled_at : slice_get (filled kind n k s).blocks n ≡ Some (Some block_filled)
+    filled_at = set_same s.blocks n (Some block_filled) (slice_get_within s.blocks n None free)
+
+    filled_stands : Later (filled kind n k s) → (slice_get t.body.blocks n ≡ Some block_filled.block) × Stands k (n, 0)
+    filled_stands later = ((later n block_filled filled_at).0, made_stands kind (length s.blocks) k n (filled kind n k s) later filled_at)
+
+  turn_ranked : (n : ℕ) (k : Rest) (s : Building) → Ranked s → LeadsOn k s → Ranked (filled Kind.Turn n k s)
+  turn_ranked n k s h l = record {
+    blocks = λ i m e. by_place i m (set_cases s.blocks n i (Some (made Kind.Turn (length s.blocks) k)) (Some m) e);
+    chains = λ es i e. let g = h.chains es i e in let j = set_length s.blocks n (Some (made Kind.Turn (length s.blocks) k)) in (g.0, (let g1 = g.1 in omega arith));
+    begun = let j = set_length s.blocks n (Some (made Kind.Turn (length s.blocks) k)) in let b = h.begun in omega arith;
+  }
+    where
+      by_place : (i : ℕ) (m : Made) → (slice_get s.blocks i ≡ Some (Some m)) ⊎ ((i ≡ n) × (Some (made Kind.Turn (length s.blocks) k) ≡ Some m)) → MadeWell i m
+      by_place i m (inl e) = h.blocks i m e
+      by_place i m (inr e) =
+          subst (MadeWell i) (same_Some (made Kind.Turn (length s.blocks) k) m e.1) ((λ x. absurd (let never : true ≡ false = x in cc)), l)
+
+  -- the ways of the jumps in a loop, from those around it
+  module _ (P : Way → Type 0) (id base exit begin : ℕ) (is_left : Bool) (c : Ways) where
+    abbrev inside : Ways
+    inside = ways_in_loop id base exit begin is_left c
+
+    -- the jumps in a loop: those that name it have its ways, others have those of the same jumps outside
+    ways_inside : (jumps : List Exit) → ((x : Bool) → x ≡ is_left_by id jumps → x ≡ true → P (loop_ways base exit begin is_left).breaks) → P (loop_ways base exit begin is_left).continues →
+        AllWays P c (outside id jumps) → AllWays P inside jumps
+    ways_inside [] b k h = tt
+    ways_inside (Value ∷ jumps) b k h = (h.0, ways_inside jumps b k h.1)
+    ways_inside (Returns ∷ jumps) b k h = (h.0, ways_inside jumps b k h.1)
+    ways_inside (Panics ∷ jumps) b k h = (h.0, ways_inside jumps b k h.1)
+    ways_inside (Breaks loop ∷ jumps) b k h = by_name (id == loop) refl b h
+      where
+        by_name : (x : Bool) → id == loop ≡ x → ((y : Bool) → y ≡ x || is_left_by id jumps → y ≡ true → P (loop_ways base exit begin is_left).breaks) →
+            AllWays P c (if x then outside id jumps else Breaks loop ∷ outside id jumps) →
+            P (if x then loop_ways base exit begin is_left else ways_of loop c).breaks × AllWays P inside jumps
+        by_name x e b h = ?
+    ways_inside (Continues loop ∷ jumps) b k h = ?
