@@ -996,17 +996,182 @@ module _ (t : Target) where
     abbrev inside : Ways
     inside = ways_in_loop id base exit begin is_left c
 
+    late_true : (y z : Bool) → z ≡ true → y || z ≡ true
+    late_true true z e = refl
+    late_true false z e = e
+
     -- the jumps in a loop: those that name it have its ways, others have those of the same jumps outside
-    ways_inside : (jumps : List Exit) → ((x : Bool) → x ≡ is_left_by id jumps → x ≡ true → P (loop_ways base exit begin is_left).breaks) → P (loop_ways base exit begin is_left).continues →
+    ways_inside : (jumps : List Exit) → (is_left_by id jumps ≡ true → P (loop_ways base exit begin is_left).breaks) → P (loop_ways base exit begin is_left).continues → P c.returns →
         AllWays P c (outside id jumps) → AllWays P inside jumps
-    ways_inside [] b k h = tt
-    ways_inside (Value ∷ jumps) b k h = (h.0, ways_inside jumps b k h.1)
-    ways_inside (Returns ∷ jumps) b k h = (h.0, ways_inside jumps b k h.1)
-    ways_inside (Panics ∷ jumps) b k h = (h.0, ways_inside jumps b k h.1)
-    ways_inside (Breaks loop ∷ jumps) b k h = by_name (id == loop) refl b h
+    ways_inside [] b k r h = tt
+    ways_inside (Value ∷ jumps) b k r h = (r, ways_inside jumps b k r h.1)
+    ways_inside (Returns ∷ jumps) b k r h = (r, ways_inside jumps b k r h.1)
+    ways_inside (Panics ∷ jumps) b k r h = (r, ways_inside jumps b k r h.1)
+    ways_inside (Breaks loop ∷ jumps) b k r h = by_name (λ b h. ways_inside jumps b k r h) (id == loop) b h
       where
-        by_name : (x : Bool) → id == loop ≡ x → ((y : Bool) → y ≡ x || is_left_by id jumps → y ≡ true → P (loop_ways base exit begin is_left).breaks) →
-            AllWays P c (if x then outside id jumps else Breaks loop ∷ outside id jumps) →
+        by_name : ((is_left_by id jumps ≡ true → P (loop_ways base exit begin is_left).breaks) → AllWays P c (outside id jumps) → AllWays P inside jumps) → (x : Bool) →
+            (x || is_left_by id jumps ≡ true → P (loop_ways base exit begin is_left).breaks) → AllWays P c (if x then outside id jumps else Breaks loop ∷ outside id jumps) →
             P (if x then loop_ways base exit begin is_left else ways_of loop c).breaks × AllWays P inside jumps
-        by_name x e b h = ?
-    ways_inside (Continues loop ∷ jumps) b k h = ?
+        by_name ih true b h = (b refl, ih (λ e. b refl) h)
+        by_name ih false b h = (h.0, ih b h.1)
+    ways_inside (Continues loop ∷ jumps) b k r h = by_name (λ h. ways_inside jumps b k r h) (id == loop) h
+      where
+        by_name : (AllWays P c (outside id jumps) → AllWays P inside jumps) → (x : Bool) → AllWays P c (if x then outside id jumps else Continues loop ∷ outside id jumps) →
+            P (if x then loop_ways base exit begin is_left else ways_of loop c).continues × AllWays P inside jumps
+        by_name ih true h = (k, ih h)
+        by_name ih false h = (h.0, ih h.1)
+
+  exit_grows : (x : Bool) (k : Rest) (s : Building) → Grows s (with_exit x k s)
+  exit_grows true k s = closed_grows Kind.Plain k s
+  exit_grows false k s = grows_not s
+
+  exit_chains : (x : Bool) (k : Rest) (s : Building) → ChainsStand s → ChainsStand (with_exit x k s)
+  exit_chains true k s h = h
+  exit_chains false k s h = h
+
+  exit_ranked : (x : Bool) (k : Rest) (s : Building) → Ranked s → LeadsOn k s → Ranked (with_exit x k s)
+  exit_ranked true k s h l = closed_ranked Kind.Plain k s h l
+  exit_ranked false k s h l = h
+
+  -- where a `break` leads, if there is one
+  exit_given : (x : Bool) (k : Rest) (s : Building) → Ranked s → x ≡ true → Given (length (with_exit x k s).blocks) (length s.blocks)
+  exit_given true k s h e = let j = closed_length Kind.Plain k s in (h.begun, omega arith)
+  exit_given false k s h e = absurd (let never : false ≡ true = e in cc)
+
+  module _ (id : ℕ) (turn : Lowers) (sp : Ways → Spot) (lt : Lowered turn sp) (back : (S : Scopes) → turn.after S ≡ S) where
+    abbrev left : Bool
+    left = is_left_by id turn.jumps
+
+    abbrev begun_with : Rest → Building → Building
+    begun_with k s = with_exit left k s
+
+    abbrev begin_at : Rest → Building → ℕ
+    begin_at k s = length (begun_with k s).blocks
+
+    abbrev again : Rest → Building → Rest
+    again k s = ending (Term.Goto (begin_at k s)) id
+
+    abbrev ways_in : Ways → Scopes → Rest → Building → Ways
+    ways_in c S k s = ways_in_loop id (length S) (length s.blocks) (begin_at k s) left c
+
+    abbrev code_in : Ways → Scopes → Rest → Building → Rest × Building
+    code_in c S k s = turn.build (ways_in c S k s) S (again k s) (reserved (begun_with k s))
+
+    begun_grows : (k : Rest) (s : Building) → Grows s (reserved (begun_with k s))
+    begun_grows k s = grows_on s (begun_with k s) _ (exit_grows left k s) (reserved_grows (begun_with k s))
+
+    code_grows : (c : Ways) (S : Scopes) (k : Rest) (s : Building) → Grows (reserved (begun_with k s)) (code_in c S k s).1
+    code_grows c S k s = lt.grows (ways_in c S k s) S (again k s) (reserved (begun_with k s))
+
+    begin_free : (c : Ways) (S : Scopes) (k : Rest) (s : Building) → slice_get (code_in c S k s).1.blocks (begin_at k s) ≡ Some None
+    begin_free c S k s =
+        let j = reserved_length (begun_with k s) in
+        (code_grows c S k s).keeps (begin_at k s) (omega arith) ∙ slice_get-last (begun_with k s).blocks None
+
+    used_in : (c : Ways) (S : Scopes) (k : Rest) (s : Building) → JumpWays IsUsed c (outside id turn.jumps) → JumpWays IsUsed (ways_in c S k s) turn.jumps
+    used_in c S k s u = (u.0, ways_inside IsUsed id (length S) (length s.blocks) (begin_at k s) left c turn.jumps (λ e. e) refl u.0 u.1)
+
+    -- the code of a loop, whether it is left or not
+    loop_ends : (x : Bool) → left ≡ x → (c : Ways) (S : Scopes) (k : Rest) (s : Building) → (e b : Pos) → Later (with_exit x k s) →
+        ((S' : Scopes) (b' : Pos) → (left ≡ true → EntersAt t (length s.blocks) b' × (S' ≡ S)) → LoopAt t id sp c S b S' b') →
+        CodeEnds x (looped id turn) (λ c. LoopAt t id sp c) c S k b
+    loop_ends true e c S k s at b later loop =
+        ((length s.blocks, 0), closed_stands Kind.Plain k s later, loop S (length s.blocks, 0) (λ y. ((plain_stands k s later, refl), refl)))
+    loop_ends false e c S k s at b later loop = λ S' b'. loop S' b' (λ y. absurd (let never : false ≡ true = sym e ∙ y in cc))
+
+    turn_ends : (x : Bool) (c : Ways) (S : Scopes) (k : Rest) (s : Building) (b : Pos) → CodeEnds x turn sp (ways_in c S k s) S (again k s) (begin_at k s, 0) → TermAt t (Term.Goto (begin_at k s)) b →
+        (e : Pos) × sp (ways_in c S k s) S (begin_at k s, 0) S e × TermAt t (Term.Goto (begin_at k s)) e
+    turn_ends true c S k s b h goes_back =
+        (h.0, subst (λ z. sp (ways_in c S k s) S (begin_at k s, 0) z h.0) (back S) h.2, ends_with (Term.Goto (begin_at k s)) id h.0 h.1)
+    turn_ends false c S k s b h goes_back = (b, h S b, goes_back)
+
+    pub looped_lowered : Lowered (looped id turn) (λ c. LoopAt t id sp c)
+    looped_lowered = record {
+      grows = λ c S k s.
+        filled_grows Kind.Turn (begin_at k s) (code_in c S k s).0 (code_in c S k s).1 (begin_free c S k s) s (exit_grows left k s).longer
+        (grows_on s (reserved (begun_with k s)) _ (begun_grows k s) (code_grows c S k s));
+      holds = λ c S k s u later chains.
+        let r = code_in c S k s in
+        let l2 = filled_later Kind.Turn (begin_at k s) r.0 r.1 (begin_free c S k s) later in
+        let l1 = later_before (reserved (begun_with k s)) r.1 (code_grows c S k s) l2 in
+        let l0 = later_before (begun_with k s) (reserved (begun_with k s)) (reserved_grows (begun_with k s)) l1 in
+        let turn_at = filled_stands Kind.Turn (begin_at k s) r.0 r.1 (begin_free c S k s) later in
+        let it = lt.holds (ways_in c S k s) S (again k s) (reserved (begun_with k s)) (used_in c S k s u) l2 (exit_chains left k s chains) in
+        (it.0, λ b st.
+        let goes_back = ends_with (Term.Goto (begin_at k s)) id b st in
+        let e = turn_ends turn.has_end c S k s b (it.1 (begin_at k s, 0) turn_at.1) goes_back in
+        loop_ends left refl c S k s e.0 b l0
+        (λ S' b' onward. (begin_at k s, length s.blocks, left, e.0, goes_back, ((made Kind.Turn (length r.1.blocks) r.0).block, turn_at.0, refl), e.1, e.2, onward)));
+      ranks = λ c S k s w h l.
+        let start = reserved (begun_with k s) in
+        let j = reserved_length (begun_with k s) in
+        let g = begun_grows k s in
+        let h1 = exit_ranked left k s h l in
+        let more = ways_more (length s.blocks) (length start.blocks) g.longer c (outside id turn.jumps) w in
+        let g0 = given_on (length (begun_with k s).blocks) (length start.blocks) (length s.blocks) (omega arith) in
+        let ways = ways_inside (BlockGiven (length start.blocks)) id (length S) (length s.blocks) (begin_at k s) left c turn.jumps (λ e. g0 (exit_given left k s h e)) (h1.begun, omega arith) more.0 more.1 in
+        let it = lt.ranks (ways_in c S k s) S (again k s) start (more.0, ways) (reserved_ranked (begun_with k s) h1) ((h1.begun, omega arith), tt) in
+        let r = code_in c S k s in
+        let j2 = set_length r.1.blocks (begin_at k s) (Some (made Kind.Turn (length r.1.blocks) r.0)) in
+        (turn_ranked (begin_at k s) r.0 r.1 it.0 it.1, ((h1.begun, (let a = (code_grows c S k s).longer in omega arith)), tt));
+    }
+
+  -- ---- assignment
+  module _ (site : Site) (key : ℕ) where
+    abbrev put : Action
+    put = effects.Put site (moved site.node key)
+
+    put_same : (i : ℕ) → i ≡ site.node → actions.action_of i (put_into f site key) ≡ action_at t.local_of put
+    put_same i e =
+        ap (λ i. actions.action_of i (put_into f site key)) e
+        ∙ (λ j. effects.Put (site_same site.node site refl j) (operand_same site.node (moved site.node key) refl j))
+
+    pub stores_lowered : Lowered (stores f site key) (λ c. StoresAt t site key)
+    stores_lowered = changed_lowered (taken t (key ∷ [])) (act f site.node put) _ (act_lowered site.node put (refl, refl))
+
+    abbrev stored : Rest → Rest
+    stored k = with_line (put_into f site key) site.node k
+
+    abbrev onward : Rest → Building → Building
+    onward k s = closed Kind.Plain (stored k) s
+
+    abbrev drops_of : Scopes → List Entry
+    drops_of S = panic_drops t (taken t (key ∷ []) S)
+
+    abbrev down : Scopes → Rest → Building → ℕ × Building
+    down S k s = chain f (drops_of S) (onward k s)
+
+    abbrev unwound : Scopes → Rest → Building → Rest
+    unwound S k s = stored (ending (Term.Goto (down S k s).0) site.node)
+
+    replaced_lowered : Lowered (replaces f true site key) (λ c. ReplacesAt t true site key)
+    replaced_lowered = record {
+      grows = λ c S k s. grows_on s (onward k s) _ (closed_grows Kind.Plain (stored k) s)
+        (grows_on (onward k s) (down S k s).1 _ (chain_grows (drops_of S) (onward k s)) (closed_grows Kind.Cleanup (unwound S k s) (down S k s).1));
+      holds = λ c S k s u later chains.
+        let l2 = later_before (down S k s).1 _ (closed_grows Kind.Cleanup (unwound S k s) (down S k s).1) later in
+        let l1 = later_before (onward k s) _ (chain_grows (drops_of S) (onward k s)) l2 in
+        let made = chain_made (drops_of S) (onward k s) chains l2 in
+        let st1 = closed_stands Kind.Plain (stored k) s l1 in
+        let st2 = closed_stands Kind.Cleanup (unwound S k s) (down S k s).1 later in
+        (made.0, λ b st.
+        ((length s.blocks, 1), (st1.0, st1.1, st1.2.2),
+        (place_of f site, length s.blocks, length (down S k s).1.blocks, ends_with _ site.node b st, site_same (t.node b.0 b.1) site (sym st.2.2),
+        plain_stands (stored k) s l1,
+        by_statement (length s.blocks, 1) (st1.0, put_into f site key, st1.1, st1.2.0, put_same _ st1.2.1, refl),
+        (step_stands Kind.Cleanup (unwound S k s) (down S k s).1 refl later, (length (down S k s).1.blocks, 1), ((down S k s).0, 0),
+        (st2.0, put_into f site key, st2.1, st2.2.0, put_same _ st2.2.1, refl),
+        goes (down S k s).0 (st2.0, st2.1, st2.2.2.0, st2.2.2.1) made.1.0, made.1.1))));
+      ranks = λ c S k s w h l.
+        let h1 = closed_ranked Kind.Plain (stored k) s h l in
+        let j1 = closed_length Kind.Plain (stored k) s in
+        let h2 = chain_ranked (drops_of S) (onward k s) h1 in
+        let g2 = chain_grows (drops_of S) (onward k s) in
+        let h3 = closed_ranked Kind.Cleanup (unwound S k s) (down S k s).1 h2.0 (h2.1, tt) in
+        let j3 = closed_length Kind.Cleanup (unwound S k s) (down S k s).1 in
+        (h3, ((h.begun, (let a = g2.longer in omega arith)), ((h2.0.begun, omega arith), tt)));
+    }
+
+  pub replaces_lowered : (needs : Bool) (site : Site) (key : ℕ) → Lowered (replaces f needs site key) (λ c. ReplacesAt t needs site key)
+  replaces_lowered true site key = replaced_lowered site key
+  replaces_lowered false site key = stores_lowered site key
