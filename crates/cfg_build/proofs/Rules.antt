@@ -57,7 +57,7 @@ abbrev pub AllGiven : ℕ → List ℕ → Type 0
 AllGiven n [] = Unit {0}
 AllGiven n (d ∷ ds) = Given n d × AllGiven n ds
 
-given_more : (n m : ℕ) → n ≤ m → (ds : List ℕ) → AllGiven n ds → AllGiven m ds
+pub given_more : (n m : ℕ) → n ≤ m → (ds : List ℕ) → AllGiven n ds → AllGiven m ds
 given_more n m l [] h = tt
 given_more n m l (d ∷ ds) h = ((h.0.0, (let i = h.0.1 in omega arith)), given_more n m l ds h.1)
 
@@ -174,20 +174,20 @@ module _ (t : Target) where
   closed_at : (kind : Kind) (k : Rest) (s : Building) → slice_get (closed kind k s).blocks (length s.blocks) ≡ Some (Some (made kind (length s.blocks) k))
   closed_at kind k s = slice_get-last s.blocks (Some (made kind (length s.blocks) k))
 
-  closed_stands : (kind : Kind) (k : Rest) (s : Building) → Later (closed kind k s) → Stands k (length s.blocks, 0)
+  pub closed_stands : (kind : Kind) (k : Rest) (s : Building) → Later (closed kind k s) → Stands k (length s.blocks, 0)
   closed_stands kind k s later = made_stands kind (length s.blocks) k (length s.blocks) (closed kind k s) later (closed_at kind k s)
 
-  step_stands : (kind : Kind) (k : Rest) (s : Building) → is_turn_kind kind ≡ false → Later (closed kind k s) → StepAt t (length s.blocks)
+  pub step_stands : (kind : Kind) (k : Rest) (s : Building) → is_turn_kind kind ≡ false → Later (closed kind k s) → StepAt t (length s.blocks)
   step_stands kind k s e later = ((made kind (length s.blocks) k).block, (later (length s.blocks) (made kind (length s.blocks) k) (closed_at kind k s)).0, e)
 
-  plain_stands : (k : Rest) (s : Building) → Later (closed Kind.Plain k s) → StepAt t (length s.blocks)
+  pub plain_stands : (k : Rest) (s : Building) → Later (closed Kind.Plain k s) → StepAt t (length s.blocks)
   plain_stands k s later = step_stands Kind.Plain k s refl later
 
-  later_before : (s s' : Building) → Grows s s' → Later s' → Later s
+  pub later_before : (s s' : Building) → Grows s s' → Later s' → Later s
   later_before s s' grows later n m e = later n m (grows.keeps n (slice_get_within s.blocks n (Some m) e) ∙ e)
 
   -- what ends a block
-  ends_with : (term : Term) (node : ℕ) (b : Pos) → Stands (ending term node) b → TermAt t term b
+  pub ends_with : (term : Term) (node : ℕ) (b : Pos) → Stands (ending term node) b → TermAt t term b
   ends_with term node b st = (st.0, st.1, st.2.0, st.2.1)
 
   -- ---- the chains that are kept stand
@@ -444,15 +444,15 @@ module _ (t : Target) where
       by_kept ih None e = kept_ranked (x ∷ es) (drop_rest x (chain f es s)) (chain f es s).1 ih.0 (ih.1, tt)
 
   -- where a panic goes on
-  unwind_grows : (es : List Entry) (s : Building) → Grows s (unwind_to f es s).1
+  pub unwind_grows : (es : List Entry) (s : Building) → Grows s (unwind_to f es s).1
   unwind_grows [] s = grows_not s
   unwind_grows (x ∷ es) s = chain_grows (x ∷ es) s
 
-  unwind_made : (es : List Entry) (s : Building) → ChainsStand s → Later (unwind_to f es s).1 → ChainsStand (unwind_to f es s).1 × Cleans t es (unwind_to f es s).0
+  pub unwind_made : (es : List Entry) (s : Building) → ChainsStand s → Later (unwind_to f es s).1 → ChainsStand (unwind_to f es s).1 × Cleans t es (unwind_to f es s).0
   unwind_made [] s h later = (h, refl)
   unwind_made (x ∷ es) s h later = chain_made (x ∷ es) s h later
 
-  unwind_ranked : (es : List Entry) (s : Building) → Ranked s → Ranked (unwind_to f es s).1 × AllGiven (length (unwind_to f es s).1.blocks) (unwind_block (unwind_to f es s).0 ++ [])
+  pub unwind_ranked : (es : List Entry) (s : Building) → Ranked s → Ranked (unwind_to f es s).1 × AllGiven (length (unwind_to f es s).1.blocks) (unwind_block (unwind_to f es s).0 ++ [])
   unwind_ranked [] s h = (h, tt)
   unwind_ranked (x ∷ es) s h = let c = chain_ranked (x ∷ es) s h in (c.0, (c.1, tt))
 
@@ -460,17 +460,17 @@ module _ (t : Target) where
   abbrev two_ways : (ℕ → Unwind → Term) → ℕ → List Entry → Rest → Building → Rest × Building
   two_ways term node es k s = unwinding f (term (length s.blocks)) node es (closed Kind.Plain k s)
 
-  two_grow : (term : ℕ → Unwind → Term) (node : ℕ) (es : List Entry) (k : Rest) (s : Building) → Grows s (two_ways term node es k s).1
+  pub two_grow : (term : ℕ → Unwind → Term) (node : ℕ) (es : List Entry) (k : Rest) (s : Building) → Grows s (two_ways term node es k s).1
   two_grow term node es k s = grows_on s (closed Kind.Plain k s) _ (closed_grows Kind.Plain k s) (unwind_grows es (closed Kind.Plain k s))
 
-  two_later : (term : ℕ → Unwind → Term) (node : ℕ) (es : List Entry) (k : Rest) (s : Building) → Later (two_ways term node es k s).1 → Later (closed Kind.Plain k s)
+  pub two_later : (term : ℕ → Unwind → Term) (node : ℕ) (es : List Entry) (k : Rest) (s : Building) → Later (two_ways term node es k s).1 → Later (closed Kind.Plain k s)
   two_later term node es k s later = later_before (closed Kind.Plain k s) _ (unwind_grows es (closed Kind.Plain k s)) later
 
-  two_made : (term : ℕ → Unwind → Term) (node : ℕ) (es : List Entry) (k : Rest) (s : Building) → ChainsStand s → Later (two_ways term node es k s).1 →
+  pub two_made : (term : ℕ → Unwind → Term) (node : ℕ) (es : List Entry) (k : Rest) (s : Building) → ChainsStand s → Later (two_ways term node es k s).1 →
       ChainsStand (two_ways term node es k s).1 × Cleans t es (unwind_to f es (closed Kind.Plain k s)).0
   two_made term node es k s h later = unwind_made es (closed Kind.Plain k s) h later
 
-  two_ranked : (term : ℕ → Unwind → Term) (node : ℕ) (es : List Entry) (k : Rest) (s : Building) → ((n : ℕ) (u : Unwind) → targets (term n u) ≡ n ∷ unwind_block u ++ []) → Ranked s → LeadsOn k s →
+  pub two_ranked : (term : ℕ → Unwind → Term) (node : ℕ) (es : List Entry) (k : Rest) (s : Building) → ((n : ℕ) (u : Unwind) → targets (term n u) ≡ n ∷ unwind_block u ++ []) → Ranked s → LeadsOn k s →
       Ranked (two_ways term node es k s).1 × LeadsOn (two_ways term node es k s).0 (two_ways term node es k s).1
   two_ranked term node es k s e h l =
       let u = unwind_ranked es (closed Kind.Plain k s) (closed_ranked Kind.Plain k s h l) in
@@ -580,7 +580,7 @@ module _ (t : Target) where
       by_term n (effects.Ask to) (Term.Ask (place_of f to)) ((λ m u. λ i. Some (effects.Ask (site_same n to one i), m, u)), λ m u. refl)
 
   -- ---- drops
-  drop_one_at : (site : Site) (es : List Entry) (k : Rest) (s : Building) → Cleans t es (unwind_to f es (closed Kind.Plain k s)).0 → Later (closed Kind.Plain k s) → (b : Pos) →
+  pub drop_one_at : (site : Site) (es : List Entry) (k : Rest) (s : Building) → Cleans t es (unwind_to f es (closed Kind.Plain k s)).0 → Later (closed Kind.Plain k s) → (b : Pos) →
       Stands (drop_one f site es k s).0 b → DropsAt t site es b (length s.blocks, 0)
   drop_one_at site es k s clean before b st =
       (place_of f site, length s.blocks, (unwind_to f es (closed Kind.Plain k s)).0, ends_with _ site.node b st, site_same (t.node b.0 b.1) site (sym st.2.2), clean, (plain_stands k s before, refl))
@@ -745,7 +745,7 @@ module _ (t : Target) where
       ap (λ i. actions.operand_of i (build.operand_of f (moved site.node site.node))) st.2.2.2 ∙ operand_same site.node (moved site.node site.node) refl, (py, refl), (pn, refl))))),
       λ h gy gn. (h, (gn, (gy, tt))))
 
-  given_on : (n m d : ℕ) → n ≤ m → Given n d → Given m d
+  pub given_on : (n m d : ℕ) → n ≤ m → Given n d → Given m d
   given_on n m d l g = (g.0, (let i = g.1 in omega arith))
 
   mutual
@@ -798,15 +798,15 @@ module _ (t : Target) where
 
   -- ---- branches
   -- a place to which codes come
-  joined_grows : (x : Bool) (node : ℕ) (k : Rest) (s : Building) → Grows s (joined x node k s).1
+  pub joined_grows : (x : Bool) (node : ℕ) (k : Rest) (s : Building) → Grows s (joined x node k s).1
   joined_grows true node k s = closed_grows Kind.Plain k s
   joined_grows false node k s = grows_not s
 
-  joined_chains : (x : Bool) (node : ℕ) (k : Rest) (s : Building) → ChainsStand s → ChainsStand (joined x node k s).1
+  pub joined_chains : (x : Bool) (node : ℕ) (k : Rest) (s : Building) → ChainsStand s → ChainsStand (joined x node k s).1
   joined_chains true node k s h = h
   joined_chains false node k s h = h
 
-  joined_ranked : (x : Bool) (node : ℕ) (k : Rest) (s : Building) → Ranked s → LeadsOn k s → Ranked (joined x node k s).1 × LeadsOn (joined x node k s).0 (joined x node k s).1
+  pub joined_ranked : (x : Bool) (node : ℕ) (k : Rest) (s : Building) → Ranked s → LeadsOn k s → Ranked (joined x node k s).1 × LeadsOn (joined x node k s).0 (joined x node k s).1
   joined_ranked true node k s h l = let j = closed_length Kind.Plain k s in (closed_ranked Kind.Plain k s h l, ((h.begun, omega arith), tt))
   joined_ranked false node k s h l = (h, l)
 
@@ -814,14 +814,14 @@ module _ (t : Target) where
   abbrev pub MayJoin : Bool → Spot → Scopes → Rest → Pos → Type 0
   MayJoin x spot S k b = (S' : Scopes) (b' : Pos) → (x ≡ true → (S' ≡ S) × ((m : Pos) → Stands k m → Leads t m b')) → Joins t spot S b S' b'
 
-  may_join : (x : Bool) (P : Lowers) (sp : Ways → Spot) (c : Ways) (S after : Scopes) (k : Rest) (b : Pos) → CodeEnds x P sp c S k b → P.after S ≡ after → (S' : Scopes) (b' : Pos) →
+  pub may_join : (x : Bool) (P : Lowers) (sp : Ways → Spot) (c : Ways) (S after : Scopes) (k : Rest) (b : Pos) → CodeEnds x P sp c S k b → P.after S ≡ after → (S' : Scopes) (b' : Pos) →
       (x ≡ true → (S' ≡ after) × ((m : Pos) → Stands k m → Leads t m b')) → Joins t (sp c) S b S' b'
   may_join true P sp c S after k b h e S' b' on =
       let j = on refl in (h.0, subst (λ z. sp c S b z h.0) (e ∙ sym j.0) h.2, j.1 h.0 h.1)
   may_join false P sp c S after k b h e S' b' on = (b', h S' b', stays)
 
   -- the place behind both: the block that joins them
-  joined_on : (node : ℕ) (k : Rest) (s : Building) → Later (closed Kind.Plain k s) → (m : Pos) → Stands (joined true node k s).0 m → Leads t m (length s.blocks, 0)
+  pub joined_on : (node : ℕ) (k : Rest) (s : Building) → Later (closed Kind.Plain k s) → (m : Pos) → Stands (joined true node k s).0 m → Leads t m (length s.blocks, 0)
   joined_on node k s later m st = goes (length s.blocks) (ends_with _ node m st) (plain_stands k s later)
 
   module _ (node : ℕ) (T : Pos → Pos → Pos → Type 0) (x : ℕ → ℕ → Building → Rest × Building) (made_test : (y n : ℕ) (s : Building) → TestMade s (x y n s) T y n) (P Q : Lowers) (sp sq : Ways → Spot)
@@ -914,31 +914,31 @@ module _ (t : Target) where
         or_true false z e = absurd (let never : false ≡ true = e in cc)
 
   -- ---- loops
-  set_length : {X : Type 0} (xs : List X) (n : ℕ) (x : X) → length (slice_set xs n x) ≡ length xs
+  pub set_length : {X : Type 0} (xs : List X) (n : ℕ) (x : X) → length (slice_set xs n x) ≡ length xs
   set_length [] n x = refl
   set_length (y ∷ xs) zero x = refl
   set_length (y ∷ xs) (suc n) x = ap suc (set_length xs n x)
 
-  set_same : {X : Type 0} (xs : List X) (n : ℕ) (x : X) → n < length xs → slice_get (slice_set xs n x) n ≡ Some x
+  pub set_same : {X : Type 0} (xs : List X) (n : ℕ) (x : X) → n < length xs → slice_get (slice_set xs n x) n ≡ Some x
   set_same [] n x h = absurd (let never : ⊥ = omega arith in never)
   set_same (y ∷ xs) zero x h = refl
   set_same (y ∷ xs) (suc n) x h = set_same xs n x (omega arith)
 
-  set_other : {X : Type 0} (xs : List X) (n i : ℕ) (x : X) → i ≢ n → slice_get (slice_set xs n x) i ≡ slice_get xs i
+  pub set_other : {X : Type 0} (xs : List X) (n i : ℕ) (x : X) → i ≢ n → slice_get (slice_set xs n x) i ≡ slice_get xs i
   set_other [] n i x h = refl
   set_other (y ∷ xs) zero zero x h = absurd (h refl)
   set_other (y ∷ xs) zero (suc i) x h = refl
   set_other (y ∷ xs) (suc n) zero x h = refl
   set_other (y ∷ xs) (suc n) (suc i) x h = set_other xs n i x (λ e. h (ap suc e))
 
-  set_cases : {X : Type 0} (xs : List X) (n i : ℕ) (x y : X) → slice_get (slice_set xs n x) i ≡ Some y → (slice_get xs i ≡ Some y) ⊎ ((i ≡ n) × (x ≡ y))
+  pub set_cases : {X : Type 0} (xs : List X) (n i : ℕ) (x y : X) → slice_get (slice_set xs n x) i ≡ Some y → (slice_get xs i ≡ Some y) ⊎ ((i ≡ n) × (x ≡ y))
   set_cases [] n i x y e = inl e
   set_cases (z ∷ xs) zero zero x y e = inr (refl, same_Some x y e)
   set_cases (z ∷ xs) zero (suc i) x y e = inl e
   set_cases (z ∷ xs) (suc n) zero x y e = inl e
   set_cases (z ∷ xs) (suc n) (suc i) x y e = elim (set_cases xs n i x y e) [ inl h ↦ inl h | inr h ↦ inr (ap suc h.0, h.1) ]
 
-  reserved_grows : (s : Building) → Grows s (reserved s)
+  pub reserved_grows : (s : Building) → Grows s (reserved s)
   reserved_grows s = record {
     longer = let e = length-append s.blocks (None ∷ []) in omega arith;
     keeps = λ n l. slice_get-below s.blocks (None ∷ []) n l;
@@ -947,7 +947,7 @@ module _ (t : Target) where
   pub reserved_length : (s : Building) → length (reserved s).blocks ≡ suc (length s.blocks)
   reserved_length s = length-append s.blocks (None ∷ []) ∙ add-one (length s.blocks)
 
-  reserved_ranked : (s : Building) → Ranked s → Ranked (reserved s)
+  pub reserved_ranked : (s : Building) → Ranked s → Ranked (reserved s)
   reserved_ranked s h = record {
     blocks = λ n m e. by_place n m (push_cases s.blocks None n (Some m) e);
     chains = λ es n e. let i = h.chains es n e in let j = reserved_length s in (i.0, (let i1 = i.1 in omega arith));
@@ -963,20 +963,20 @@ module _ (t : Target) where
     abbrev block_filled : Made
     block_filled = made kind (length s.blocks) k
 
-    filled_later : Later (filled kind n k s) → Later s
+    pub filled_later : Later (filled kind n k s) → Later s
     filled_later later i m e =
         later i m (set_other s.blocks n i (Some block_filled) (λ same. none-some m (same_Some None (Some m) (sym free ∙ ap (slice_get s.blocks) (sym same) ∙ e))) ∙ e)
 
-    filled_grows : (s0 : Building) → length s0.blocks ≤ n → Grows s0 s → Grows s0 (filled kind n k s)
+    pub filled_grows : (s0 : Building) → length s0.blocks ≤ n → Grows s0 s → Grows s0 (filled kind n k s)
     filled_grows s0 l grows = record {
       longer = let i = set_length s.blocks n (Some block_filled) in let j = grows.longer in omega arith;
       keeps = λ i h. set_other s.blocks n i (Some block_filled) (λ same. absurd (let never : ⊥ = omega arith in never)) ∙ grows.keeps i h;
     }
 
-    filled_at : slice_get (filled kind n k s).blocks n ≡ Some (Some block_filled)
+    pub filled_at : slice_get (filled kind n k s).blocks n ≡ Some (Some block_filled)
     filled_at = set_same s.blocks n (Some block_filled) (slice_get_within s.blocks n None free)
 
-    filled_stands : Later (filled kind n k s) → (slice_get t.body.blocks n ≡ Some block_filled.block) × Stands k (n, 0)
+    pub filled_stands : Later (filled kind n k s) → (slice_get t.body.blocks n ≡ Some block_filled.block) × Stands k (n, 0)
     filled_stands later = ((later n block_filled filled_at).0, made_stands kind (length s.blocks) k n (filled kind n k s) later filled_at)
 
   turn_ranked : (n : ℕ) (k : Rest) (s : Building) → Ranked s → LeadsOn k s → Ranked (filled Kind.Turn n k s)

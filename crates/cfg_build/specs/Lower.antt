@@ -67,11 +67,15 @@ site_of m around = site_at m.head (place_in m around)
 module _ (f : Frame) where
   -- Values and destinations.
 
-  abbrev pub deliver : Head → (Site → Action) → Destination → Lowers
-  deliver h action (Into key) = act f h.id (action (site_in h.id key))
-  deliver h action (Coerced key trait_no to) =
-      then_lower (act f h.id (action (site_in h.id key)))
+  -- an effect at a node, whose answer goes to the destination
+  abbrev pub deliver_at : ℕ → Head → (Site → Action) → Destination → Lowers
+  deliver_at number h action (Into key) = act f number (action (site_in h.id key))
+  deliver_at number h action (Coerced key trait_no to) =
+      then_lower (act f number (action (site_in h.id key)))
       (act f h.id (effects.Unsize (site_in h.id to) trait_no (moved h.id key)))
+
+  abbrev pub deliver : Head → (Site → Action) → Destination → Lowers
+  deliver h action to = deliver_at h.id h action to
 
   abbrev pub put_unit : Head → Destination → Lowers
   put_unit h to = deliver h (λ site. effects.Put site effects.UnitValue) to
@@ -131,12 +135,6 @@ module _ (f : Frame) where
       (then_lower (act f h.id (effects.Touch (site_at h (array_around (s.place around.aliases)))))
       (act f index.head.id (effects.Bounds (effects.Copied (site_of_key index.head.id)) count))))
 
-  abbrev pub deliver_at : ℕ → Head → (Site → Action) → Destination → Lowers
-  deliver_at number h action (Into key) = act f number (action (site_in h.id key))
-  deliver_at number h action (Coerced key trait_no to) =
-      then_lower (act f number (action (site_in h.id key)))
-      (act f h.id (effects.Unsize (site_in h.id to) trait_no (moved h.id key)))
-
   -- all of a borrow stands at the node of its base
   abbrev pub borrowing : Head → Bool → NodeLower → Evaluates
   borrowing h unique base around own to =
@@ -144,8 +142,8 @@ module _ (f : Frame) where
       (deliver_at base.head.id h
       (λ site. effects.Borrow (record site { node = base.head.id }) unique (site_of base around)) to))
 
-  abbrev pub unit_after : ℕ → Head → Action → Destination → Lowers
-  unit_after number h action to = then_lower (act f number action) (put_unit h to)
+  abbrev pub unit_after : Head → Action → Destination → Lowers
+  unit_after h action to = then_lower (act f h.id action) (put_unit h to)
 
   abbrev pub assigning : Head → NodeLower → NodeLower → Evaluates
   assigning h place value around own to =
@@ -357,7 +355,7 @@ module _ (f : Frame) where
   abbrev pub gives_unit : Head → Shape → NodeLower → (Operand → Action) → NodeLower
   gives_unit h s m action =
       a_value h s (λ around own to.
-      acting h around own (m ∷ []) (unit_after h.id h (action (moved h.id m.head.id)) to))
+      acting h around own (m ∷ []) (unit_after h (action (moved h.id m.head.id)) to))
 
   abbrev pub a_statement : Head → Shape → Reaches → NodeLower
   a_statement h s r = a_value h s (λ around own to. r around)

@@ -1096,7 +1096,7 @@ module _ {W : Type 0} (t : Target) (p q : Effects W) (size : W → ℕ) (bound :
     C = code.code t
 
     no_arm_sim : SimA (evaluation.no_arm t.items keyed fuel) (code.no_arm t)
-    no_arm_sim matched otherwise rest around c to S b S' b' within other k w l = value_sim c S b S' b' within k w l
+    no_arm_sim matched otherwise rest around c to S b S' b' within other k w l = joins_sim c (At Value) Nothing (value_sim c) S b S' b' within k w l
 
     made_sim : (h : Head) (e : Around → Bool → Destination → Does W) (P : EvaluatesAt) → SimE e P → SimE (evaluation.made_in t.items keyed fuel h e) (code.made_in t h P)
     made_sim h e P sim around c own to = sim around c own (to_own_key (is_never t.items h.ty) h.id to)

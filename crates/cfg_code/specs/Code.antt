@@ -33,7 +33,7 @@ module _ (t : Target) where
   made_in h P around c own to = P around c own (to_own_key (is_never t.items h.ty) h.id to)
 
   abbrev pub no_arm : Place → Pos → Around → Ways → Destination → Spot
-  no_arm matched rest around c to = Nothing
+  no_arm matched rest around c to = Joins t Nothing
 
   abbrev pub a_value : Head → Shape → EvaluatesAt → NodeCode
   a_value h s P = record {
