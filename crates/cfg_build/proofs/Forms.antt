@@ -770,3 +770,29 @@ module _ (t : Target) where
     if_any_lowers : (n : MaybeNode) → IfAnyLowers (lower.lower_if_any f n) (code.code_if_any t n)
     if_any_lowers absent = without
     if_any_lowers (present value) = with_one _ _ (lowers value)
+
+  -- ---- bodies
+  names_lower : (x : Bool) (bounds : List Bound) → AllNamed bounds → L (lower.names_of_param f x bounds) (λ c. code.NamesAt t x bounds)
+  names_lower true bounds named = built.nothing_lowered t
+  names_lower false bounds named = bind_lowers innermost bounds named
+
+  params_lower : (params : List ParamTree) → L (lower.params_entered f params) (λ c. code.ParamsAt t params)
+  params_lower [] = built.nothing_lowered t
+  params_lower (param ∷ params) =
+      built.changed_lowered t (innermost (with_entry (record { key = param_key param; ty = param.ty }))) _ _
+      (built.then_lowered t _ _ _ _
+      (names_lower (shape t.items param.pattern).is_binding ((shape t.items param.pattern).bindings (whole_local (param_key param))) (node_named t.items param.pattern (whole_local (param_key param))))
+      (params_lower params))
+
+  given_lowers : (m : NodeLower) (d : NodeCode) → LowersAs m d → (around : Around) (to : Destination) → L (m.evaluates around false to) (λ c. d.evaluates around c false to)
+  given_lowers _ _ (lowers_as h s e r a P Q A sn se sr sa) around to = se around false to
+
+  -- the code of a function, given the ways of its jumps
+  abbrev pub function_at : BodyTree → Ways → Spot
+  function_at body c =
+      InScope t (answer_key body) true (Then (code.ParamsAt t body.params) ((code.code t body.block).evaluates (code.around_body t body) c false (Into (answer_key body))))
+
+  pub function_lowers : (body : BodyTree) → L (lower.entire_function f body) (function_at body)
+  function_lowers body =
+      built.in_scope_lowered t (answer_key body) true _ _
+      (built.then_lowered t _ _ _ _ (params_lower body.params) (given_lowers _ _ (lowers body.block) (code.around_body t body) (Into (answer_key body))))

@@ -136,7 +136,7 @@ module _ (t : Target) where
   f = record { items = t.items; local_of = t.local_of; tys = t.body.locals }
 
   -- ---- a graph in which the blocks that are made stand, with the nodes of their lines
-  abbrev NodesAt : ℕ → ℕ → List ℕ → Type 0
+  abbrev pub NodesAt : ℕ → ℕ → List ℕ → Type 0
   NodesAt n l [] = Unit {0}
   NodesAt n l (x ∷ xs) = (t.node n l ≡ x) × NodesAt n (suc l) xs
 

@@ -4,14 +4,15 @@ use Rattle.std.proofs.Common.{◌≡◌, ℕ, Bool, true, false, not, ◌||◌, 
 use Rattle.store_model.specs.Effects as effects
 use Rattle.store_model.specs.Effects.{Site, Action}
 use Rattle.typed_tree.specs.Tree as tree
-use Rattle.typed_tree.specs.Tree.{Form, Nodes, no_node, a_node, Fields, no_field, a_field, MaybeNode, absent, present}
+use Rattle.typed_tree.specs.Tree.{Form, Nodes, no_node, a_node, Fields, no_field, a_field, MaybeNode, absent, present, ParamTree, BodyTree}
+use Rattle.src_meaning.specs.Locals.OfBody.{param_key, answer_key}
 use Rattle.mir_ty.specs.Facts.{needs_drop}
 use Rattle.src_meaning.specs.Evaluation.{in_number_order, to_own_key}
 use Rattle.cfg_code.specs.Code.{field_keys, moved_fields}
 use Rattle.mir_base.specs.declared.trace.Why.{Why}
 use Rattle.src_meaning.specs.Forms.{Destination, Into, Coerced, Around, in_loop, loop_destination, coerced, entry_of, bound_entry, site_in, site_of_key, moved, is_never, changed_if}
 use Rattle.src_meaning.specs.Scopes.{Scope, Scopes, with_scope, innermost, around_innermost, nearest_from, nearest_temporary, with_entry, with_pending, without_pending, becomes_entry, without_operands, Exit, Breaks, Continues, Returns}
-use Rattle.src_meaning.specs.Shape.{Head, head, Shape, Bound, kind_of, shape_of, site_at, operand_of_bound, operand_at}
+use Rattle.src_meaning.specs.Shape.{Head, head, Shape, Bound, kind_of, shape, shape_of, site_at, operand_of_bound, operand_at}
 use Rattle.store_model.specs.Places.Place.{Place, whole_local}
 use Rattle.cfg_build.specs.Build as build
 use Rattle.cfg_build.specs.Build.{Frame, Lowers, Done, after_either, act, act_by, outer, is_last, done_by}
@@ -472,3 +473,19 @@ module _ (f : Frame) where
     if_any_local : (n : MaybeNode) → IfAnyLocal (lower.lower_if_any f n)
     if_any_local absent = without
     if_any_local (present value) = with_one _ (is_local value)
+
+  -- ---- a body leaves the scope of its result as it was
+  names_local : (x : Bool) (bounds : List Bound) → Local (lower.names_of_param f x bounds)
+  names_local true bounds = nothing_local
+  names_local false bounds = bind_inner bounds
+
+  params_local : (params : List ParamTree) → Local (lower.params_entered f params)
+  params_local [] = nothing_local
+  params_local (param ∷ params) =
+      changed_local _ _ (innermost_stays (with_entry (record { key = param_key param; ty = param.ty })) (λ s. refl))
+      (then_local _ _ (names_local (shape f.items param.pattern).is_binding ((shape f.items param.pattern).bindings (whole_local (param_key param)))) (params_local params))
+
+  pub function_after : (body : BodyTree) (S : Scopes) → (lower.entire_function f body).after S ≡ S
+  function_after body S =
+      left_same f (answer_key body) S _
+      ((then_local _ _ (params_local body.params) ((is_local body.block).evaluated (lower.around_body f body) false (Into (answer_key body)))).stays (with_scope (answer_key body) true S))

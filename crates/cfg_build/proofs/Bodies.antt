@@ -1,0 +1,147 @@
+-- A body that is lowered holds the code of its source, is ranked, and has no edge to block 0. So a program that is lowered runs as its
+-- source does.
+use Rattle.std.proofs.Common.{◌≡◌, ◌⊎◌, inl, inr, ℕ, zero, suc, ◌<◌, ◌≤◌, ◌==◌, Bool, true, false, ℤ, List, [], ◌∷◌, ◌++◌, length, map, Option, Some, None, slice_get, slice_set, unwrap_or, cond, not, nat_lt, ◌+◌, Contains, length-append, add-one, refl, sym, ap, ◌∙◌, subst, arith}
+use Rattle.std.proofs.lemmas.Bool.Decides.{eqb_tells}
+use Rattle.std.proofs.lemmas.Option.{none-some, same_Some, slice_get-map}
+use Rattle.std.specs.Option.{option_map_or}
+use Rattle.std.specs.List.{position, prefix_len}
+use Rattle.std.proofs.lemmas.Bool.{lt-ltb}
+use Rattle.mir_ty.proofs.ListLemmas.{slice_get-Contains}
+use Rattle.cfg_graph.specs.declared.graph.Block.{Block}
+use Rattle.cfg_graph.specs.declared.graph.Body.{Body}
+use Rattle.cfg_graph.specs.declared.graph.Kind.{Kind}
+use Rattle.cfg_graph.specs.declared.terminator.Term.{Term}
+use Rattle.cfg_graph.specs.Edges.{IsRanked, is_turn, targets}
+use Rattle.mir_ty.specs.ItemTable.{ItemTable}
+use Rattle.typed_tree.specs.Tree.{BodyTree, ProgramTree}
+use Rattle.src_meaning.specs.Locals.OfBody.{answer_key, local_among, local_keys, local_of, local_tys}
+use Rattle.src_meaning.specs.Scopes.{Entry, Scopes, Exit}
+use Rattle.cfg_code.proofs.FreeWalks.{walks_as_it_runs_freely}
+use Rattle.cfg_code.proofs.Runs.{runs_as_its_source}
+use Rattle.cfg_code.specs.Code.{BodyAt, FunctionAt}
+use Rattle.cfg_code.specs.Laws.{target_of, HoldsBody, HoldsProgram}
+use Rattle.cfg_code.specs.Spots.{Target, Pos, Ways, body_ways, StepAt, TermAt, Leads, stays, goes, Joins}
+use Rattle.cfg_build.specs.Build.{Frame, Rest, Made, Building, ending, made, closed, reserved, filled, chain_among, Lowers}
+use Rattle.cfg_build.specs.Laws.{NamesItsLoops, AllNameTheirLoops, LoweredRunsAsItsSource, LoweredWalksAsItRunsFreely, LoweredIsRanked}
+use Rattle.cfg_build.specs.Lower as lower
+use Rattle.cfg_build.specs.Lower.{frame, entire_function, start, built, blocks_of, nodes_of, body_of, node_in, node_of, graph_of}
+use Rattle.cfg_build.proofs.Forms.{function_at, function_lowers}
+use Rattle.cfg_build.proofs.Rules as rules
+use Rattle.cfg_build.proofs.Rules.{Given, AllGiven, Ranked, LeadsOn, JumpWays, IsUsed, BlockGiven, closed_ranked}
+use Rattle.cfg_build.proofs.Scopes.{function_after}
+
+mapped : {A B : Type 0} (g : A → B) (xs : List A) (n : ℕ) (x : A) → slice_get xs n ≡ Some x → slice_get (map g xs) n ≡ Some (g x)
+mapped g [] n x e = absurd (none-some x e)
+mapped g (y ∷ xs) zero x e = ap (λ o. Some (g (unwrap_or o y))) e
+mapped g (y ∷ xs) (suc n) x e = mapped g xs n x e
+
+from_mapped : {A B : Type 0} (g : A → B) (xs : List A) (n : ℕ) (y : B) → slice_get (map g xs) n ≡ Some y → (x : A) × (slice_get xs n ≡ Some x) × (g x ≡ y)
+from_mapped g [] n y e = absurd (none-some y e)
+from_mapped g (x ∷ xs) zero y e = (x, refl, same_Some (g x) y e)
+from_mapped g (x ∷ xs) (suc n) y e = from_mapped g xs n y e
+
+given_in : (n : ℕ) (ds : List ℕ) (d : ℕ) → AllGiven n ds → (i : ℕ) → slice_get ds i ≡ Some d → Given n d
+given_in n [] d h i e = absurd (none-some d e)
+given_in n (x ∷ ds) d h zero e = subst (Given n) (same_Some x d e) h.0
+given_in n (x ∷ ds) d h (suc i) e = given_in n ds d h.1 i e
+
+equal_itself : (n : ℕ) → (n == n) ≡ true
+equal_itself n = elim (eqb_tells n n) [ inl same ↦ same.0 | inr other ↦ absurd (let apart = other.1 in let never : ⊥ = omega arith in never) ]
+
+-- the first of a list is found, if it is what is looked for
+first_found : (p : ℕ → Bool) (key : ℕ) (keys : List ℕ) (d : ℕ) → p key ≡ true → option_map_or (λ n. n) (position p (key ∷ keys)) d ≡ 0
+first_found p key keys d e =
+    ap (λ b. option_map_or (λ n. n) (cond (nat_lt (at b) (suc (length keys))) (Some (at b)) None) d) e
+    ∙ ap (λ b. option_map_or (λ n. n) (cond b (Some 0) None) d) (lt-ltb 0 (suc (length keys)) (omega arith))
+  where
+    at : Bool → ℕ
+    at b = cond (not b) (1 + prefix_len (λ x. not (p x)) keys) 0
+
+module _ (items : ItemTable) (tree : BodyTree) (named : NamesItsLoops items tree) where
+  abbrev F : Frame
+  F = frame items tree
+
+  abbrev P : Lowers
+  P = entire_function F tree
+
+  abbrev begun : Building
+  begun = start F tree
+
+  abbrev S : Scopes
+  S = lower.answer_scope F tree
+
+  abbrev last : Rest
+  last = ending (Term.Goto 1) (answer_key tree)
+
+  abbrev r : Rest × Building
+  r = P.build (body_ways 1) S last begun
+
+  abbrev z : Building
+  z = built F tree
+
+  abbrev t : Target
+  t = target_of items tree (body_of items tree) (node_of items tree)
+
+  lowered : rules.Lowered t P (function_at t tree)
+  lowered = function_lowers t tree
+
+  first_free : slice_get r.1.blocks 0 ≡ Some None
+  first_free = (lowered.grows (body_ways 1) S last begun).keeps 0 (omega arith)
+
+  -- ---- the blocks of the body are those that were made
+  nodes_at : (n : ℕ) (all pre xs : List ℕ) → slice_get (nodes_of z) n ≡ Some all → all ≡ pre ++ xs → rules.NodesAt t n (length pre) xs
+  nodes_at n all pre [] e h = tt
+  nodes_at n all pre (x ∷ xs) e h =
+      (ap (λ o. unwrap_or (slice_get (unwrap_or o []) (length pre)) 0) e ∙ ap (λ list. unwrap_or (slice_get list (length pre)) 0) h ∙ ap (λ o. unwrap_or o 0) (seam pre),
+      subst (λ l. rules.NodesAt t n l xs) (length-append pre (x ∷ []) ∙ add-one (length pre)) (nodes_at n all (pre ++ x ∷ []) xs e (h ∙ with_one pre)))
+    where
+      seam : (pre : List ℕ) → slice_get (pre ++ x ∷ xs) (length pre) ≡ Some x
+      seam [] = refl
+      seam (y ∷ pre) = seam pre
+      with_one : (pre : List ℕ) → pre ++ x ∷ xs ≡ (pre ++ x ∷ []) ++ xs
+      with_one [] = refl
+      with_one (y ∷ pre) = ap (λ z. y ∷ z) (with_one pre)
+
+  later : rules.Later t z
+  later n m e = (mapped _ z.blocks n (Some m) e, nodes_at n m.nodes [] m.nodes (mapped _ z.blocks n (Some m) e) refl)
+
+  later_code : rules.Later t r.1
+  later_code = rules.filled_later t Kind.Plain 0 r.0 r.1 first_free later
+
+  later_start : rules.Later t begun
+  later_start = rules.later_before t begun r.1 (lowered.grows (body_ways 1) S last begun) later_code
+
+  no_chain : rules.ChainsStand t begun
+  no_chain es n e = absurd (none-some n e)
+
+  used : JumpWays IsUsed (body_ways 1) P.jumps
+  used = (refl, subst (λ jumps. rules.AllWays IsUsed (body_ways 1) jumps) (sym named) tt)
+
+  -- block 1 returns
+  abbrev returning : Made
+  returning = made Kind.Plain 1 (ending Term.Return (answer_key tree))
+
+  return_at : (slice_get (body_of items tree).blocks 1 ≡ Some returning.block) × rules.NodesAt t 1 0 returning.nodes
+  return_at = later_start 1 returning refl
+
+  return_step : StepAt t 1
+  return_step = (returning.block, return_at.0, refl)
+
+  first_local : local_of items tree (answer_key tree) ≡ 0
+  first_local = first_found (λ k. k == answer_key tree) (answer_key tree) _ _ (equal_itself (answer_key tree))
+
+  -- block 0 is the first
+  first_at : (slice_get (body_of items tree).blocks 0 ≡ Some (made Kind.Plain (length r.1.blocks) r.0).block) × rules.Stands t r.0 (0, 0)
+  first_at = rules.filled_stands t Kind.Plain 0 r.0 r.1 first_free later
+
+  code_joins : Joins t (FunctionAt t tree 1) S (0, 0) S (1, 0)
+  code_joins = by_end P.has_end ((lowered.holds (body_ways 1) S last begun used later_code no_chain).1 (0, 0) first_at.1)
+    where
+      by_end : (x : Bool) → rules.CodeEnds t x P (function_at t tree) (body_ways 1) S last (0, 0) → Joins t (FunctionAt t tree 1) S (0, 0) S (1, 0)
+      by_end true h =
+          (h.0, subst (λ S'. FunctionAt t tree 1 S (0, 0) S' h.0) (function_after F tree S) h.2, goes 1 (rules.ends_with t (Term.Goto 1) (answer_key tree) h.0 h.1) return_step)
+      by_end false h = ((1, 0), h S (1, 0), stays)
+
+  holds_code : BodyAt t tree
+  holds_code =
+      (1, ((made Kind.Plain (length r.1.blocks) r.0).block, first_at.0, refl), return_step, (returning.block, return_at.0, refl, refl), return_at.1.0, first_local, code_joins)
