@@ -145,3 +145,82 @@ module _ (items : ItemTable) (tree : BodyTree) (named : NamesItsLoops items tree
   holds_code : BodyAt t tree
   holds_code =
       (1, ((made Kind.Plain (length r.1.blocks) r.0).block, first_at.0, refl), return_step, (returning.block, return_at.0, refl, refl), return_at.1.0, first_local, code_joins)
+
+  -- ---- ranks
+  reserved_begins : Ranked (reserved (record { blocks = []; chains = [] }))
+  reserved_begins = record { blocks = λ n m e. not_made n m e; chains = λ es n e. absurd (none-some n e); begun = omega arith }
+    where
+      not_made : (n : ℕ) (m : Made) → ◌≡◌ {A = Option (Option Made)} (slice_get (None ∷ []) n) (Some (Some m)) → rules.MadeWell n m
+      not_made zero m e = absurd (none-some m (same_Some None (Some m) e))
+      not_made (suc n) m e = absurd (none-some (Some m) e)
+
+  begun_ranked : Ranked begun
+  begun_ranked = closed_ranked Kind.Plain (ending Term.Return (answer_key tree)) (reserved (record { blocks = []; chains = [] })) reserved_begins tt
+
+  code_ranked : Ranked r.1 × LeadsOn r.0 r.1
+  code_ranked = lowered.ranks (body_ways 1) S last begun ((omega arith, omega arith), subst (λ jumps. rules.AllWays (BlockGiven (length begun.blocks)) (body_ways 1) jumps) (sym named) tt) begun_ranked ((omega arith, omega arith), tt)
+
+  -- a block but the first has its number as its rank, if it is no turn block; all edges lead below its rank, and not to block 0
+  abbrev Well : ℕ → Block → Type 0
+  Well n block = AllGiven block.rank (targets block.term) × (0 < n → is_turn block ≡ false → block.rank ≤ n)
+
+  made_well : (n : ℕ) (m : Made) → slice_get z.blocks n ≡ Some (Some m) → Well n m.block
+  made_well n m e = by_place (rules.set_cases t r.1.blocks 0 n (Some (made Kind.Plain (length r.1.blocks) r.0)) (Some m) e)
+    where
+      by_place : (slice_get r.1.blocks n ≡ Some (Some m)) ⊎ ((n ≡ 0) × (Some (made Kind.Plain (length r.1.blocks) r.0) ≡ Some m)) → Well n m.block
+      by_place (inl e) = let h = code_ranked.0.blocks n m e in (h.1, λ l plain. let i = h.0 plain in omega arith)
+      by_place (inr h) =
+          subst (λ m. Well n m.block) (same_Some (made Kind.Plain (length r.1.blocks) r.0) m h.1)
+          (code_ranked.1, λ l plain. let i = h.0 in absurd (let never : ⊥ = omega arith in never))
+
+  block_well : (n : ℕ) (block : Block) → slice_get (body_of items tree).blocks n ≡ Some block → Well n block
+  block_well n block e = let h = from_mapped _ z.blocks n block e in by_made h.0 h.1 h.2
+    where
+      by_made : (o : Option Made) → slice_get z.blocks n ≡ Some o → (unwrap_or o lower.unmade).block ≡ block → Well n block
+      by_made None e h = subst (Well n) h (tt, λ l plain. omega arith)
+      by_made (Some m) e h = subst (Well n) h (made_well n m e)
+
+  no_first : (n : ℕ) (block : Block) → slice_get (body_of items tree).blocks n ≡ Some block → Contains (targets block.term) 0 → ⊥
+  no_first n block e c =
+      let g = given_in block.rank (targets block.term) 0 (block_well n block e).0 c.0 (slice_get-Contains (targets block.term) 0 c) in
+      let g0 = g.0 in omega arith
+
+  is_ranked : IsRanked (body_of items tree)
+  is_ranked n m from to e c d plain =
+      let g = given_in from.rank (targets from.term) m (block_well n from e).0 c.0 (slice_get-Contains (targets from.term) m c) in
+      let g0 = g.0 in let g1 = g.1 in
+      let l = (block_well m to d).1 g.0 plain in
+      omega arith
+
+  holds : HoldsBody items tree (body_of items tree) (node_of items tree)
+  holds = record { ranked = is_ranked; params = refl; locals = refl; holds_code = holds_code }
+
+-- ---- programs
+module _ (program : ProgramTree) (named : AllNameTheirLoops program) where
+  abbrev node_among : Option BodyTree → (block line : ℕ) → ℕ
+  node_among None block line = 0
+  node_among (Some tree) block line = node_of program.items tree block line
+
+  locals_same : (trees : List BodyTree) → map (λ (body : Body). body.locals) (map (body_of program.items) trees) ≡ map (local_tys program.items) trees
+  locals_same [] = refl
+  locals_same (tree ∷ trees) = ap (λ list. local_tys program.items tree ∷ list) (locals_same trees)
+
+  holds_program : HoldsProgram program (graph_of program)
+  holds_program = record {
+    items = refl;
+    locals = locals_same program.bodies;
+    node = λ n. node_among (slice_get program.bodies n);
+    bodies = λ n tree body e h.
+      subst (λ o. HoldsBody program.items tree body (node_among o)) (sym e)
+      (subst (λ body. HoldsBody program.items tree body (node_of program.items tree)) (same_Some (body_of program.items tree) body (sym (mapped (body_of program.items) program.bodies n tree e) ∙ h))
+      (holds program.items tree (named n tree e)));
+  }
+
+pub lowered_runs_as_its_source : LoweredRunsAsItsSource
+lowered_runs_as_its_source program named asked ticks = runs_as_its_source program (graph_of program) (holds_program program named) asked ticks
+
+pub lowered_walks_as_it_runs_freely : LoweredWalksAsItRunsFreely
+lowered_walks_as_it_runs_freely items tree named list = walks_as_it_runs_freely items tree (body_of items tree) (node_of items tree) (holds items tree named) list
+
+pub lowered_is_ranked : LoweredIsRanked
+lowered_is_ranked items tree named = (is_ranked items tree named, no_first items tree named)

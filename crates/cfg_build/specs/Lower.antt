@@ -519,7 +519,7 @@ module _ (f : Frame) where
       filled Kind.Plain 0 code.0 code.1
 
 -- every number that is given out has its block by then
-abbrev unmade : Made
+abbrev pub unmade : Made
 unmade = record { block = record { kind = Kind.Plain; rank = 0; stmts = []; term = Term.Return }; nodes = [] }
 
 abbrev pub blocks_of : Building → List Block
