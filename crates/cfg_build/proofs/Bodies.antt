@@ -91,13 +91,15 @@ module _ (items : ItemTable) (tree : BodyTree) (named : NamesItsLoops items tree
   -- ---- the blocks of the body are those that were made
   nodes_at : (n : ℕ) (all pre xs : List ℕ) → slice_get (nodes_of z) n ≡ Some all → all ≡ pre ++ xs → rules.NodesAt t n (length pre) xs
   nodes_at n all pre [] e h = tt
-  nodes_at n all pre (x ∷ xs) e h =
-      (ap (λ o. unwrap_or (slice_get (unwrap_or o []) (length pre)) 0) e ∙ ap (λ list. unwrap_or (slice_get list (length pre)) 0) h ∙ ap (λ o. unwrap_or o 0) (seam pre),
-      subst (λ l. rules.NodesAt t n l xs) (length-append pre (x ∷ []) ∙ add-one (length pre)) (nodes_at n all (pre ++ x ∷ []) xs e (h ∙ with_one pre)))
+  nodes_at n all pre (x ∷ xs) e h = (
+    ap (λ o. unwrap_or (slice_get (unwrap_or o []) (length pre)) 0) e ∙ ap (λ list. unwrap_or (slice_get list (length pre)) 0) h ∙ ap (λ o. unwrap_or o 0) (seam pre),
+    subst (λ l. rules.NodesAt t n l xs) (length-append pre (x ∷ []) ∙ add-one (length pre)) (nodes_at n all (pre ++ x ∷ []) xs e (h ∙ with_one pre)),
+  )
     where
       seam : (pre : List ℕ) → slice_get (pre ++ x ∷ xs) (length pre) ≡ Some x
       seam [] = refl
       seam (y ∷ pre) = seam pre
+
       with_one : (pre : List ℕ) → pre ++ x ∷ xs ≡ (pre ++ x ∷ []) ++ xs
       with_one [] = refl
       with_one (y ∷ pre) = ap (λ z. y ∷ z) (with_one pre)
@@ -211,9 +213,9 @@ module _ (program : ProgramTree) (named : AllNameTheirLoops program) where
     locals = locals_same program.bodies;
     node = λ n. node_among (slice_get program.bodies n);
     bodies = λ n tree body e h.
-      subst (λ o. HoldsBody program.items tree body (node_among o)) (sym e)
-      (subst (λ body. HoldsBody program.items tree body (node_of program.items tree)) (same_Some (body_of program.items tree) body (sym (mapped (body_of program.items) program.bodies n tree e) ∙ h))
-      (holds program.items tree (named n tree e)));
+        subst (λ o. HoldsBody program.items tree body (node_among o)) (sym e)
+        (subst (λ body. HoldsBody program.items tree body (node_of program.items tree)) (same_Some (body_of program.items tree) body (sym (mapped (body_of program.items) program.bodies n tree e) ∙ h))
+        (holds program.items tree (named n tree e)));
   }
 
 pub lowered_runs_as_its_source : LoweredRunsAsItsSource

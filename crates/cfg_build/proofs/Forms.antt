@@ -306,8 +306,8 @@ module _ (t : Target) where
     unguarded around bounds = record {
       grows = λ c S r k s. lp.grows c S k s;
       holds = λ c S r k s u later chains step.
-        let it = lp.holds c S k s u later chains in
-        (it.0, λ b st S' b' on. built.may_join t P.has_end P sp c S S k b (it.1 b st) (same S) S' b' on);
+          let it = lp.holds c S k s u later chains in
+          (it.0, λ b st S' b' on. built.may_join t P.has_end P sp c S S k b (it.1 b st) (same S) S' b' on);
       ranks = λ c S r k s w h l g. lp.ranks c S k s w h l;
     }
 
@@ -356,9 +356,11 @@ module _ (t : Target) where
           let test = built.if_made t (moved key key) key refl (done_at c S k s) r (done c S k s) in
           let tested = test.1 p.0 l1 (built.plain_stands t (P.build c S k s).0 (P.build c S k s).1 l1) step in
           let g = ha (test_code c S r k s).0 (done c S k s) later tested.0 in
-          let p_ends = p.1 (done_at c S k s, 0) (built.closed_stands t Kind.Plain (P.build c S k s).0 (P.build c S k s).1 l1) in
-          (g.0, λ b st S' b' on. guard_ends true c S (test_code c S r k s).0 b (r, 0) (g.1 b st) S' b'
-          (λ e m sm. ((done_at c S k s, 0), tested.1 m sm, built.may_join t P.has_end P sp c S S k (done_at c S k s, 0) p_ends (same S) S' b' on)))
+          let p_ends = p.1 (done_at c S k s, 0) (built.closed_stands t Kind.Plain (P.build c S k s).0 (P.build c S k s).1 l1) in (
+            g.0,
+            λ b st S' b' on. guard_ends true c S (test_code c S r k s).0 b (r, 0) (g.1 b st) S' b'
+                (λ e m sm. ((done_at c S k s, 0), tested.1 m sm, built.may_join t P.has_end P sp c S S k (done_at c S k s, 0) p_ends (same S) S' b' on)),
+          )
       guard_holds false c S r ha u k s later chains step =
           let g = ha k s later chains in
           (g.0, λ b st S' b' on. inl (g.1 b st))
@@ -383,43 +385,45 @@ module _ (t : Target) where
         record {
           grows = λ c S r k s. guard_grows asked (λ c. Pe (in_guard bounds around) c true (Into h.id)) h.id la (λ S. refl) asked.has_end c S r k s;
           holds = λ c S r k s u later chains step.
-            guard_holds asked (λ c. Pe (in_guard bounds around) c true (Into h.id)) h.id la (λ S. refl) asked.has_end c S r
-            (λ k s later chains. la.holds c S k s (ways_first IsUsed c asked.jumps (jumps_if asked.has_end P.jumps) u) later chains)
-            (ways_second IsUsed c asked.jumps (jumps_if asked.has_end P.jumps) u) k s later chains step;
+              guard_holds asked (λ c. Pe (in_guard bounds around) c true (Into h.id)) h.id la (λ S. refl) asked.has_end c S r
+              (λ k s later chains. la.holds c S k s (ways_first IsUsed c asked.jumps (jumps_if asked.has_end P.jumps) u) later chains)
+              (ways_second IsUsed c asked.jumps (jumps_if asked.has_end P.jumps) u) k s later chains step;
           ranks = λ c S r k s w h2 l g.
-            guard_ranks asked (λ c. Pe (in_guard bounds around) c true (Into h.id)) h.id la (λ S. refl) asked.has_end c S r k s
-            (ways_first (BlockGiven (length s.blocks)) c asked.jumps (jumps_if asked.has_end P.jumps) w)
-            (ways_second (BlockGiven (length s.blocks)) c asked.jumps (jumps_if asked.has_end P.jumps) w) h2 l g;
+              guard_ranks asked (λ c. Pe (in_guard bounds around) c true (Into h.id)) h.id la (λ S. refl) asked.has_end c S r k s
+              (ways_first (BlockGiven (length s.blocks)) c asked.jumps (jumps_if asked.has_end P.jumps) w)
+              (ways_second (BlockGiven (length s.blocks)) c asked.jumps (jumps_if asked.has_end P.jumps) w) h2 l g;
         }
 
   arm_lowers : (h : Head) (pattern : NodeLower) (dp : NodeCode) → LowersAs pattern dp → (g : LowerIfAny) (dg : CodeIfAny) → IfAnyLowers g dg → (m : NodeLower) (d : NodeCode) → LowersAs m d →
       LowersA (lower.arm f h pattern g m) (ArmAt t h dp dg d)
   arm_lowers h _ _ (lowers_as ph ps pe pr pa pP pQ pA pn spe spr spa) g dg lg m d one matched around to = record {
     grows = λ c S r k s.
-      let b = code_of.build c S r k s in
-      grows_on s b.1 _ (code_lowered.grows c S r k s) (grows_on b.1 (closed Kind.Plain b.0 b.1) _ (closed_grows Kind.Plain b.0 b.1)
-      (built.tests_made t (ps.tests matched) (length b.1.blocks) r (closed Kind.Plain b.0 b.1)).0);
+        let b = code_of.build c S r k s in
+        grows_on s b.1 _ (code_lowered.grows c S r k s) (grows_on b.1 (closed Kind.Plain b.0 b.1) _ (closed_grows Kind.Plain b.0 b.1)
+        (built.tests_made t (ps.tests matched) (length b.1.blocks) r (closed Kind.Plain b.0 b.1)).0);
     holds = λ c S r k s u later chains step.
-      let b = code_of.build c S r k s in
-      let made = closed Kind.Plain b.0 b.1 in
-      let test = built.tests_made t (ps.tests matched) (length b.1.blocks) r made in
-      let l1 = built.later_before t made _ test.0 later in
-      let l0 = built.later_before t b.1 made (closed_grows Kind.Plain b.0 b.1) l1 in
-      let it = code_lowered.holds c S r k s u l0 chains step in
-      let tested = test.1 it.0 later (built.plain_stands t b.0 b.1 l1) step in
-      (tested.0, λ at st S' b' on. ((length b.1.blocks, 0), tested.1 at st, it.1 (length b.1.blocks, 0) (built.closed_stands t Kind.Plain b.0 b.1 l1) S' b' on));
+        let b = code_of.build c S r k s in
+        let made = closed Kind.Plain b.0 b.1 in
+        let test = built.tests_made t (ps.tests matched) (length b.1.blocks) r made in
+        let l1 = built.later_before t made _ test.0 later in
+        let l0 = built.later_before t b.1 made (closed_grows Kind.Plain b.0 b.1) l1 in
+        let it = code_lowered.holds c S r k s u l0 chains step in
+        let tested = test.1 it.0 later (built.plain_stands t b.0 b.1 l1) step in
+        (tested.0, λ at st S' b' on. ((length b.1.blocks, 0), tested.1 at st, it.1 (length b.1.blocks, 0) (built.closed_stands t Kind.Plain b.0 b.1 l1) S' b' on));
     ranks = λ c S r k s w h2 l g.
-      let b = code_of.build c S r k s in
-      let it = code_lowered.ranks c S r k s w h2 l g in
-      let j = closed_length Kind.Plain b.0 b.1 in
-      (built.tests_made t (ps.tests matched) (length b.1.blocks) r (closed Kind.Plain b.0 b.1)).2 (closed_ranked Kind.Plain b.0 b.1 it.0 it.1) (it.0.begun, omega arith)
-      (built.given_on t (length s.blocks) (length (closed Kind.Plain b.0 b.1).blocks) r (let a = (code_lowered.grows c S r k s).longer in omega arith) g);
+        let b = code_of.build c S r k s in
+        let it = code_lowered.ranks c S r k s w h2 l g in
+        let j = closed_length Kind.Plain b.0 b.1 in
+        (built.tests_made t (ps.tests matched) (length b.1.blocks) r (closed Kind.Plain b.0 b.1)).2 (closed_ranked Kind.Plain b.0 b.1 it.0 it.1) (it.0.begun, omega arith)
+        (built.given_on t (length s.blocks) (length (closed Kind.Plain b.0 b.1).blocks) r (let a = (code_lowered.grows c S r k s).longer in omega arith) g);
   }
     where
       bounds : List Bound
       bounds = ps.bindings matched
+
       code_of : LowersArm
       code_of = lower.guarded f around bounds g (lower.taken_arm f h around bounds m to)
+
       code_lowered : LoweredArm code_of (λ rest c. GuardedAt t around c bounds dg (Joins t (TakenArmAt t h around c bounds d to)) rest)
       code_lowered =
           guarded_lowers (lower.taken_arm f h around bounds m to) (λ c. TakenArmAt t h around c bounds d to) (taken_lowers h around bounds (pn matched) m d one to) (taken_after h around bounds m to) around bounds g dg lg
@@ -447,10 +451,14 @@ module _ (t : Target) where
         let l1 = built.later_before t made _ (arm.grows c S (length b.1.blocks) k made) later in
         let l0 = built.later_before t b.1 made (closed_grows Kind.Plain b.0 b.1) l1 in
         let rest = arms_hold ms ds all c S k s (ways_second IsUsed c (a matched around to).jumps (lower.arm_jumps f ms matched around to) u) l0 chains in
-        let it = arm.holds c S (length b.1.blocks) k made (ways_first IsUsed c (a matched around to).jumps (lower.arm_jumps f ms matched around to) u) later rest.0 (built.plain_stands t b.0 b.1 l1) in
-        (it.0, λ at st S' b' on.
-        ((length b.1.blocks, 0), it.1 at st S' b' (λ e. on (true_first (a matched around to).has_end (lower.arms_end f ms matched around to) e)),
-        rest.1 (length b.1.blocks, 0) (built.closed_stands t Kind.Plain b.0 b.1 l1) S' b' (λ e. on (true_second (a matched around to).has_end (lower.arms_end f ms matched around to) e))))
+        let it = arm.holds c S (length b.1.blocks) k made (ways_first IsUsed c (a matched around to).jumps (lower.arm_jumps f ms matched around to) u) later rest.0 (built.plain_stands t b.0 b.1 l1) in (
+          it.0,
+          λ at st S' b' on. (
+            (length b.1.blocks, 0),
+            it.1 at st S' b' (λ e. on (true_first (a matched around to).has_end (lower.arms_end f ms matched around to) e)),
+            rest.1 (length b.1.blocks, 0) (built.closed_stands t Kind.Plain b.0 b.1 l1) S' b' (λ e. on (true_second (a matched around to).has_end (lower.arms_end f ms matched around to) e)),
+          ),
+        )
 
     arms_rank : (ms : List NodeLower) (ds : List NodeCode) → AllLower ms ds → (c : Ways) (S : Scopes) (k : Rest) (s : Building) →
         JumpWays (BlockGiven (length s.blocks)) c (lower.arm_jumps f ms matched around to) → Ranked s → LeadsOn k s →
@@ -471,18 +479,19 @@ module _ (t : Target) where
     arms_lower ms ds all = record {
       grows = λ c S k s. let j = joined x number k s in grows_on s j.1 _ (built.joined_grows t x number k s) (arms_grow ms ds all c S j.0 j.1);
       holds = λ c S k s u later chains.
-        let j = joined x number k s in
-        let l1 = built.later_before t j.1 _ (arms_grow ms ds all c S j.0 j.1) later in
-        let it = arms_hold ms ds all c S j.0 j.1 u later (built.joined_chains t x number k s chains) in
-        (it.0, λ b st. joined_ends x refl c S k s b l1 (it.1 b st));
+          let j = joined x number k s in
+          let l1 = built.later_before t j.1 _ (arms_grow ms ds all c S j.0 j.1) later in
+          let it = arms_hold ms ds all c S j.0 j.1 u later (built.joined_chains t x number k s chains) in
+          (it.0, λ b st. joined_ends x refl c S k s b l1 (it.1 b st));
       ranks = λ c S k s w h l.
-        let j = joined x number k s in
-        let r = built.joined_ranked t x number k s h l in
-        arms_rank ms ds all c S j.0 j.1 (ways_more (length s.blocks) (length j.1.blocks) (built.joined_grows t x number k s).longer c (lower.arm_jumps f ms matched around to) w) r.0 r.1;
+          let j = joined x number k s in
+          let r = built.joined_ranked t x number k s h l in
+          arms_rank ms ds all c S j.0 j.1 (ways_more (length s.blocks) (length j.1.blocks) (built.joined_grows t x number k s).longer c (lower.arm_jumps f ms matched around to) w) r.0 r.1;
     }
       where
         x : Bool
         x = lower.arms_end f ms matched around to
+
         joined_ends : (y : Bool) → x ≡ y → (c : Ways) (S : Scopes) (k : Rest) (s : Building) (b : Pos) → built.Later t (joined y number k s).1 →
             ((S' : Scopes) (b' : Pos) → (x ≡ true → (S' ≡ S) × ((m : Pos) → built.Stands t (joined y number k s).0 m → Leads t m b')) → ArmsInOrderAt t ds matched around c to S b S' b') →
             built.CodeEnds t y (lower.arms_in_order f number ms matched around to) (λ c. ArmsInOrderAt t ds matched around c to) c S k b
@@ -533,9 +542,9 @@ module _ (t : Target) where
   emptied_lowers false key = record {
     grows = λ c S k s. built.two_grow t (drop_term (site_of_key key)) key (panic_drops t S) k s;
     holds = λ c S k s u later chains.
-      let made = built.two_made t (drop_term (site_of_key key)) key (panic_drops t S) k s chains later in
-      let before = built.two_later t (drop_term (site_of_key key)) key (panic_drops t S) k s later in
-      (made.0, λ b st. ((length s.blocks, 0), built.closed_stands t Kind.Plain k s before, (refl, built.drop_one_at t (site_of_key key) (panic_drops t S) k s made.1 before b st)));
+        let made = built.two_made t (drop_term (site_of_key key)) key (panic_drops t S) k s chains later in
+        let before = built.two_later t (drop_term (site_of_key key)) key (panic_drops t S) k s later in
+        (made.0, λ b st. ((length s.blocks, 0), built.closed_stands t Kind.Plain k s before, (refl, built.drop_one_at t (site_of_key key) (panic_drops t S) k s made.1 before b st)));
     ranks = λ c S k s w h l. built.two_ranked t (drop_term (site_of_key key)) key (panic_drops t S) k s (λ n u. refl) h l;
   }
     where

@@ -154,15 +154,18 @@ module _ (t : Target) where
   lines_stand : (pre : List Stmt) (block : Block) (n : ℕ) (xs : List Line) (node : ℕ) → block.stmts ≡ pre ++ map (λ l. l.stmt) xs →
       NodesAt n (length pre) (map (λ l. l.node) xs ++ node ∷ []) → LinesAt block n (length pre) xs block.term node
   lines_stand pre block n [] node e h = (sym (ap length e ∙ length-append pre [] ∙ (let k : length pre + 0 ≡ length pre = omega arith in k)), refl, h.0)
-  lines_stand pre block n (x ∷ xs) node e h =
-      (ap (λ z. slice_get z (length pre)) e ∙ seam pre, h.0,
-      subst (λ l. LinesAt block n l xs block.term node) (length-append pre (x.stmt ∷ []) ∙ add-one (length pre))
-      (lines_stand (pre ++ x.stmt ∷ []) block n xs node (e ∙ with_one pre)
-      (subst (λ l. NodesAt n l (map (λ l. l.node) xs ++ node ∷ [])) (sym (length-append pre (x.stmt ∷ []) ∙ add-one (length pre))) h.1)))
+  lines_stand pre block n (x ∷ xs) node e h = (
+    ap (λ z. slice_get z (length pre)) e ∙ seam pre,
+    h.0,
+    subst (λ l. LinesAt block n l xs block.term node) (length-append pre (x.stmt ∷ []) ∙ add-one (length pre))
+        (lines_stand (pre ++ x.stmt ∷ []) block n xs node (e ∙ with_one pre)
+        (subst (λ l. NodesAt n l (map (λ l. l.node) xs ++ node ∷ [])) (sym (length-append pre (x.stmt ∷ []) ∙ add-one (length pre))) h.1)),
+  )
     where
       seam : (pre : List Stmt) → slice_get (pre ++ x.stmt ∷ map (λ l. l.stmt) xs) (length pre) ≡ Some x.stmt
       seam [] = refl
       seam (y ∷ pre) = seam pre
+
       with_one : (pre : List Stmt) → pre ++ x.stmt ∷ map (λ l. l.stmt) xs ≡ (pre ++ x.stmt ∷ []) ++ map (λ l. l.stmt) xs
       with_one [] = refl
       with_one (y ∷ pre) = ap (λ z. y ∷ z) (with_one pre)
@@ -250,11 +253,11 @@ module _ (t : Target) where
     then_lowered = record {
       grows = then_grows P.has_end;
       holds = λ c S k s u later chains.
-        then_holds P.has_end c S (λ k s later chains. lp.holds c S k s (ways_first IsUsed c P.jumps (jumps_if P.has_end Q.jumps) u) later chains)
-        (ways_second IsUsed c P.jumps (jumps_if P.has_end Q.jumps) u) k s later chains;
+          then_holds P.has_end c S (λ k s later chains. lp.holds c S k s (ways_first IsUsed c P.jumps (jumps_if P.has_end Q.jumps) u) later chains)
+          (ways_second IsUsed c P.jumps (jumps_if P.has_end Q.jumps) u) k s later chains;
       ranks = λ c S k s w h l.
-        then_ranks P.has_end c S k s (ways_first (BlockGiven (length s.blocks)) c P.jumps (jumps_if P.has_end Q.jumps) w)
-        (ways_second (BlockGiven (length s.blocks)) c P.jumps (jumps_if P.has_end Q.jumps) w) h l;
+          then_ranks P.has_end c S k s (ways_first (BlockGiven (length s.blocks)) c P.jumps (jumps_if P.has_end Q.jumps) w)
+          (ways_second (BlockGiven (length s.blocks)) c P.jumps (jumps_if P.has_end Q.jumps) w) h l;
     }
 
   pub change_lowered : (g : Scopes → Scopes) → Lowered (change g) (λ c. Changes g)
@@ -352,10 +355,14 @@ module _ (t : Target) where
   keys_clean [] (d ∷ ds) e b h = absurd (let never : false ≡ true = e in cc)
   keys_clean (x ∷ es) [] e b h = absurd (let never : false ≡ true = e in cc)
   keys_clean (x ∷ es) (d ∷ ds) e b h =
-      let both = and_true (x.key == d.key) (same_entries es ds) e in
-      (h.0, h.1, h.2,
-      h.3 ∙ ap (λ k. site_at t.local_of (record { node = k; place = whole_local k })) (sym (eqb-true x.key d.key both.0)),
-      h.4, keys_clean es ds both.1 (h.1, 0) h.5)
+      let both = and_true (x.key == d.key) (same_entries es ds) e in (
+        h.0,
+        h.1,
+        h.2,
+        h.3 ∙ ap (λ k. site_at t.local_of (record { node = k; place = whole_local k })) (sym (eqb-true x.key d.key both.0)),
+        h.4,
+        keys_clean es ds both.1 (h.1, 0) h.5,
+      )
     where
       and_true : (a b : Bool) → (a && b) ≡ true → (a ≡ true) × (b ≡ true)
       and_true true b e = (refl, e)
@@ -426,8 +433,14 @@ module _ (t : Target) where
           let r = chain f es s in
           let rest = ih (later_before r.1 _ (kept_grows (x ∷ es) (drop_rest x r) r.1) later) in
           kept_stand (x ∷ es) (drop_rest x r) r.1 rest.0
-          (λ st. (place_of f (entry_site x), r.0, ends_with (Term.DropAt (place_of f (entry_site x)) r.0 Unwind.Abort) x.key (length r.1.blocks, 0) st,
-          site_same (t.node (length r.1.blocks) 0) (entry_site x) (sym st.2.2), rest.1.0, rest.1.1)) later
+          (λ st. (
+            place_of f (entry_site x),
+            r.0,
+            ends_with (Term.DropAt (place_of f (entry_site x)) r.0 Unwind.Abort) x.key (length r.1.blocks, 0) st,
+            site_same (t.node (length r.1.blocks) 0) (entry_site x) (sym st.2.2),
+            rest.1.0,
+            rest.1.1,
+          )) later
 
   chain_ranked : (es : List Entry) (s : Building) → Ranked s → Ranked (chain f es s).1 × Given (length (chain f es s).1.blocks) (chain f es s).0
   chain_ranked [] s h = by_kept (chain_among [] s.chains) refl
@@ -475,15 +488,17 @@ module _ (t : Target) where
   two_ranked term node es k s e h l =
       let u = unwind_ranked es (closed Kind.Plain k s) (closed_ranked Kind.Plain k s h l) in
       let j = closed_length Kind.Plain k s in
-      let g = unwind_grows es (closed Kind.Plain k s) in
-      (u.0, subst (AllGiven (length (two_ways term node es k s).1.blocks)) (sym (e (length s.blocks) (unwind_to f es (closed Kind.Plain k s)).0))
-      ((h.begun, (let i = g.longer in omega arith)), u.1))
+      let g = unwind_grows es (closed Kind.Plain k s) in (
+        u.0,
+        subst (AllGiven (length (two_ways term node es k s).1.blocks)) (sym (e (length s.blocks) (unwind_to f es (closed Kind.Plain k s)).0))
+            ((h.begun, (let i = g.longer in omega arith)), u.1),
+      )
 
   stmt_lowered : (n : ℕ) (action : Action) (stmt : Stmt) → actions.action_of n stmt ≡ action_at t.local_of action → Lowered (act_by f false n (ByStmt stmt)) (λ c. Acts t action)
   stmt_lowered n action stmt e = record {
     grows = λ c S k s. grows_not s;
     holds = λ c S k s u later chains.
-      (chains, λ b st. ((b.0, suc b.1), (st.0, st.1, st.2.2), by_statement (b.0, suc b.1) (st.0, stmt, st.1, st.2.0, ap (λ i. actions.action_of i stmt) st.2.1 ∙ e, refl)));
+        (chains, λ b st. ((b.0, suc b.1), (st.0, st.1, st.2.2), by_statement (b.0, suc b.1) (st.0, stmt, st.1, st.2.0, ap (λ i. actions.action_of i stmt) st.2.1 ∙ e, refl)));
     ranks = λ c S k s w h l. (h, l);
   }
 
@@ -491,7 +506,7 @@ module _ (t : Target) where
   stmt_last n action stmt e last = record {
     grows = λ c S k s. grows_not s;
     holds = λ c S k s u later chains.
-      (chains, λ b st S' b'. by_last_statement (b.0, suc b.1) S' b' (st.0, stmt, st.1, st.2.0, ap (λ i. actions.action_of i stmt) st.2.1 ∙ e, refl) last);
+        (chains, λ b st S' b'. by_last_statement (b.0, suc b.1) S' b' (st.0, stmt, st.1, st.2.0, ap (λ i. actions.action_of i stmt) st.2.1 ∙ e, refl) last);
     ranks = λ c S k s w h l. (h, (w.0, tt));
   }
 
@@ -501,18 +516,28 @@ module _ (t : Target) where
 
   term_stands : (n : ℕ) (action : Action) (term : ℕ → Unwind → Term) → TermOf n action term → (S : Scopes) (k : Rest) (s : Building) →
       Cleans t (panic_drops t S) (unwind_to f (panic_drops t S) (closed Kind.Plain k s)).0 → (b : Pos) → Stands (two_ways term n (panic_drops t S) k s).0 b → ActionTermAt t action S (length s.blocks) b
-  term_stands n action term e S k s clean b st =
-      (st.0, (unwind_to f (panic_drops t S) (closed Kind.Plain k s)).0, st.1, st.2.0,
-      ap (λ i. action_of_term i st.0.term) st.2.2 ∙ ap (action_of_term n) st.2.1 ∙ e.0 (length s.blocks) _, clean)
+  term_stands n action term e S k s clean b st = (
+    st.0,
+    (unwind_to f (panic_drops t S) (closed Kind.Plain k s)).0,
+    st.1,
+    st.2.0,
+    ap (λ i. action_of_term i st.0.term) st.2.2 ∙ ap (action_of_term n) st.2.1 ∙ e.0 (length s.blocks) _,
+    clean,
+  )
 
   term_lowered : (n : ℕ) (action : Action) (term : ℕ → Unwind → Term) → TermOf n action term → Lowered (act_by f false n (ByTerm term)) (λ c. Acts t action)
   term_lowered n action term e = record {
     grows = λ c S k s. two_grow term n (panic_drops t S) k s;
     holds = λ c S k s u later chains.
-      let made = two_made term n (panic_drops t S) k s chains later in
-      let before = two_later term n (panic_drops t S) k s later in
-      (made.0, λ b st. ((length s.blocks, 0), closed_stands Kind.Plain k s before,
-      by_terminator (length s.blocks) (length s.blocks, 0) (term_stands n action term e S k s made.1 b st) (plain_stands k s before, refl)));
+        let made = two_made term n (panic_drops t S) k s chains later in
+        let before = two_later term n (panic_drops t S) k s later in (
+          made.0,
+          λ b st. (
+            (length s.blocks, 0),
+            closed_stands Kind.Plain k s before,
+            by_terminator (length s.blocks) (length s.blocks, 0) (term_stands n action term e S k s made.1 b st) (plain_stands k s before, refl),
+          ),
+        );
     ranks = λ c S k s w h l. two_ranked term n (panic_drops t S) k s e.1 h l;
   }
 
@@ -520,8 +545,8 @@ module _ (t : Target) where
   term_last n action term e last = record {
     grows = λ c S k s. two_grow term n (panic_drops t S) (ending (Term.Goto c.returns.block) n) s;
     holds = λ c S k s u later chains.
-      let made = two_made term n (panic_drops t S) (ending (Term.Goto c.returns.block) n) s chains later in
-      (made.0, λ b st S' b'. by_last_terminator (length s.blocks) S' b' (term_stands n action term e S (ending (Term.Goto c.returns.block) n) s made.1 b st) last);
+        let made = two_made term n (panic_drops t S) (ending (Term.Goto c.returns.block) n) s chains later in
+        (made.0, λ b st S' b'. by_last_terminator (length s.blocks) S' b' (term_stands n action term e S (ending (Term.Goto c.returns.block) n) s made.1 b st) last);
     ranks = λ c S k s w h l. two_ranked term n (panic_drops t S) (ending (Term.Goto c.returns.block) n) s e.1 h (w.0, tt);
   }
 
@@ -704,7 +729,7 @@ module _ (t : Target) where
   exits_lowered node exit = record {
     grows = λ c S k s. leaves_grow node (way_of exit c) S s;
     holds = λ c S k s u later chains.
-      let made = leaves_made node (way_of exit c) S s chains later in (made.0, λ b st S' b'. (way_has IsUsed exit c u, made.1 b st));
+        let made = leaves_made node (way_of exit c) S s chains later in (made.0, λ b st S' b'. (way_has IsUsed exit c u, made.1 b st));
     ranks = λ c S k s w h l. leaves_ranked node (way_of exit c) S s (way_has (BlockGiven (length s.blocks)) exit c w) h;
   }
 
@@ -716,7 +741,7 @@ module _ (t : Target) where
   panics_lowered node why = record {
     grows = λ c S k s. unwind_grows (panic_drops t S) s;
     holds = λ c S k s u later chains.
-      let made = unwind_made (panic_drops t S) s chains later in (made.0, λ b st S' b'. ((unwind_to f (panic_drops t S) s).0, ends_with _ node b st, made.1));
+        let made = unwind_made (panic_drops t S) s chains later in (made.0, λ b st S' b'. ((unwind_to f (panic_drops t S) s).0, ends_with _ node b st, made.1));
     ranks = λ c S k s w h l. unwind_ranked (panic_drops t S) s h;
   }
 
@@ -727,33 +752,56 @@ module _ (t : Target) where
       × (Ranked s → Given (length s.blocks) y → Given (length s.blocks) n → Ranked r.1 × LeadsOn r.0 r.1)
 
   pub if_made : (operand : effects.Operand) (node : ℕ) → OperandOf node operand → (y n : ℕ) (s : Building) → TestMade s (if_true f operand node y n s) (IfAt t operand) y n
-  if_made operand node one y n s =
-      (grows_not s,
-      (λ h later py pn. (h, λ b st.
-      (build.operand_of f operand, y, n, ends_with _ node b st, ap (λ i. actions.operand_of i (build.operand_of f operand)) st.2.2 ∙ operand_same node operand one, (py, refl), (pn, refl)))),
-      λ h gy gn. (h, (gn, (gy, tt))))
+  if_made operand node one y n s = (
+    grows_not s,
+    (λ h later py pn. (
+      h,
+      λ b st.
+          (build.operand_of f operand, y, n, ends_with _ node b st, ap (λ i. actions.operand_of i (build.operand_of f operand)) st.2.2 ∙ operand_same node operand one, (py, refl), (pn, refl)),
+    )),
+    λ h gy gn. (h, (gn, (gy, tt))),
+  )
 
   equals_made : (site : Site) (value : effects.Operand) → OperandOf site.node value → (y n : ℕ) (s : Building) → TestMade s (equals f site value y n s) (EqualsAt t site value) y n
-  equals_made site value one y n s =
-      (grows_not s,
-      (λ h later py pn. (h, λ b st.
-      ((b.0, suc b.1),
-      (st.0, compared f site value, st.1, st.2.0,
-      ap (λ i. actions.action_of i (compared f site value)) st.2.1
-      ∙ (λ i. effects.Compare (site_same site.node (site_of_key site.node) refl i) Cmp.Eq (effects.Copied (site_same site.node site refl i)) (operand_same site.node value one i)), refl),
-      (build.operand_of f (moved site.node site.node), y, n, (st.0, st.1, st.2.2.0, st.2.2.1),
-      ap (λ i. actions.operand_of i (build.operand_of f (moved site.node site.node))) st.2.2.2 ∙ operand_same site.node (moved site.node site.node) refl, (py, refl), (pn, refl))))),
-      λ h gy gn. (h, (gn, (gy, tt))))
+  equals_made site value one y n s = (
+    grows_not s,
+    (λ h later py pn. (
+      h,
+      λ b st. (
+        (b.0, suc b.1),
+        (
+          st.0,
+          compared f site value,
+          st.1,
+          st.2.0,
+          ap (λ i. actions.action_of i (compared f site value)) st.2.1
+              ∙ (λ i. effects.Compare (site_same site.node (site_of_key site.node) refl i) Cmp.Eq (effects.Copied (site_same site.node site refl i)) (operand_same site.node value one i)),
+          refl,
+        ),
+        (
+          build.operand_of f (moved site.node site.node),
+          y,
+          n,
+          (st.0, st.1, st.2.2.0, st.2.2.1),
+          ap (λ i. actions.operand_of i (build.operand_of f (moved site.node site.node))) st.2.2.2 ∙ operand_same site.node (moved site.node site.node) refl,
+          (py, refl),
+          (pn, refl),
+        ),
+      ),
+    )),
+    λ h gy gn. (h, (gn, (gy, tt))),
+  )
 
   pub given_on : (n m d : ℕ) → n ≤ m → Given n d → Given m d
   given_on n m d l g = (g.0, (let i = g.1 in omega arith))
 
   mutual
     test_made : (x : PatternTest) (y n : ℕ) (s : Building) → TestMade s (test f x y n s) (TestAt t x) y n
-    test_made (IsVariant site variant) y n s =
-        (grows_not s,
-        (λ h later py pn. (h, λ b st. (place_of f site, y, n, ends_with _ site.node b st, site_same (t.node b.0 b.1) site (sym st.2.2), (py, refl), (pn, refl)))),
-        λ h gy gn. (h, (gn, (gy, tt))))
+    test_made (IsVariant site variant) y n s = (
+      grows_not s,
+      (λ h later py pn. (h, λ b st. (place_of f site, y, n, ends_with _ site.node b st, site_same (t.node b.0 b.1) site (sym st.2.2), (py, refl), (pn, refl)))),
+      λ h gy gn. (h, (gn, (gy, tt))),
+    )
     test_made (IsNumber site value kind) y n s = equals_made site (effects.Number value kind) tt y n s
     test_made (IsTruth site value) y n s = equals_made site (effects.Truth value) tt y n s
     test_made (AnyOf alternatives) y n s = any_made alternatives y n s
@@ -765,17 +813,18 @@ module _ (t : Target) where
         let c = closed Kind.Plain r.0 r.1 in
         let g = closed_grows Kind.Plain r.0 r.1 in
         let second = tests_made rest y n s in
-        let one = test_made first (length r.1.blocks) n c in
-        (grows_on s r.1 _ second.0 (grows_on r.1 c _ g one.0),
-        (λ h later py pn.
-        let l2 = later_before c _ one.0 later in
-        let more = second.1 h (later_before r.1 c g l2) py pn in
-        let it = one.1 more.0 later (plain_stands r.0 r.1 l2) pn in
-        (it.0, λ b st. ((length r.1.blocks, 0), it.1 b st, more.1 (length r.1.blocks, 0) (closed_stands Kind.Plain r.0 r.1 l2)))),
-        λ h gy gn.
-        let more = second.2 h gy gn in
-        let j = closed_length Kind.Plain r.0 r.1 in
-        one.2 (closed_ranked Kind.Plain r.0 r.1 more.0 more.1) (more.0.begun, omega arith) (given_on (length s.blocks) (length c.blocks) n (let a = second.0.longer in omega arith) gn))
+        let one = test_made first (length r.1.blocks) n c in (
+          grows_on s r.1 _ second.0 (grows_on r.1 c _ g one.0),
+          (λ h later py pn.
+              let l2 = later_before c _ one.0 later in
+              let more = second.1 h (later_before r.1 c g l2) py pn in
+              let it = one.1 more.0 later (plain_stands r.0 r.1 l2) pn in
+              (it.0, λ b st. ((length r.1.blocks, 0), it.1 b st, more.1 (length r.1.blocks, 0) (closed_stands Kind.Plain r.0 r.1 l2)))),
+          λ h gy gn.
+              let more = second.2 h gy gn in
+              let j = closed_length Kind.Plain r.0 r.1 in
+              one.2 (closed_ranked Kind.Plain r.0 r.1 more.0 more.1) (more.0.begun, omega arith) (given_on (length s.blocks) (length c.blocks) n (let a = second.0.longer in omega arith) gn),
+        )
 
     any_made : (x : Alternatives) (y n : ℕ) (s : Building) → TestMade s (any_test f x y n s) (AnyTestAt t x) y n
     any_made no_alternative y n s = (grows_not s, (λ h later py pn. (h, λ b st. goes n (ends_with _ 0 b st) pn)), λ h gy gn. (h, (gn, tt)))
@@ -784,17 +833,18 @@ module _ (t : Target) where
         let c = closed Kind.Plain r.0 r.1 in
         let g = closed_grows Kind.Plain r.0 r.1 in
         let second = any_made rest y n s in
-        let one = tests_made first y (length r.1.blocks) c in
-        (grows_on s r.1 _ second.0 (grows_on r.1 c _ g one.0),
-        (λ h later py pn.
-        let l2 = later_before c _ one.0 later in
-        let more = second.1 h (later_before r.1 c g l2) py pn in
-        let it = one.1 more.0 later py (plain_stands r.0 r.1 l2) in
-        (it.0, λ b st. ((length r.1.blocks, 0), it.1 b st, more.1 (length r.1.blocks, 0) (closed_stands Kind.Plain r.0 r.1 l2)))),
-        λ h gy gn.
-        let more = second.2 h gy gn in
-        let j = closed_length Kind.Plain r.0 r.1 in
-        one.2 (closed_ranked Kind.Plain r.0 r.1 more.0 more.1) (given_on (length s.blocks) (length c.blocks) y (let a = second.0.longer in omega arith) gy) (more.0.begun, omega arith))
+        let one = tests_made first y (length r.1.blocks) c in (
+          grows_on s r.1 _ second.0 (grows_on r.1 c _ g one.0),
+          (λ h later py pn.
+              let l2 = later_before c _ one.0 later in
+              let more = second.1 h (later_before r.1 c g l2) py pn in
+              let it = one.1 more.0 later py (plain_stands r.0 r.1 l2) in
+              (it.0, λ b st. ((length r.1.blocks, 0), it.1 b st, more.1 (length r.1.blocks, 0) (closed_stands Kind.Plain r.0 r.1 l2)))),
+          λ h gy gn.
+              let more = second.2 h gy gn in
+              let j = closed_length Kind.Plain r.0 r.1 in
+              one.2 (closed_ranked Kind.Plain r.0 r.1 more.0 more.1) (given_on (length s.blocks) (length c.blocks) y (let a = second.0.longer in omega arith) gy) (more.0.begun, omega arith),
+        )
 
   -- ---- branches
   -- a place to which codes come
@@ -876,37 +926,41 @@ module _ (t : Target) where
     pub branches_lowered : Lowered (branches node x P Q) (λ c. BranchesAt t T (sp c) (sq c))
     branches_lowered = record {
       grows = λ c S k s. grows_on s (join k s).1 _ (joined_grows (P.has_end || Q.has_end) node k s) (grows_on (join k s).1 (no_made c S k s) _ (no_grows c S k s)
-        (grows_on (no_made c S k s) (yes_made c S k s) _ (yes_grows c S k s) (made_test (yes_at c S k s) (no_at c S k s) (yes_made c S k s)).0));
+          (grows_on (no_made c S k s) (yes_made c S k s) _ (yes_grows c S k s) (made_test (yes_at c S k s) (no_at c S k s) (yes_made c S k s)).0));
       holds = λ c S k s u later chains.
-        let z = P.has_end || Q.has_end in
-        let one = made_test (yes_at c S k s) (no_at c S k s) (yes_made c S k s) in
-        let l5 = later_before (yes_made c S k s) _ one.0 later in
-        let l4 = later_before (yes_code c S k s).1 (yes_made c S k s) (closed_grows Kind.Plain (yes_code c S k s).0 (yes_code c S k s).1) l5 in
-        let l3 = later_before (no_made c S k s) (yes_code c S k s).1 (lp.grows c S (join k s).0 (no_made c S k s)) l4 in
-        let l2 = later_before (no_code c S k s).1 (no_made c S k s) (closed_grows Kind.Plain (no_code c S k s).0 (no_code c S k s).1) l3 in
-        let l1 = later_before (join k s).1 (no_code c S k s).1 (lq.grows c S (join k s).0 (join k s).1) l2 in
-        let no = lq.holds c S (join k s).0 (join k s).1 (ways_second IsUsed c P.jumps Q.jumps u) l2 (joined_chains z node k s chains) in
-        let yes = lp.holds c S (join k s).0 (no_made c S k s) (ways_first IsUsed c P.jumps Q.jumps u) l4 no.0 in
-        let it = one.1 yes.0 later (plain_stands (yes_code c S k s).0 (yes_code c S k s).1 l5) (plain_stands (no_code c S k s).0 (no_code c S k s).1 l3) in
-        let yes_ends = yes.1 (yes_at c S k s, 0) (closed_stands Kind.Plain (yes_code c S k s).0 (yes_code c S k s).1 l5) in
-        let no_ends = no.1 (no_at c S k s, 0) (closed_stands Kind.Plain (no_code c S k s).0 (no_code c S k s).1 l3) in
-        (it.0, λ b st. both_end z refl c S k s l1 b (yes_at c S k s, 0) (no_at c S k s, 0) (it.1 b st)
-        (λ S' b' on. (may_join P.has_end P sp c S (Q.after S) (join k s).0 (yes_at c S k s, 0) yes_ends (same S) S' b' (λ e. on (or_true P.has_end Q.has_end e)),
-        may_join Q.has_end Q sq c S (Q.after S) (join k s).0 (no_at c S k s, 0) no_ends refl S' b' (λ e. on (true_or P.has_end Q.has_end e)))));
+          let z = P.has_end || Q.has_end in
+          let one = made_test (yes_at c S k s) (no_at c S k s) (yes_made c S k s) in
+          let l5 = later_before (yes_made c S k s) _ one.0 later in
+          let l4 = later_before (yes_code c S k s).1 (yes_made c S k s) (closed_grows Kind.Plain (yes_code c S k s).0 (yes_code c S k s).1) l5 in
+          let l3 = later_before (no_made c S k s) (yes_code c S k s).1 (lp.grows c S (join k s).0 (no_made c S k s)) l4 in
+          let l2 = later_before (no_code c S k s).1 (no_made c S k s) (closed_grows Kind.Plain (no_code c S k s).0 (no_code c S k s).1) l3 in
+          let l1 = later_before (join k s).1 (no_code c S k s).1 (lq.grows c S (join k s).0 (join k s).1) l2 in
+          let no = lq.holds c S (join k s).0 (join k s).1 (ways_second IsUsed c P.jumps Q.jumps u) l2 (joined_chains z node k s chains) in
+          let yes = lp.holds c S (join k s).0 (no_made c S k s) (ways_first IsUsed c P.jumps Q.jumps u) l4 no.0 in
+          let it = one.1 yes.0 later (plain_stands (yes_code c S k s).0 (yes_code c S k s).1 l5) (plain_stands (no_code c S k s).0 (no_code c S k s).1 l3) in
+          let yes_ends = yes.1 (yes_at c S k s, 0) (closed_stands Kind.Plain (yes_code c S k s).0 (yes_code c S k s).1 l5) in
+          let no_ends = no.1 (no_at c S k s, 0) (closed_stands Kind.Plain (no_code c S k s).0 (no_code c S k s).1 l3) in (
+            it.0,
+            λ b st. both_end z refl c S k s l1 b (yes_at c S k s, 0) (no_at c S k s, 0) (it.1 b st)
+                (λ S' b' on. (
+                  may_join P.has_end P sp c S (Q.after S) (join k s).0 (yes_at c S k s, 0) yes_ends (same S) S' b' (λ e. on (or_true P.has_end Q.has_end e)),
+                  may_join Q.has_end Q sq c S (Q.after S) (join k s).0 (no_at c S k s, 0) no_ends refl S' b' (λ e. on (true_or P.has_end Q.has_end e)),
+                )),
+          );
       ranks = λ c S k s w h l.
-        let z = P.has_end || Q.has_end in
-        let r1 = joined_ranked z node k s h l in
-        let g1 = joined_grows z node k s in
-        let r2 = lq.ranks c S (join k s).0 (join k s).1 (ways_more (length s.blocks) (length (join k s).1.blocks) g1.longer c Q.jumps (ways_second (BlockGiven (length s.blocks)) c P.jumps Q.jumps w)) r1.0 r1.1 in
-        let c3 = closed_ranked Kind.Plain (no_code c S k s).0 (no_code c S k s).1 r2.0 r2.1 in
-        let g3 = no_grows c S k s in
-        let j3 = closed_length Kind.Plain (no_code c S k s).0 (no_code c S k s).1 in
-        let r4 = lp.ranks c S (join k s).0 (no_made c S k s) (ways_more (length s.blocks) (length (no_made c S k s).blocks) (let a = g1.longer in let b = g3.longer in omega arith) c P.jumps
+          let z = P.has_end || Q.has_end in
+          let r1 = joined_ranked z node k s h l in
+          let g1 = joined_grows z node k s in
+          let r2 = lq.ranks c S (join k s).0 (join k s).1 (ways_more (length s.blocks) (length (join k s).1.blocks) g1.longer c Q.jumps (ways_second (BlockGiven (length s.blocks)) c P.jumps Q.jumps w)) r1.0 r1.1 in
+          let c3 = closed_ranked Kind.Plain (no_code c S k s).0 (no_code c S k s).1 r2.0 r2.1 in
+          let g3 = no_grows c S k s in
+          let j3 = closed_length Kind.Plain (no_code c S k s).0 (no_code c S k s).1 in
+          let r4 = lp.ranks c S (join k s).0 (no_made c S k s) (ways_more (length s.blocks) (length (no_made c S k s).blocks) (let a = g1.longer in let b = g3.longer in omega arith) c P.jumps
           (ways_first (BlockGiven (length s.blocks)) c P.jumps Q.jumps w)) c3 (given_more (length (join k s).1.blocks) (length (no_made c S k s).blocks) g3.longer (targets (join k s).0.term) r1.1) in
-        let c5 = closed_ranked Kind.Plain (yes_code c S k s).0 (yes_code c S k s).1 r4.0 r4.1 in
-        let g5 = yes_grows c S k s in
-        let j5 = closed_length Kind.Plain (yes_code c S k s).0 (yes_code c S k s).1 in
-        (made_test (yes_at c S k s) (no_at c S k s) (yes_made c S k s)).2 c5 (r4.0.begun, omega arith) (r2.0.begun, (let a = g5.longer in omega arith));
+          let c5 = closed_ranked Kind.Plain (yes_code c S k s).0 (yes_code c S k s).1 r4.0 r4.1 in
+          let g5 = yes_grows c S k s in
+          let j5 = closed_length Kind.Plain (yes_code c S k s).0 (yes_code c S k s).1 in
+          (made_test (yes_at c S k s) (no_at c S k s) (yes_made c S k s)).2 c5 (r4.0.begun, omega arith) (r2.0.begun, (let a = g5.longer in omega arith));
     }
       where
         or_true : (y z : Bool) → y ≡ true → y || z ≡ true
@@ -1088,32 +1142,34 @@ module _ (t : Target) where
     pub looped_lowered : Lowered (looped id turn) (λ c. LoopAt t id sp c)
     looped_lowered = record {
       grows = λ c S k s.
-        filled_grows Kind.Turn (begin_at k s) (code_in c S k s).0 (code_in c S k s).1 (begin_free c S k s) s (exit_grows left k s).longer
-        (grows_on s (reserved (begun_with k s)) _ (begun_grows k s) (code_grows c S k s));
+          filled_grows Kind.Turn (begin_at k s) (code_in c S k s).0 (code_in c S k s).1 (begin_free c S k s) s (exit_grows left k s).longer
+          (grows_on s (reserved (begun_with k s)) _ (begun_grows k s) (code_grows c S k s));
       holds = λ c S k s u later chains.
-        let r = code_in c S k s in
-        let l2 = filled_later Kind.Turn (begin_at k s) r.0 r.1 (begin_free c S k s) later in
-        let l1 = later_before (reserved (begun_with k s)) r.1 (code_grows c S k s) l2 in
-        let l0 = later_before (begun_with k s) (reserved (begun_with k s)) (reserved_grows (begun_with k s)) l1 in
-        let turn_at = filled_stands Kind.Turn (begin_at k s) r.0 r.1 (begin_free c S k s) later in
-        let it = lt.holds (ways_in c S k s) S (again k s) (reserved (begun_with k s)) (used_in c S k s u) l2 (exit_chains left k s chains) in
-        (it.0, λ b st.
-        let goes_back = ends_with (Term.Goto (begin_at k s)) id b st in
-        let e = turn_ends turn.has_end c S k s b (it.1 (begin_at k s, 0) turn_at.1) goes_back in
-        loop_ends left refl c S k s e.0 b l0
-        (λ S' b' onward. (begin_at k s, length s.blocks, left, e.0, goes_back, ((made Kind.Turn (length r.1.blocks) r.0).block, turn_at.0, refl), e.1, e.2, onward)));
+          let r = code_in c S k s in
+          let l2 = filled_later Kind.Turn (begin_at k s) r.0 r.1 (begin_free c S k s) later in
+          let l1 = later_before (reserved (begun_with k s)) r.1 (code_grows c S k s) l2 in
+          let l0 = later_before (begun_with k s) (reserved (begun_with k s)) (reserved_grows (begun_with k s)) l1 in
+          let turn_at = filled_stands Kind.Turn (begin_at k s) r.0 r.1 (begin_free c S k s) later in
+          let it = lt.holds (ways_in c S k s) S (again k s) (reserved (begun_with k s)) (used_in c S k s u) l2 (exit_chains left k s chains) in (
+            it.0,
+            λ b st.
+                let goes_back = ends_with (Term.Goto (begin_at k s)) id b st in
+                let e = turn_ends turn.has_end c S k s b (it.1 (begin_at k s, 0) turn_at.1) goes_back in
+                loop_ends left refl c S k s e.0 b l0
+                (λ S' b' onward. (begin_at k s, length s.blocks, left, e.0, goes_back, ((made Kind.Turn (length r.1.blocks) r.0).block, turn_at.0, refl), e.1, e.2, onward)),
+          );
       ranks = λ c S k s w h l.
-        let start = reserved (begun_with k s) in
-        let j = reserved_length (begun_with k s) in
-        let g = begun_grows k s in
-        let h1 = exit_ranked left k s h l in
-        let more = ways_more (length s.blocks) (length start.blocks) g.longer c (outside id turn.jumps) w in
-        let g0 = given_on (length (begun_with k s).blocks) (length start.blocks) (length s.blocks) (omega arith) in
-        let ways = ways_inside (BlockGiven (length start.blocks)) id (length S) (length s.blocks) (begin_at k s) left c turn.jumps (λ e. g0 (exit_given left k s h e)) (h1.begun, omega arith) more.0 more.1 in
-        let it = lt.ranks (ways_in c S k s) S (again k s) start (more.0, ways) (reserved_ranked (begun_with k s) h1) ((h1.begun, omega arith), tt) in
-        let r = code_in c S k s in
-        let j2 = set_length r.1.blocks (begin_at k s) (Some (made Kind.Turn (length r.1.blocks) r.0)) in
-        (turn_ranked (begin_at k s) r.0 r.1 it.0 it.1, ((h1.begun, (let a = (code_grows c S k s).longer in omega arith)), tt));
+          let start = reserved (begun_with k s) in
+          let j = reserved_length (begun_with k s) in
+          let g = begun_grows k s in
+          let h1 = exit_ranked left k s h l in
+          let more = ways_more (length s.blocks) (length start.blocks) g.longer c (outside id turn.jumps) w in
+          let g0 = given_on (length (begun_with k s).blocks) (length start.blocks) (length s.blocks) (omega arith) in
+          let ways = ways_inside (BlockGiven (length start.blocks)) id (length S) (length s.blocks) (begin_at k s) left c turn.jumps (λ e. g0 (exit_given left k s h e)) (h1.begun, omega arith) more.0 more.1 in
+          let it = lt.ranks (ways_in c S k s) S (again k s) start (more.0, ways) (reserved_ranked (begun_with k s) h1) ((h1.begun, omega arith), tt) in
+          let r = code_in c S k s in
+          let j2 = set_length r.1.blocks (begin_at k s) (Some (made Kind.Turn (length r.1.blocks) r.0)) in
+          (turn_ranked (begin_at k s) r.0 r.1 it.0 it.1, ((h1.begun, (let a = (code_grows c S k s).longer in omega arith)), tt));
     }
 
   -- ---- assignment
@@ -1147,29 +1203,44 @@ module _ (t : Target) where
     replaced_lowered : Lowered (replaces f true site key) (λ c. ReplacesAt t true site key)
     replaced_lowered = record {
       grows = λ c S k s. grows_on s (onward k s) _ (closed_grows Kind.Plain (stored k) s)
-        (grows_on (onward k s) (down S k s).1 _ (chain_grows (drops_of S) (onward k s)) (closed_grows Kind.Cleanup (unwound S k s) (down S k s).1));
+          (grows_on (onward k s) (down S k s).1 _ (chain_grows (drops_of S) (onward k s)) (closed_grows Kind.Cleanup (unwound S k s) (down S k s).1));
       holds = λ c S k s u later chains.
-        let l2 = later_before (down S k s).1 _ (closed_grows Kind.Cleanup (unwound S k s) (down S k s).1) later in
-        let l1 = later_before (onward k s) _ (chain_grows (drops_of S) (onward k s)) l2 in
-        let made = chain_made (drops_of S) (onward k s) chains l2 in
-        let st1 = closed_stands Kind.Plain (stored k) s l1 in
-        let st2 = closed_stands Kind.Cleanup (unwound S k s) (down S k s).1 later in
-        (made.0, λ b st.
-        ((length s.blocks, 1), (st1.0, st1.1, st1.2.2),
-        (place_of f site, length s.blocks, length (down S k s).1.blocks, ends_with _ site.node b st, site_same (t.node b.0 b.1) site (sym st.2.2),
-        plain_stands (stored k) s l1,
-        by_statement (length s.blocks, 1) (st1.0, put_into f site key, st1.1, st1.2.0, put_same _ st1.2.1, refl),
-        (step_stands Kind.Cleanup (unwound S k s) (down S k s).1 refl later, (length (down S k s).1.blocks, 1), ((down S k s).0, 0),
-        (st2.0, put_into f site key, st2.1, st2.2.0, put_same _ st2.2.1, refl),
-        goes (down S k s).0 (st2.0, st2.1, st2.2.2.0, st2.2.2.1) made.1.0, made.1.1))));
+          let l2 = later_before (down S k s).1 _ (closed_grows Kind.Cleanup (unwound S k s) (down S k s).1) later in
+          let l1 = later_before (onward k s) _ (chain_grows (drops_of S) (onward k s)) l2 in
+          let made = chain_made (drops_of S) (onward k s) chains l2 in
+          let st1 = closed_stands Kind.Plain (stored k) s l1 in
+          let st2 = closed_stands Kind.Cleanup (unwound S k s) (down S k s).1 later in (
+            made.0,
+            λ b st. (
+              (length s.blocks, 1),
+              (st1.0, st1.1, st1.2.2),
+              (
+                place_of f site,
+                length s.blocks,
+                length (down S k s).1.blocks,
+                ends_with _ site.node b st,
+                site_same (t.node b.0 b.1) site (sym st.2.2),
+                plain_stands (stored k) s l1,
+                by_statement (length s.blocks, 1) (st1.0, put_into f site key, st1.1, st1.2.0, put_same _ st1.2.1, refl),
+                (
+                  step_stands Kind.Cleanup (unwound S k s) (down S k s).1 refl later,
+                  (length (down S k s).1.blocks, 1),
+                  ((down S k s).0, 0),
+                  (st2.0, put_into f site key, st2.1, st2.2.0, put_same _ st2.2.1, refl),
+                  goes (down S k s).0 (st2.0, st2.1, st2.2.2.0, st2.2.2.1) made.1.0,
+                  made.1.1,
+                ),
+              ),
+            ),
+          );
       ranks = λ c S k s w h l.
-        let h1 = closed_ranked Kind.Plain (stored k) s h l in
-        let j1 = closed_length Kind.Plain (stored k) s in
-        let h2 = chain_ranked (drops_of S) (onward k s) h1 in
-        let g2 = chain_grows (drops_of S) (onward k s) in
-        let h3 = closed_ranked Kind.Cleanup (unwound S k s) (down S k s).1 h2.0 (h2.1, tt) in
-        let j3 = closed_length Kind.Cleanup (unwound S k s) (down S k s).1 in
-        (h3, ((h.begun, (let a = g2.longer in omega arith)), ((h2.0.begun, omega arith), tt)));
+          let h1 = closed_ranked Kind.Plain (stored k) s h l in
+          let j1 = closed_length Kind.Plain (stored k) s in
+          let h2 = chain_ranked (drops_of S) (onward k s) h1 in
+          let g2 = chain_grows (drops_of S) (onward k s) in
+          let h3 = closed_ranked Kind.Cleanup (unwound S k s) (down S k s).1 h2.0 (h2.1, tt) in
+          let j3 = closed_length Kind.Cleanup (unwound S k s) (down S k s).1 in
+          (h3, ((h.begun, (let a = g2.longer in omega arith)), ((h2.0.begun, omega arith), tt)));
     }
 
   pub replaces_lowered : (needs : Bool) (site : Site) (key : ℕ) → Lowered (replaces f needs site key) (λ c. ReplacesAt t needs site key)

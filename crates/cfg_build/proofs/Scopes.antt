@@ -264,8 +264,10 @@ module _ (f : Frame) where
     where
       Y : Scopes
       Y = (lower.scrutinised f around scrutinee).after (with_scope h.id true S)
+
       left : outer f Y ≡ S
       left = left_same f h.id S Y ((scrutinised_local around scrutinee l).stays (with_scope h.id true S))
+
       by_end : (x : Bool) → after_either x
           (build.then_lower (build.then_lower (lower.bind f innermost (pattern.shape.bindings (lower.place_in scrutinee around))) P) (build.leave f))
           (build.then_lower (build.leave f) Q) Y ≡ S

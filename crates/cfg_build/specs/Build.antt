@@ -195,10 +195,10 @@ branches node test P Q = record {
   jumps = P.jumps ++ Q.jumps;
   after = after_either P.has_end P Q;
   build = λ c S k s.
-    let join = joined (P.has_end || Q.has_end) node k s in
-    let if_false = closing (Q.build c S join.0 join.1) in
-    let if_true = closing (P.build c S join.0 if_false.1) in
-    test if_true.0 if_false.0 if_true.1;
+      let join = joined (P.has_end || Q.has_end) node k s in
+      let if_false = closing (Q.build c S join.0 join.1) in
+      let if_true = closing (P.build c S join.0 if_false.1) in
+      test if_true.0 if_false.0 if_true.1;
 }
 
 -- the block behind a loop, if a `break` leads there
@@ -213,11 +213,11 @@ looped id turn = record {
   jumps = outside id turn.jumps;
   after = λ S. S;
   build = λ c S k s.
-    let start = with_exit (is_left_by id turn.jumps) k s in
-    let again = ending (Term.Goto (next_number start)) id in
-    let inside = ways_in_loop id (length S) (next_number s) (next_number start) (is_left_by id turn.jumps) c in
-    let code = turn.build inside S again (reserved start) in
-    (again, filled Kind.Turn (next_number start) code.0 code.1);
+      let start = with_exit (is_left_by id turn.jumps) k s in
+      let again = ending (Term.Goto (next_number start)) id in
+      let inside = ways_in_loop id (length S) (next_number s) (next_number start) (is_left_by id turn.jumps) c in
+      let code = turn.build inside S again (reserved start) in
+      (again, filled Kind.Turn (next_number start) code.0 code.1);
 }
 
 module _ (f : Frame) where
@@ -379,9 +379,11 @@ module _ (f : Frame) where
       Stmt.Compare (place_of (site_of_key site.node)) Cmp.Eq (operand_of (effects.Copied site)) (operand_of value)
 
   abbrev pub equals : Site → effects.Operand → ℕ → ℕ → Building → Rest × Building
-  equals site value y n s =
-      (with_line (compared site value) site.node
-      (ending (Term.If (operand_of (moved site.node site.node)) y n) site.node), s)
+  equals site value y n s = (
+    with_line (compared site value) site.node
+        (ending (Term.If (operand_of (moved site.node site.node)) y n) site.node),
+    s,
+  )
 
   abbrev mutual
     pub test : PatternTest → ℕ → ℕ → Building → Rest × Building
@@ -411,9 +413,10 @@ module _ (f : Frame) where
   replaces_from site key S k s =
       let onward = closing (with_line (put_into site key) site.node k, s) in
       let down = chain (panic_drops (taken (key ∷ []) S)) onward.1 in
-      let unwound = with_line (put_into site key) site.node (ending (Term.Goto down.0) site.node) in
-      (ending (Term.DropAt (place_of site) onward.0 (Unwind.Block (next_number down.1))) site.node,
-      closed Kind.Cleanup unwound down.1)
+      let unwound = with_line (put_into site key) site.node (ending (Term.Goto down.0) site.node) in (
+        ending (Term.DropAt (place_of site) onward.0 (Unwind.Block (next_number down.1))) site.node,
+        closed Kind.Cleanup unwound down.1,
+      )
 
   abbrev pub stores : Site → ℕ → Lowers
   stores site key = from_changed (taken (key ∷ [])) (act site.node (effects.Put site (moved site.node key)))

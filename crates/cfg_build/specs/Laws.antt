@@ -1,5 +1,5 @@
--- The laws of the lowering: the raw graph of a typed program runs as the program does, and each of its bodies walks as the
--- body of the program runs freely.
+-- The laws of the lowering: the raw graph of a typed program runs as the program does, and each of its bodies walks
+-- as the body of the program runs freely.
 use Rattle.std.specs.Prelude.{◌≡◌, ◌≢◌, ℕ, ℤ, Bool, List, [], Some, slice_get, Contains}
 use Rattle.cfg_graph.specs.declared.graph.Block.{Block}
 use Rattle.cfg_graph.specs.Edges.{IsRanked, targets}

@@ -32,8 +32,8 @@ Reaches = Around → Lowers
 abbrev pub MakesInto : Type 0
 MakesInto = Around → Destination → Lowers
 
--- An arm to be built, given the number of the block for what is done where it is not taken, and the rest to which it goes
--- where it is taken.
+-- An arm to be built, given the number of the block for what is done where it is not taken, and the rest to which it
+-- goes where it is taken.
 pub record LowersArm : Type 0 where
   pub has_end : Bool
   pub jumps : List Exit
@@ -211,8 +211,8 @@ module _ (f : Frame) where
       let code = guarded around bounds guard (taken_arm h around bounds m to) in
       record code {
         build = λ c S otherwise k s.
-          let then_do = closing (code.build c S otherwise k s) in
-          tests f (pattern.shape.tests matched) then_do.0 otherwise then_do.1;
+            let then_do = closing (code.build c S otherwise k s) in
+            tests f (pattern.shape.tests matched) then_do.0 otherwise then_do.1;
       }
 
   abbrev pub arms_end : List NodeLower → Place → Around → Destination → Bool
@@ -237,8 +237,8 @@ module _ (f : Frame) where
     jumps = arm_jumps ms matched around to;
     after = λ S. S;
     build = λ c S k s.
-      let join = joined (arms_end ms matched around to) number k s in
-      arms_from number ms matched around to c S join.0 join.1;
+        let join = joined (arms_end ms matched around to) number k s in
+        arms_from number ms matched around to c S join.0 join.1;
   }
 
   abbrev pub matching : Head → NodeLower → List NodeLower → Evaluates
@@ -515,7 +515,7 @@ module _ (f : Frame) where
   abbrev pub built : BodyTree → Building
   built body =
       let code = (entire_function body).build (body_ways 1) (answer_scope body)
-        (ending (Term.Goto 1) (answer_key body)) (start body) in
+      (ending (Term.Goto 1) (answer_key body)) (start body) in
       filled Kind.Plain 0 code.0 code.1
 
 -- every number that is given out has its block by then

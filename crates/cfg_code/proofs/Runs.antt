@@ -305,10 +305,13 @@ module _ (program : ProgramTree) (graph : Graph) (held : HoldsProgram program gr
     where
       t : Target
       t = target_of program.items tree body (held.node number)
+
       q : Effects State
       q = graph_effects graph n
+
       size : State → ℕ
       size w = left_in (number ∷ bodies) (suc n) w
+
       laws : Laws q size
       laws = left_laws (number ∷ bodies) (suc n) q (graph_laws graph n) (stack_laws (here graph) (graph_bodies graph n) (bodies_keep graph n) (suc n))
 

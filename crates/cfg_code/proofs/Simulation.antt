@@ -799,9 +799,10 @@ module _ {W : Type 0} (t : Target) (p q : Effects W) (size : W → ℕ) (bound :
 
   pub panics_sim : (why : Why) (c : Ways) → Sim c (forms.panics t.items keyed why) (PanicsAt t why)
   panics_sim why c S b S' b' within h w l =
-      subst (λ v. Ends c (size w) (length S) S' b' (At Panics S v) (From b w)) (sym (tied.panicking why w l))
-      (laws.panicking why w,
-      at_term (Term.Panic why h.0) b h.1 w ∙ cleans_walk (panic_drops t S) h.0 h.2 (q.panic why w) (let k = laws.panicking why w in omega arith))
+      subst (λ v. Ends c (size w) (length S) S' b' (At Panics S v) (From b w)) (sym (tied.panicking why w l)) (
+        laws.panicking why w,
+        at_term (Term.Panic why h.0) b h.1 w ∙ cleans_walk (panic_drops t S) h.0 h.2 (q.panic why w) (let k = laws.panicking why w in omega arith),
+      )
 
   arms_sim : (ms : List (Meaning W)) (ds : List NodeCode) → SimulatesAll ms ds → (matched : Place) (around : Around) (c : Ways) (to : Destination) →
       Sim c (arms_in_order t.items keyed ms matched around to) (ArmsInOrderAt t ds matched around c to)
@@ -1016,6 +1017,7 @@ module _ {W : Type 0} (t : Target) (p q : Effects W) (size : W → ℕ) (bound :
         breaks_by : (x : Bool) (loop : ℕ) → Within c (length S) → (ways_by x loop).breaks.base ≤ length S
         breaks_by true loop h = omega arith
         breaks_by false loop h = h.breaks loop
+
         continues_by : (x : Bool) (loop : ℕ) → Within c (length S) → (ways_by x loop).continues.base ≤ length S
         continues_by true loop h = omega arith
         continues_by false loop h = h.continues loop
@@ -1029,10 +1031,13 @@ module _ {W : Type 0} (t : Target) (p q : Effects W) (size : W → ℕ) (bound :
     turned_ends m k (At (Breaks loop) S2 v) out l back onward ih h = by_name (id == loop) h
       where
         by_name : (x : Bool) → Jumps (ways_by x loop).breaks m (length S) S2 v out → Ends c m (length S) S' b' (if x then At Value S v else At (Breaks loop) S2 v) out
-        by_name true h =
-            (sym (onward h.2).1, refl, h.1,
-            h.3 ∙ stays_at (length S) S2 (Walk exit) v (let i = h.0 in omega arith) ∙ enters exit (onward h.2).0.0 v (let i = h.1 in omega arith)
-            ∙ ap (λ z. From z v) (sym (onward h.2).0.1))
+        by_name true h = (
+          sym (onward h.2).1,
+          refl,
+          h.1,
+          h.3 ∙ stays_at (length S) S2 (Walk exit) v (let i = h.0 in omega arith) ∙ enters exit (onward h.2).0.0 v (let i = h.1 in omega arith)
+              ∙ ap (λ z. From z v) (sym (onward h.2).0.1),
+        )
         by_name false h = h
     turned_ends m k (At (Continues loop) S2 v) out l back onward ih h = by_name ih (id == loop) h
       where

@@ -173,7 +173,8 @@ module _ (t : Target) where
   -- what is done where a test holds, and where it does not
   abbrev pub BranchesAt : (Pos → Pos → Pos → Type 0) → Spot → Spot → Spot
   BranchesAt Test P Q S b S' b' =
-      (if_true : Pos) × (if_false : Pos) × Test b if_true if_false × Joins t P S if_true S' b' × Joins t Q S if_false S' b'
+      (if_true : Pos) × (if_false : Pos) × Test b if_true if_false
+      × Joins t P S if_true S' b' × Joins t Q S if_false S' b'
 
   abbrev pub ConditionAt : Around → Ways → NodeCode → Spot → Spot → Spot
   ConditionAt around c m P Q =
@@ -199,11 +200,13 @@ module _ (t : Target) where
 
     pub TestsAt : PatternTests → (b if_true if_false : Pos) → Type 0
     TestsAt no_test b if_true if_false = Leads t b if_true
-    TestsAt (a_test first rest) b if_true if_false = (m : Pos) × TestAt first b m if_false × TestsAt rest m if_true if_false
+    TestsAt (a_test first rest) b if_true if_false =
+        (m : Pos) × TestAt first b m if_false × TestsAt rest m if_true if_false
 
     pub AnyTestAt : Alternatives → (b if_true if_false : Pos) → Type 0
     AnyTestAt no_alternative b if_true if_false = Leads t b if_false
-    AnyTestAt (an_alternative tests rest) b if_true if_false = (m : Pos) × TestsAt tests b if_true m × AnyTestAt rest m if_true if_false
+    AnyTestAt (an_alternative tests rest) b if_true if_false =
+        (m : Pos) × TestsAt tests b if_true m × AnyTestAt rest m if_true if_false
 
   abbrev pub BindsAt : ((Scope → Scope) → Scopes → Scopes) → List Bound → Spot
   BindsAt in_that [] = Nothing

@@ -38,7 +38,8 @@ pub record LoopWays : Type 0 where
   pub breaks : Way
   pub continues : Way
 
--- the ways of jumps: by `return`; by those that name a loop; and by one that names no loop around it, which there is not
+-- the ways of jumps: by `return`; by those that name a loop; and by one that names no loop around it, which there
+-- is not
 pub record Ways : Type 0 where
   pub returns : Way
   pub nowhere : Way
@@ -99,7 +100,8 @@ BackIn P S b S' b' = HasNoEnd P S b ⊎ ((S' ≡ S) × (S1 : Scopes) × P S b S1
 -- the effect of a terminator that may panic, and its two ways on
 abbrev pub action_of_term : ℕ → Term → Option (Action × ℕ × Unwind)
 action_of_term number (Term.Math to operator left right onward unwind) =
-    Some (effects.Compute (site_of number to) operator (operand_of number left) (operand_of number right), onward, unwind)
+    Some
+    (effects.Compute (site_of number to) operator (operand_of number left) (operand_of number right), onward, unwind)
 action_of_term number (Term.Negate to operand onward unwind) =
     Some (effects.Negate (site_of number to) (operand_of number operand), onward, unwind)
 action_of_term number (Term.Bounds index count onward unwind) =
