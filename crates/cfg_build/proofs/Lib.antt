@@ -1,4 +1,5 @@
 pub mod Bodies
+mod Examples
 pub mod Forms
 pub mod Rules
 pub mod Scopes
