@@ -1,8 +1,8 @@
 -- A body that is lowered holds the code of its source, is ranked, and has no edge to block 0. So a program that is lowered runs as its
 -- source does.
-use Rattle.std.proofs.Common.{◌≡◌, ◌⊎◌, inl, inr, ℕ, zero, suc, ◌<◌, ◌≤◌, ◌==◌, Bool, true, false, ℤ, List, [], ◌∷◌, ◌++◌, length, map, Option, Some, None, slice_get, slice_set, unwrap_or, cond, not, nat_lt, ◌+◌, Contains, length-append, add-one, refl, sym, ap, ◌∙◌, subst, arith}
+use Rattle.std.proofs.Common.{◌≡◌, ◌⊎◌, inl, inr, ℕ, zero, suc, ◌<◌, ◌≤◌, ◌==◌, Bool, true, false, List, [], ◌∷◌, ◌++◌, length, map, Option, Some, None, slice_get, unwrap_or, cond, not, nat_lt, ◌+◌, Contains, length-append, add-one, refl, sym, ap, ◌∙◌, subst, arith}
 use Rattle.std.proofs.lemmas.Bool.Decides.{eqb_tells}
-use Rattle.std.proofs.lemmas.Option.{none-some, same_Some, slice_get-map}
+use Rattle.std.proofs.lemmas.Option.{none-some, same_Some}
 use Rattle.std.specs.Option.{option_map_or}
 use Rattle.std.specs.List.{position, prefix_len}
 use Rattle.std.proofs.lemmas.Bool.{lt-ltb}
@@ -14,18 +14,19 @@ use Rattle.cfg_graph.specs.declared.terminator.Term.{Term}
 use Rattle.cfg_graph.specs.Edges.{IsRanked, is_turn, targets}
 use Rattle.mir_ty.specs.ItemTable.{ItemTable}
 use Rattle.typed_tree.specs.Tree.{BodyTree, ProgramTree}
-use Rattle.src_meaning.specs.Locals.OfBody.{answer_key, local_among, local_keys, local_of, local_tys}
-use Rattle.src_meaning.specs.Scopes.{Entry, Scopes, Exit}
+use Rattle.src_meaning.specs.Locals.OfBody.{answer_key, local_of, local_tys}
+use Rattle.src_meaning.specs.Scopes.{Scopes}
 use Rattle.cfg_code.proofs.FreeWalks.{walks_as_it_runs_freely}
 use Rattle.cfg_code.proofs.Runs.{runs_as_its_source}
 use Rattle.cfg_code.specs.Code.{BodyAt, FunctionAt}
 use Rattle.cfg_code.specs.Laws.{target_of, HoldsBody, HoldsProgram}
-use Rattle.cfg_code.specs.Spots.{Target, Pos, Ways, body_ways, StepAt, TermAt, Leads, stays, goes, Joins}
-use Rattle.cfg_build.specs.Build.{Frame, Rest, Made, Building, ending, made, closed, reserved, filled, chain_among, Lowers}
+use Rattle.cfg_code.specs.Spots.{Target, body_ways, StepAt, stays, goes, Joins}
+use Rattle.cfg_build.specs.Build.{Frame, Rest, Made, Building, ending, made, reserved, Lowers}
 use Rattle.cfg_build.specs.Laws.{NamesItsLoops, AllNameTheirLoops, LoweredRunsAsItsSource, LoweredWalksAsItRunsFreely, LoweredIsRanked}
 use Rattle.cfg_build.specs.Lower as lower
 use Rattle.cfg_build.specs.Lower.{frame, entire_function, start, built, blocks_of, nodes_of, body_of, node_in, node_of, graph_of}
 use Rattle.cfg_build.proofs.Forms.{function_at, function_lowers}
+use Rattle.cfg_build.proofs.Jumps.{no_jumps}
 use Rattle.cfg_build.proofs.Rules as rules
 use Rattle.cfg_build.proofs.Rules.{Given, AllGiven, Ranked, LeadsOn, JumpWays, IsUsed, BlockGiven, closed_ranked}
 use Rattle.cfg_build.proofs.Scopes.{function_after}
@@ -57,7 +58,7 @@ first_found p key keys d e =
     at : Bool → ℕ
     at b = cond (not b) (1 + prefix_len (λ x. not (p x)) keys) 0
 
-module _ (items : ItemTable) (tree : BodyTree) (named : NamesItsLoops items tree) where
+module _ (items : ItemTable) (tree : BodyTree) (named : NamesItsLoops tree) where
   abbrev F : Frame
   F = frame items tree
 
@@ -117,7 +118,7 @@ module _ (items : ItemTable) (tree : BodyTree) (named : NamesItsLoops items tree
   no_chain es n e = absurd (none-some n e)
 
   used : JumpWays IsUsed (body_ways 1) P.jumps
-  used = (refl, subst (λ jumps. rules.AllWays IsUsed (body_ways 1) jumps) (sym named) tt)
+  used = (refl, subst (λ jumps. rules.AllWays IsUsed (body_ways 1) jumps) (sym (no_jumps F tree named)) tt)
 
   -- block 1 returns
   abbrev returning : Made
@@ -160,7 +161,7 @@ module _ (items : ItemTable) (tree : BodyTree) (named : NamesItsLoops items tree
   begun_ranked = closed_ranked Kind.Plain (ending Term.Return (answer_key tree)) (reserved (record { blocks = []; chains = [] })) reserved_begins tt
 
   code_ranked : Ranked r.1 × LeadsOn r.0 r.1
-  code_ranked = lowered.ranks (body_ways 1) S last begun ((omega arith, omega arith), subst (λ jumps. rules.AllWays (BlockGiven (length begun.blocks)) (body_ways 1) jumps) (sym named) tt) begun_ranked ((omega arith, omega arith), tt)
+  code_ranked = lowered.ranks (body_ways 1) S last begun ((omega arith, omega arith), subst (λ jumps. rules.AllWays (BlockGiven (length begun.blocks)) (body_ways 1) jumps) (sym (no_jumps F tree named)) tt) begun_ranked ((omega arith, omega arith), tt)
 
   -- a block but the first has its number as its rank, if it is no turn block; all edges lead below its rank, and not to block 0
   abbrev Well : ℕ → Block → Type 0

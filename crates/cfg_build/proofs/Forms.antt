@@ -1,5 +1,5 @@
 -- Each form that is lowered holds its code: the rules of `Lower`, and one line a form.
-use Rattle.std.proofs.Common.{◌≡◌, ◌≢◌, ◌⊎◌, inl, inr, ℕ, zero, suc, ◌<◌, ◌≤◌, ◌&&◌, ◌||◌, not, Bool, true, false, List, [], ◌∷◌, ◌++◌, length, map, refl, sym, ap, ◌∙◌, subst, arith}
+use Rattle.std.proofs.Common.{◌≡◌, inl, inr, ℕ, suc, ◌&&◌, ◌||◌, Bool, true, false, List, [], ◌∷◌, ◌++◌, length, map, refl, sym, ap, ◌∙◌, subst, arith}
 use Rattle.cfg_graph.specs.declared.graph.Kind.{Kind}
 use Rattle.cfg_graph.specs.declared.terminator.Term.{Term}
 use Rattle.cfg_graph.specs.declared.terminator.Unwind.{Unwind}
@@ -13,15 +13,15 @@ use Rattle.store_model.specs.Places.Place.{Step, ToPart, ToField, Place, whole_l
 use Rattle.typed_tree.specs.Tree as tree
 use Rattle.typed_tree.specs.Tree.{Form, Nodes, no_node, a_node, Fields, no_field, a_field, MaybeNode, absent, present, ParamTree, BodyTree}
 use Rattle.src_meaning.specs.Evaluation.{in_number_order, to_own_key}
-use Rattle.src_meaning.specs.Forms.{Destination, Into, Coerced, coerced, Around, in_loop, loop_destination, in_guard, entry_of, bound_entry, site_in, site_of_key, moved, is_never}
+use Rattle.src_meaning.specs.Forms.{Destination, Into, Coerced, coerced, Around, in_loop, loop_destination, in_guard, bound_entry, site_in, site_of_key, moved, is_never}
 use Rattle.src_meaning.specs.Locals.OfBody.{param_key, answer_key}
-use Rattle.src_meaning.specs.Scopes.{Scope, Scopes, with_scope, innermost, around_innermost, nearest_temporary, with_entry, with_pending, without_pending, becomes_entry, without_operands, Exit, Breaks, Continues, Returns}
-use Rattle.src_meaning.specs.Shape.{Head, head, Shape, Bound, kind_of, shape, shape_of, in_fields, in_parts, Parts, extended, site_at, moves, copied_or_moved, operand_of_bound, operand_at}
+use Rattle.src_meaning.specs.Scopes.{Scope, Scopes, with_scope, innermost, around_innermost, with_entry, Breaks, Continues, Returns}
+use Rattle.src_meaning.specs.Shape.{Head, head, Shape, Bound, kind_of, shape, shape_of, in_fields, in_parts, extended, site_at, moves, copied_or_moved, operand_of_bound, operand_at}
 use Rattle.cfg_code.specs.Code as code
 use Rattle.cfg_code.specs.Code.{field_keys, moved_fields}
 use Rattle.cfg_code.specs.Rules.{EvaluatesAt, ReachesAt, ArmsAt, NodeCode, CodeIfAny, no_code, a_code, Delivers, PutsUnit, PutsUnitIf, InOwnScope, AloneAt, pending_if, completed, OperandAt, OperandsAt, taken, ActingAt, DroppingAt, TemporaryAt, UseAt, array_around, ElementAt, BorrowAt, UnitAfterAt, ReplacesAt, AssignAt, IfAt, BranchesAt, ConditionAt, BranchAt, TestsAt, BindsAt, TouchedAt, ScrutinisedAt, PanicsAt, IfTakenAt, ArmsInOrderAt, MatchAt, TakenArmAt, IfTakenElse, GuardedAt, ArmAt, StatementsAt, TailAt, BlockAt, EvaluatingAt, named, LetNameAt, LetPartsAt, EmptiedAt, DeclaredAt, LetValueAt, LetAt, LoopAt, JumpValueAt}
 use Rattle.cfg_code.specs.Rules as rules
-use Rattle.cfg_code.specs.Spots.{Target, Pos, Ways, ways_of, Spot, HasNoEnd, Then, Changes, After, Nothing, BackIn, panic_drops, StepAt, Leads, stays, goes, Joins, Acts, DropsAt, Left, InScope, JumpAt}
+use Rattle.cfg_code.specs.Spots.{Target, Pos, Ways, Spot, Then, After, Nothing, BackIn, panic_drops, StepAt, Leads, Joins, Acts, InScope}
 use Rattle.cfg_build.specs.Build as build
 use Rattle.cfg_build.specs.Build.{Frame, Rest, Building, ending, closed, closing, way_of, jumps_if, Lowers, change, nothing, from_changed, back_in, then_lower, joined, branches, looped, outer, act, drop_one, leave, in_scope, jump, panics, if_true, tests}
 use Rattle.cfg_build.specs.Lower as lower

@@ -1,5 +1,5 @@
 -- The jumps of what is lowered name the loops that those of the source name: none, where each names a loop around it.
-use Rattle.std.proofs.Common.{◌≡◌, ℕ, Bool, true, false, ◌&&◌, ◌||◌, ◌==◌, not, List, [], ◌∷◌, ◌++◌, refl, sym, ap, ◌∙◌, subst, inl, inr, arith, if◌then◌else◌}
+use Rattle.std.proofs.Common.{◌≡◌, ℕ, Bool, true, false, ◌&&◌, ◌||◌, ◌==◌, List, [], ◌∷◌, ◌++◌, refl, ap, inl, inr, arith, if◌then◌else◌}
 use Rattle.std.proofs.lemmas.Bool.Decides.{eqb_tells}
 use Rattle.store_model.specs.Effects as effects
 use Rattle.store_model.specs.Effects.{Site, Action}
@@ -9,7 +9,7 @@ use Rattle.typed_tree.specs.Tree.{Form, Nodes, no_node, a_node, Fields, no_field
 use Rattle.mir_base.specs.declared.trace.Why.{Why}
 use Rattle.mir_ty.specs.Facts.{needs_drop}
 use Rattle.src_meaning.specs.Evaluation.{in_number_order, to_own_key}
-use Rattle.src_meaning.specs.Forms.{Destination, Into, Coerced, Around, in_loop, loop_destination, in_guard, coerced, entry_of, bound_entry, site_in, site_of_key, moved, is_never}
+use Rattle.src_meaning.specs.Forms.{Destination, Into, Coerced, Around, in_loop, loop_destination, in_guard, coerced, bound_entry, site_in, site_of_key, moved, is_never}
 use Rattle.src_meaning.specs.Locals.OfBody.{param_key, answer_key}
 use Rattle.src_meaning.specs.Scopes.{Scope, Scopes, with_scope, innermost, around_innermost, with_entry, Exit, Value, Breaks, Continues, Returns, Panics}
 use Rattle.src_meaning.specs.Shape.{Head, head, Shape, Bound, kind_of, shape, shape_of, site_at, operand_of_bound, operand_at}
@@ -380,8 +380,8 @@ module _ (f : Frame) where
           evaluated = l.evaluated;
           reached = l.reached;
           armed = λ matched around to.
-            guarded_in f loops around ((M pattern).shape.bindings matched) (lower.lower_if_any f guard) (if_any_in loops guard b.0) _
-            (taken_in f loops h around ((M pattern).shape.bindings matched) (M m) (node_in loops m b.1) to);
+              guarded_in f loops around ((M pattern).shape.bindings matched) (lower.lower_if_any f guard) (if_any_in loops guard b.0) _
+              (taken_in f loops h around ((M pattern).shape.bindings matched) (M m) (node_in loops m b.1) to);
         }
     form_in loops (tree.Loop m) h s e =
         let m_in = node_in (h.id ∷ loops) m e in

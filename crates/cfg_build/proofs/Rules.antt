@@ -19,10 +19,10 @@ use Rattle.store_model.specs.Effects.{Site, Action}
 use Rattle.store_model.specs.Places.Place.{Step, ToPart, ToField, ToContent, ToElement, whole_local}
 use Rattle.src_meaning.specs.Forms.{site_of_key, moved}
 use Rattle.src_meaning.specs.Locals.Effects.{step_at, site_at, operand_at, action_at}
-use Rattle.src_meaning.specs.Scopes.{Entry, Scope, Scopes, with_scope, needing_drop, all_entries, entry_site, Exit, Value, Breaks, Continues, Returns, Panics}
+use Rattle.src_meaning.specs.Scopes.{Entry, Scope, Scopes, with_scope, needing_drop, entry_site, Exit, Value, Breaks, Continues, Returns, Panics}
 use Rattle.src_meaning.specs.Shape.{PatternTest, IsVariant, IsNumber, IsTruth, AnyOf, PatternTests, no_test, a_test, Alternatives, no_alternative, an_alternative}
-use Rattle.cfg_code.specs.Rules.{taken, StoresAt, StoresUnwindingAt, ReplacesAt, IfAt, CaseAt, BranchesAt, EqualsAt, TestAt, TestsAt, AnyTestAt, PanicsAt, LoopAt}
-use Rattle.cfg_code.specs.Spots.{Target, Pos, Way, Ways, loop_ways, ways_of, ways_in_loop, Spot, HasNoEnd, Then, Changes, After, Nothing, BackIn, action_of_term, node_at, panic_drops, StepAt, TurnAt, EntersAt, TermAt, StmtAt, Leads, stays, goes, Joins, CleanAt, Cleans, IsLast, ActionTermAt, Acts, by_statement, by_terminator, by_last_statement, by_last_terminator, DropsAt, AllDropAt, Left, Scoped, InScope, leaves_one, LeavesTo, JumpAt}
+use Rattle.cfg_code.specs.Rules.{taken, StoresAt, ReplacesAt, IfAt, BranchesAt, EqualsAt, TestAt, TestsAt, AnyTestAt, PanicsAt, LoopAt}
+use Rattle.cfg_code.specs.Spots.{Target, Pos, Way, Ways, loop_ways, ways_of, ways_in_loop, Spot, HasNoEnd, Then, Changes, After, Nothing, BackIn, action_of_term, panic_drops, StepAt, EntersAt, TermAt, Leads, stays, goes, Joins, CleanAt, Cleans, IsLast, ActionTermAt, Acts, by_statement, by_terminator, by_last_statement, by_last_terminator, DropsAt, AllDropAt, Left, Scoped, InScope, leaves_one, LeavesTo, JumpAt}
 use Rattle.cfg_build.specs.Build as build
 use Rattle.cfg_build.specs.Build.{Frame, Line, Rest, Made, Building, ending, with_line, made, next_number, closed, closing, reserved, filled, same_entries, chain_among, kept_chain, chain_or, way_of, naming, names, breaks_from, is_left_by, outside, jumps_if, Lowers, Done, ByStmt, ByTerm, change, nothing, from_changed, back_in, then_build, then_lower, joined, after_either, branches, with_exit, looped, step_of, place_of, done_by, chain, unwind_to, unwinding, done, is_last, act_by, act, drop_one, drop_all, outer, leave_from, leave, scoped, in_scope, leaves_to, exits, jump, panics, if_true, compared, equals, test, tests, any_test, put_into, replaces_from, stores, replaces}
 

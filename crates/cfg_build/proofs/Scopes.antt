@@ -13,7 +13,7 @@ use Rattle.mir_base.specs.declared.trace.Why.{Why}
 use Rattle.src_meaning.specs.Forms.{Destination, Into, Coerced, Around, in_loop, loop_destination, coerced, entry_of, bound_entry, site_in, site_of_key, moved, is_never, changed_if}
 use Rattle.src_meaning.specs.Scopes.{Scope, Scopes, with_scope, innermost, around_innermost, nearest_from, nearest_temporary, with_entry, with_pending, without_pending, becomes_entry, without_operands, Exit, Breaks, Continues, Returns}
 use Rattle.src_meaning.specs.Shape.{Head, head, Shape, Bound, kind_of, shape, shape_of, site_at, operand_of_bound, operand_at}
-use Rattle.store_model.specs.Places.Place.{Place, whole_local}
+use Rattle.store_model.specs.Places.Place.{whole_local}
 use Rattle.cfg_build.specs.Build as build
 use Rattle.cfg_build.specs.Build.{Frame, Lowers, Done, after_either, act, act_by, outer, is_last, done_by}
 use Rattle.cfg_build.specs.Lower as lower

@@ -1,7 +1,7 @@
 -- How a body of a graph is built (the rustc development guide, "MIR construction"): from the end of the code to its
 -- beginning. What stands from a place on to the end of its block is a rest of lines; a block gets its number as it is
 -- closed. So each edge but that to a turn block leads to a smaller number, and a number can be a rank.
-use Rattle.std.specs.Prelude.{ℕ, suc, ◌==◌, nat_lt, not, Bool, true, false, ◌&&◌, ◌||◌, List, [], ◌∷◌, ◌++◌, length, map, Option, Some, None, slice_set, if◌then◌else◌}
+use Rattle.std.specs.Prelude.{ℕ, ◌==◌, nat_lt, not, Bool, true, false, ◌&&◌, ◌||◌, List, [], ◌∷◌, ◌++◌, length, map, Option, Some, None, slice_set, if◌then◌else◌}
 use Rattle.cfg_graph.specs.declared.graph.Block.{Block}
 use Rattle.cfg_graph.specs.declared.graph.Kind.{Kind}
 use Rattle.cfg_graph.specs.declared.place.Operand as graph_operand
@@ -21,7 +21,7 @@ use Rattle.store_model.specs.Effects.{Site, Action, stores_where}
 use Rattle.store_model.specs.Places.Place.{Step, ToPart, ToField, ToContent, ToElement}
 use Rattle.src_meaning.specs.Forms.{site_of_key, moved}
 use Rattle.src_meaning.specs.Locals.Effects.{action_at}
-use Rattle.src_meaning.specs.Scopes.{Entry, Scope, Scopes, with_scope, innermost, without_operands, all_entries, needing_drop, entry_site, Exit, Breaks, Continues}
+use Rattle.src_meaning.specs.Scopes.{Entry, Scopes, with_scope, innermost, without_operands, all_entries, needing_drop, entry_site, Exit, Breaks, Continues}
 use Rattle.src_meaning.specs.Shape.{PatternTest, IsVariant, IsNumber, IsTruth, AnyOf, PatternTests, no_test, a_test, Alternatives, no_alternative, an_alternative}
 use Rattle.cfg_code.specs.Spots.{Way, Ways, ways_of, ways_in_loop}
 

@@ -1,6 +1,6 @@
 -- The laws of the lowering: the raw graph of a typed program runs as the program does, and each of its bodies walks
 -- as the body of the program runs freely.
-use Rattle.std.specs.Prelude.{◌≡◌, ◌≢◌, ℕ, ℤ, Bool, List, [], Some, slice_get, Contains}
+use Rattle.std.specs.Prelude.{◌≡◌, ℕ, ℤ, Bool, true, List, Some, slice_get, Contains}
 use Rattle.cfg_graph.specs.declared.graph.Block.{Block}
 use Rattle.cfg_graph.specs.Edges.{IsRanked, targets}
 use Rattle.cfg_meaning.specs.Programs.{raw_graph_run, free_walk}
@@ -9,15 +9,16 @@ use Rattle.mir_ty.specs.ItemTable.{ItemTable}
 use Rattle.typed_tree.specs.Tree.{BodyTree, ProgramTree}
 use Rattle.src_meaning.specs.Programs.{source, free_run, reached_by, refused_of}
 use Rattle.cfg_code.specs.Laws.{without_place, outcome_without_place}
-use Rattle.cfg_build.specs.Lower.{frame, entire_function, body_of, node_of, graph_of}
+use Rattle.cfg_build.specs.Loops.{names_its_loops}
+use Rattle.cfg_build.specs.Lower.{body_of, node_of, graph_of}
 
 -- each jump of a body names a loop around it
-abbrev pub NamesItsLoops : ItemTable → BodyTree → Type 0
-NamesItsLoops items tree = (entire_function (frame items tree) tree).jumps ≡ []
+abbrev pub NamesItsLoops : BodyTree → Type 0
+NamesItsLoops tree = names_its_loops tree ≡ true
 
 abbrev pub AllNameTheirLoops : ProgramTree → Type 0
 AllNameTheirLoops program =
-    (n : ℕ) (tree : BodyTree) → slice_get program.bodies n ≡ Some tree → NamesItsLoops program.items tree
+    (n : ℕ) (tree : BodyTree) → slice_get program.bodies n ≡ Some tree → NamesItsLoops tree
 
 -- with the same numbers to be asked and the same ticks, the trace and the end are the same
 abbrev pub LoweredRunsAsItsSource : Type 0
@@ -29,7 +30,7 @@ LoweredRunsAsItsSource =
 -- with the same choices a free walk ends as the free run does, and meets the same refused use, at the same node
 abbrev pub LoweredWalksAsItRunsFreely : Type 0
 LoweredWalksAsItRunsFreely =
-    (items : ItemTable) (tree : BodyTree) → NamesItsLoops items tree → (list : List Bool) →
+    (items : ItemTable) (tree : BodyTree) → NamesItsLoops tree → (list : List Bool) →
     (renamed without_place (free_walk items (node_of items tree) (body_of items tree) list)
     ≡ renamed without_place (free_run items tree list))
     × (refused_of (free_walk items (node_of items tree) (body_of items tree) list) ≡ reached_by items tree list)
@@ -37,7 +38,7 @@ LoweredWalksAsItRunsFreely =
 -- each edge but that to a turn block lowers the rank, and none leads to block 0
 abbrev pub LoweredIsRanked : Type 0
 LoweredIsRanked =
-    (items : ItemTable) (tree : BodyTree) → NamesItsLoops items tree →
+    (items : ItemTable) (tree : BodyTree) → NamesItsLoops tree →
     IsRanked (body_of items tree)
     × ((n : ℕ) (block : Block) → slice_get (body_of items tree).blocks n ≡ Some block →
     Contains (targets block.term) 0 → ⊥)

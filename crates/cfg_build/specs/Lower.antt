@@ -1,6 +1,6 @@
 -- The lowering, as a function on typed trees: one line a form, over the rules of `Build`, beside the lines of
 -- `src_meaning/specs/Evaluation` and of `cfg_code/specs/Code`; of bodies, and of programs.
-use Rattle.std.specs.Prelude.{ℕ, suc, not, Bool, true, false, ◌&&◌, ◌||◌, List, [], ◌∷◌, ◌++◌, length, map, Option, Some, None, slice_get, unwrap_or}
+use Rattle.std.specs.Prelude.{ℕ, not, Bool, true, false, ◌&&◌, ◌||◌, List, [], ◌∷◌, ◌++◌, length, map, slice_get, unwrap_or}
 use Rattle.cfg_graph.specs.declared.graph.Block.{Block}
 use Rattle.cfg_graph.specs.declared.graph.Body.{Body}
 use Rattle.cfg_graph.specs.declared.graph.Graph.{Graph}
@@ -17,11 +17,11 @@ use Rattle.typed_tree.specs.Tree.{Node, node, Form, Nodes, no_node, a_node, Fiel
 use Rattle.src_meaning.specs.Evaluation.{in_number_order, to_own_key}
 use Rattle.src_meaning.specs.Forms.{Destination, Into, Coerced, coerced, Around, in_loop, loop_destination, in_guard, entry_of, bound_entry, site_in, site_of_key, moved, is_never, changed_if}
 use Rattle.src_meaning.specs.Locals.OfBody.{param_key, answer_key, local_of, local_tys}
-use Rattle.src_meaning.specs.Scopes.{Scope, Scopes, with_scope, innermost, around_innermost, nearest_temporary, with_entry, with_pending, without_pending, becomes_entry, without_operands, Exit, Breaks, Continues, Returns}
+use Rattle.src_meaning.specs.Scopes.{Scope, Scopes, with_scope, innermost, around_innermost, nearest_temporary, with_entry, with_pending, without_pending, becomes_entry, Exit, Breaks, Continues, Returns}
 use Rattle.src_meaning.specs.Shape.{Head, head, Shape, Bound, kind_of, shape, shape_of, site_at, operand_of_bound, operand_at}
 use Rattle.cfg_code.specs.Code.{field_keys, moved_fields}
 use Rattle.cfg_code.specs.Spots.{Ways, body_ways}
-use Rattle.cfg_build.specs.Build.{Frame, Rest, Made, Building, ending, with_line, made, next_number, closed, closing, reserved, filled, jumps_if, Lowers, change, nothing, from_changed, back_in, then_lower, joined, branches, looped, panic_drops, unwinding, act, drop_one, leave, scoped, in_scope, jump, panics, if_true, tests, taken, replaces}
+use Rattle.cfg_build.specs.Build.{Frame, Rest, Made, Building, ending, closed, closing, reserved, filled, jumps_if, Lowers, change, nothing, from_changed, back_in, then_lower, joined, branches, looped, panic_drops, unwinding, act, drop_one, leave, in_scope, jump, panics, if_true, tests, taken, replaces}
 
 abbrev pub Evaluates : Type 0
 Evaluates = Around → Bool → Destination → Lowers

@@ -5,7 +5,7 @@ use Rattle.mir_base.specs.declared.trace.End.{End}
 use Rattle.mir_base.specs.declared.trace.Event.TheVariants.{Call as call, Return as return, Unwind as unwind, Make as make, Dropped as drop, Panicked as panic, Asked as asked}
 use Rattle.mir_base.specs.declared.trace.Why.{Why}
 use Rattle.typed_tree.specs.declared.node.Use.{Use}
-use Rattle.typed_tree.specs.Tree.{absent, present, Variable, Comparison, Assign, Ask, If, Return, ProgramTree}
+use Rattle.typed_tree.specs.Tree.{absent, Variable, Comparison, Assign, Ask, If, Return, ProgramTree}
 use Rattle.cfg_meaning.specs.Programs.{raw_graph_run}
 use Rattle.cfg_build.specs.Lower.{graph_of}
 use Rattle.cfg_build.proofs.Examples.Words.{n, used, a_name, unit, bool, i32, never, n_ty, let_, stmt, block, number, nn, program}

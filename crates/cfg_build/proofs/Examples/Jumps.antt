@@ -1,12 +1,12 @@
 -- Jumps out of loops, and what stands behind a call that does not return.
-use Rattle.std.proofs.Common.{◌≡◌, refl, [], ◌∷◌, pos, length, true}
+use Rattle.std.proofs.Common.{◌≡◌, refl, [], ◌∷◌, pos}
 use Rattle.std.specs.Prelude.{codes}
 use Rattle.mir_base.specs.declared.operator.Cmp.{Cmp}
 use Rattle.mir_base.specs.declared.trace.End.{End}
 use Rattle.mir_base.specs.declared.trace.Event.TheVariants.{Call as call, Return as return, Unwind as unwind, Make as make, Dropped as drop, Panicked as panic, Asked as asked, Printed as printed}
 use Rattle.mir_base.specs.declared.trace.Why.{Why}
 use Rattle.typed_tree.specs.declared.node.Use.{Use}
-use Rattle.typed_tree.specs.Tree.{no_node, absent, present, Variable, Comparison, Call, Print, Ask, Panic, Block, If, Loop, While, Break, Continue, Truth, ProgramTree}
+use Rattle.typed_tree.specs.Tree.{no_node, absent, present, Variable, Comparison, Call, Print, Ask, Panic, Block, If, Loop, Break, Continue, ProgramTree}
 use Rattle.cfg_meaning.specs.Programs.{raw_graph_run}
 use Rattle.cfg_build.specs.Lower.{graph_of}
 use Rattle.cfg_build.proofs.Examples.Words.{n, used, a_name, unit, bool, i32, never, n_ty, let_, stmt, block, number, nn, signature, program}

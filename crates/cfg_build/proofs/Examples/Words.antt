@@ -1,18 +1,16 @@
 -- Words in which the examples write typed trees, and what they begin with: a struct whose `Drop` body panics at a negative number.
 --     struct N(i32);
 --     impl Drop for N { fn drop(&mut self) { if self.0 < 0 { panic!() } } }
-use Rattle.std.specs.Prelude.{ℕ, ◌+◌, ℤ, pos, List, [], ◌∷◌, ◌++◌, Option, Some, None, true, false, codes}
+use Rattle.std.specs.Prelude.{ℕ, ◌+◌, ℤ, pos, List, [], ◌∷◌, Some, None, false, codes}
 use Rattle.mir_base.specs.declared.int_kind.IntKind.{IntKind}
 use Rattle.mir_base.specs.declared.operator.Cmp.{Cmp}
 use Rattle.mir_base.specs.declared.place_in_text.Pos.{Pos}
 use Rattle.mir_ty.specs.declared.adt.Adt.{Adt}
-use Rattle.mir_ty.specs.declared.adt.Variant.{Variant}
 use Rattle.mir_ty.specs.declared.def.Sig.{Sig}
 use Rattle.mir_ty.specs.declared.ty.Ty.{Ty}
 use Rattle.mir_ty.specs.declared.ty.TyId.{TyId}
-use Rattle.mir_ty.specs.ItemTable.{ItemTable}
 use Rattle.typed_tree.specs.declared.node.Use.{Use}
-use Rattle.typed_tree.specs.Tree.{Node, node, Form, Nodes, no_node, a_node, no_field, a_field, absent, present, Number, Variable, Field, Deref, Comparison, Make, Panic, Block, If, Let, Evaluate, Binding, ParamTree, BodyTree, ProgramTree}
+use Rattle.typed_tree.specs.Tree.{Node, node, Form, Nodes, no_node, a_node, no_field, a_field, absent, present, Number, Variable, Field, Deref, Comparison, Make, Panic, Block, If, Let, Evaluate, Binding, BodyTree, ProgramTree}
 
 -- The examples have no text, so all nodes stand at one place.
 abbrev here : Pos
