@@ -1,17 +1,18 @@
 -- A body that is lowered holds the code of its source, is ranked, and has no edge to block 0. So a program that is lowered runs as its
 -- source does.
-use Rattle.std.proofs.Common.{◌≡◌, ◌⊎◌, inl, inr, ℕ, zero, suc, ◌<◌, ◌≤◌, ◌==◌, Bool, true, false, List, [], ◌∷◌, ◌++◌, length, map, Option, Some, None, slice_get, unwrap_or, cond, not, nat_lt, ◌+◌, Contains, length-append, add-one, refl, sym, ap, ◌∙◌, subst, arith}
+use Rattle.std.proofs.Common.{◌≡◌, ◌⊎◌, ◌&&◌, inl, inr, ℕ, zero, suc, ◌<◌, ◌≤◌, ◌==◌, Bool, true, false, List, [], ◌∷◌, ◌++◌, length, map, Option, Some, None, slice_get, unwrap_or, cond, not, nat_lt, ◌+◌, Contains, length-append, add-one, refl, sym, ap, ◌∙◌, subst, arith}
 use Rattle.std.proofs.lemmas.Bool.Decides.{eqb_tells}
-use Rattle.std.proofs.lemmas.Option.{none-some, same_Some}
+use Rattle.std.proofs.lemmas.Option.{none-some, same_Some, slice_get_within}
 use Rattle.std.specs.Option.{option_map_or}
-use Rattle.std.specs.List.{position, prefix_len}
+use Rattle.std.specs.List.{list_all, position, prefix_len}
 use Rattle.std.proofs.lemmas.Bool.{lt-ltb}
 use Rattle.mir_ty.proofs.ListLemmas.{slice_get-Contains}
 use Rattle.cfg_graph.specs.declared.graph.Block.{Block}
 use Rattle.cfg_graph.specs.declared.graph.Body.{Body}
 use Rattle.cfg_graph.specs.declared.graph.Kind.{Kind}
 use Rattle.cfg_graph.specs.declared.terminator.Term.{Term}
-use Rattle.cfg_graph.specs.Edges.{IsRanked, is_turn, targets}
+use Rattle.cfg_graph.specs.Edges.{IsRanked, is_cleanup, is_cleanup_kind, is_turn, onward, targets, unwind_targets}
+use Rattle.cfg_graph.specs.WellFormed.Cleanup.{keeps_to_cleanup}
 use Rattle.mir_ty.specs.ItemTable.{ItemTable}
 use Rattle.typed_tree.specs.Tree.{BodyTree, ProgramTree}
 use Rattle.src_meaning.specs.Locals.OfBody.{answer_key, local_of, local_tys}
@@ -22,7 +23,7 @@ use Rattle.cfg_code.specs.Code.{BodyAt, FunctionAt}
 use Rattle.cfg_code.specs.Laws.{target_of, HoldsBody, HoldsProgram}
 use Rattle.cfg_code.specs.Spots.{Target, body_ways, StepAt, stays, goes, Joins}
 use Rattle.cfg_build.specs.Build.{Frame, Rest, Made, Building, ending, made, reserved, Lowers}
-use Rattle.cfg_build.specs.Laws.{NamesItsLoops, AllNameTheirLoops, LoweredRunsAsItsSource, LoweredWalksAsItRunsFreely, LoweredIsRanked}
+use Rattle.cfg_build.specs.Laws.{NamesItsLoops, AllNameTheirLoops, LoweredRunsAsItsSource, LoweredWalksAsItRunsFreely, LoweredIsRanked, LoweredKeepsToCleanup}
 use Rattle.cfg_build.specs.Lower as lower
 use Rattle.cfg_build.specs.Lower.{frame, entire_function, start, built, blocks_of, nodes_of, body_of, node_in, node_of, graph_of}
 use Rattle.cfg_build.proofs.Forms.{function_at, function_lowers}
@@ -195,6 +196,99 @@ module _ (items : ItemTable) (tree : BodyTree) (named : NamesItsLoops tree) wher
       let l = (block_well m to d).1 g.0 plain in
       omega arith
 
+  -- ---- cleanup blocks
+  abbrev AllStand : List ℕ → Type 0
+  AllStand [] = Unit {0}
+  AllStand (m ∷ ms) = (m < length t.body.blocks) × AllStand ms
+
+  all_stand : (x : Bool) (ms : List ℕ) → rules.AllKind t x ms → AllStand ms
+  all_stand x [] h = tt
+  all_stand x (m ∷ ms) h = (slice_get_within t.body.blocks m h.0.0 h.0.1, all_stand x ms h.1)
+
+  stand_append : (ms ns : List ℕ) → AllStand ms → AllStand ns → AllStand (ms ++ ns)
+  stand_append [] ns h k = k
+  stand_append (m ∷ ms) ns h k = (h.0, stand_append ms ns h.1 k)
+
+  stands_in : (ms : List ℕ) → AllStand ms → (i m : ℕ) → slice_get ms i ≡ Some m → m < length t.body.blocks
+  stands_in [] h i m e = absurd (none-some m e)
+  stands_in (n ∷ ms) h zero m e = subst (λ n. n < length t.body.blocks) (same_Some n m e) h.0
+  stands_in (n ∷ ms) h (suc i) m e = stands_in ms h.1 i m e
+
+  both : (a b : Bool) → a ≡ true → b ≡ true → a && b ≡ true
+  both true b e d = d
+  both false b e d = e
+
+  all_kind : (p : Block → Bool) (x : Bool) → ((block : Block) → is_cleanup block ≡ x → p block ≡ true) → (ns : List ℕ) → rules.AllKind t x ns →
+      list_all (λ n. option_map_or p (slice_get t.body.blocks n) true) ns ≡ true
+  all_kind p x holds [] h = refl
+  all_kind p x holds (n ∷ ns) h = both _ _ (ap (λ o. option_map_or p o true) h.0.1 ∙ holds h.0.0 h.0.2) (all_kind p x holds ns h.1)
+
+  none_clean : (ns : List ℕ) → rules.AllKind t false ns → list_all (λ n. option_map_or (λ block. not (is_cleanup block)) (slice_get t.body.blocks n) true) ns ≡ true
+  none_clean ns h = all_kind (λ block. not (is_cleanup block)) false (λ block e. ap not e) ns h
+
+  all_clean : (ns : List ℕ) → rules.AllKind t true ns → list_all (λ n. option_map_or is_cleanup (slice_get t.body.blocks n) true) ns ≡ true
+  all_clean ns h = all_kind is_cleanup true (λ block e. e) ns h
+
+  abbrev ended : Kind → Term → Block
+  ended kind term = record { kind = kind; rank = 0; stmts = []; term = term }
+
+  keeps_plain : (term : Term) → rules.LeadsWell t term → keeps_to_cleanup t.body (ended Kind.Plain term) ≡ true
+  keeps_plain (Term.Goto n) h = both _ _ (none_clean (onward (Term.Goto n)) h.0) (all_clean (unwind_targets (Term.Goto n)) h.1)
+  keeps_plain (Term.If on y n) h = both _ _ (none_clean (onward (Term.If on y n)) h.0) (all_clean (unwind_targets (Term.If on y n)) h.1)
+  keeps_plain (Term.Case on variant y n) h = both _ _ (none_clean (onward (Term.Case on variant y n)) h.0) (all_clean (unwind_targets (Term.Case on variant y n)) h.1)
+  keeps_plain (Term.Math to op left right n u) h = both _ _ (none_clean (onward (Term.Math to op left right n u)) h.0) (all_clean (unwind_targets (Term.Math to op left right n u)) h.1)
+  keeps_plain (Term.Negate to of n u) h = both _ _ (none_clean (onward (Term.Negate to of n u)) h.0) (all_clean (unwind_targets (Term.Negate to of n u)) h.1)
+  keeps_plain (Term.Bounds index count n u) h = both _ _ (none_clean (onward (Term.Bounds index count n u)) h.0) (all_clean (unwind_targets (Term.Bounds index count n u)) h.1)
+  keeps_plain (Term.Call to body args n u) h = both _ _ (none_clean (onward (Term.Call to body args n u)) h.0) (all_clean (unwind_targets (Term.Call to body args n u)) h.1)
+  keeps_plain (Term.Virtual to trait_no method args n u) h = both _ _ (none_clean (onward (Term.Virtual to trait_no method args n u)) h.0) (all_clean (unwind_targets (Term.Virtual to trait_no method args n u)) h.1)
+  keeps_plain (Term.Ask to n u) h = both _ _ (none_clean (onward (Term.Ask to n u)) h.0) (all_clean (unwind_targets (Term.Ask to n u)) h.1)
+  keeps_plain (Term.DropAt place n u) h = both _ _ (none_clean (onward (Term.DropAt place n u)) h.0) (all_clean (unwind_targets (Term.DropAt place n u)) h.1)
+  keeps_plain (Term.Panic why u) h = both _ _ (none_clean (onward (Term.Panic why u)) h.0) (all_clean (unwind_targets (Term.Panic why u)) h.1)
+  keeps_plain Term.Return h = refl
+  keeps_plain Term.Resume h = absurd (let never : true ≡ false = h.2 in cc)
+
+  keeps_clean : (term : Term) → rules.CleansUp t term → (keeps_to_cleanup t.body (ended Kind.Cleanup term) ≡ true) × AllStand (targets term)
+  keeps_clean (Term.Goto n) h = (all_clean (n ∷ []) (h, tt), (slice_get_within t.body.blocks n h.0 h.1, tt))
+  keeps_clean (Term.If on y n) h = absurd h
+  keeps_clean (Term.Case on variant y n) h = absurd h
+  keeps_clean (Term.Math to op left right n u) h = absurd h
+  keeps_clean (Term.Negate to of n u) h = absurd h
+  keeps_clean (Term.Bounds index count n u) h = absurd h
+  keeps_clean (Term.Call to body args n u) h = absurd h
+  keeps_clean (Term.Virtual to trait_no method args n u) h = absurd h
+  keeps_clean (Term.Ask to n u) h = absurd h
+  keeps_clean (Term.DropAt place n u) h =
+      subst (λ u. (keeps_to_cleanup t.body (ended Kind.Cleanup (Term.DropAt place n u)) ≡ true) × AllStand (targets (Term.DropAt place n u))) (sym h.1)
+      (all_clean (n ∷ []) (h.0, tt), (slice_get_within t.body.blocks n h.0.0 h.0.1, tt))
+  keeps_clean (Term.Panic why u) h = absurd h
+  keeps_clean Term.Return h = absurd h
+  keeps_clean Term.Resume h = (refl, tt)
+
+  keeps : (block : Block) → rules.EndsWell t (is_cleanup block) block.term → (keeps_to_cleanup t.body block ≡ true) × AllStand (targets block.term)
+  keeps block h = by_kind block.kind h
+    where
+      by_kind : (kind : Kind) → rules.EndsWell t (is_cleanup_kind kind) block.term → (keeps_to_cleanup t.body (ended kind block.term) ≡ true) × AllStand (targets block.term)
+      by_kind Kind.Plain h = (keeps_plain block.term h, stand_append (onward block.term) (unwind_targets block.term) (all_stand false (onward block.term) h.0) (all_stand true (unwind_targets block.term) h.1))
+      by_kind Kind.Turn h = (keeps_plain block.term h, stand_append (onward block.term) (unwind_targets block.term) (all_stand false (onward block.term) h.0) (all_stand true (unwind_targets block.term) h.1))
+      by_kind Kind.Cleanup h = keeps_clean block.term h
+
+  start_tidy : rules.Tidy t begun
+  start_tidy = rules.closed_tidy t Kind.Plain (ending Term.Return (answer_key tree)) (reserved (record { blocks = []; chains = [] }))
+      (rules.reserved_tidy t (record { blocks = []; chains = [] }) (record { blocks = λ n m e. absurd (none-some (Some m) e); chains = λ es n e. absurd (none-some n e) })) (tt, tt, refl)
+
+  return_plain : rules.KindAt t false 1
+  return_plain = (returning.block, return_at.0, refl)
+
+  code_tidy : rules.TidyAfter t r
+  code_tidy = lowered.tidies (body_ways 1) S last begun (return_plain, subst (λ jumps. rules.AllWays (rules.PlainWay t) (body_ways 1) jumps) (sym (no_jumps F tree named)) tt) later_code start_tidy ((return_plain, tt), tt, refl)
+
+  ends_well : (n : ℕ) (block : Block) → slice_get (body_of items tree).blocks n ≡ Some block → rules.EndsWell t (is_cleanup block) block.term
+  ends_well n block e = let h = from_mapped _ z.blocks n block e in by_made h.0 h.1 h.2
+    where
+      by_made : (o : Option Made) → slice_get z.blocks n ≡ Some o → (unwrap_or o lower.unmade).block ≡ block → rules.EndsWell t (is_cleanup block) block.term
+      by_made None e h = subst (λ block. rules.EndsWell t (is_cleanup block) block.term) h (tt, tt, refl)
+      by_made (Some m) e h = subst (λ block. rules.EndsWell t (is_cleanup block) block.term) h ((rules.filled_tidy t Kind.Plain 0 r.0 r.1 code_tidy.0 code_tidy.1).blocks n m e)
+
   holds : HoldsBody items tree (body_of items tree) (node_of items tree)
   holds = record { ranked = is_ranked; params = refl; locals = refl; holds_code = holds_code }
 
@@ -227,3 +321,8 @@ lowered_walks_as_it_runs_freely items tree named list = walks_as_it_runs_freely 
 
 pub lowered_is_ranked : LoweredIsRanked
 lowered_is_ranked items tree named = (is_ranked items tree named, no_first items tree named)
+
+pub lowered_keeps_to_cleanup : LoweredKeepsToCleanup
+lowered_keeps_to_cleanup items tree named n block e =
+    let h = keeps items tree named block (ends_well items tree named n block e) in
+    (h.0, λ m c. stands_in items tree named (targets block.term) h.1 c.0 m (slice_get-Contains (targets block.term) m c))

@@ -125,6 +125,8 @@ module _ (t : Target) where
         (a.has_end ≡ true → (S' ≡ S) × ((m : Pos) → built.Stands t k m → Leads t m b')) → spot (r, 0) c S b S' b')
     pub ranks : (c : Ways) (S : Scopes) (r : ℕ) (k : Rest) (s : Building) → JumpWays (BlockGiven (length s.blocks)) c a.jumps → Ranked s → LeadsOn k s → Given (length s.blocks) r →
         Ranked (a.build c S r k s).1 × LeadsOn (a.build c S r k s).0 (a.build c S r k s).1
+    pub tidies : (c : Ways) (S : Scopes) (r : ℕ) (k : Rest) (s : Building) → JumpWays (built.PlainWay t) c a.jumps → built.Later t (a.build c S r k s).1 → built.Tidy t s → built.LeadsWell t k.term →
+        built.KindAt t false r → built.TidyAfter t (a.build c S r k s)
 
   abbrev pub LowersE : Evaluates → EvaluatesAt → Type 0
   LowersE e P = (around : Around) (own : Bool) (to : Destination) → L (e around own to) (λ c. P around c own to)
@@ -160,13 +162,13 @@ module _ (t : Target) where
   deliver_at_lowers n h action one (Into key) = into_key (built.act_lowered t n (action (site_in h.id key)) (one key))
     where
       into_key : L (act f n (action (site_in h.id key))) (λ c. Acts t (action (site_in h.id key))) → L (lower.deliver_at f n h action (Into key)) (λ c. Delivers t h action (Into key))
-      into_key l = record { grows = l.grows; holds = λ c S k s. l.holds c S k s; ranks = l.ranks }
+      into_key l = record { grows = l.grows; holds = λ c S k s. l.holds c S k s; ranks = l.ranks; tidies = l.tidies }
   deliver_at_lowers n h action one (Coerced key trait_no to) = coerced_key
       (built.then_lowered t _ _ _ _ (built.act_lowered t n (action (site_in h.id key)) (one key)) (built.act_lowered t h.id (effects.Unsize (site_in h.id to) trait_no (moved h.id key)) (refl, refl)))
     where
       coerced_key : L (lower.deliver_at f n h action (Coerced key trait_no to)) (λ c. Then (Acts t (action (site_in h.id key))) (Acts t (effects.Unsize (site_in h.id to) trait_no (moved h.id key)))) →
           L (lower.deliver_at f n h action (Coerced key trait_no to)) (λ c. Delivers t h action (Coerced key trait_no to))
-      coerced_key l = record { grows = l.grows; holds = λ c S k s. l.holds c S k s; ranks = l.ranks }
+      coerced_key l = record { grows = l.grows; holds = λ c S k s. l.holds c S k s; ranks = l.ranks; tidies = l.tidies }
 
   deliver_lowers : (h : Head) (action : Site → Action) → OneNode h.id h action → (to : Destination) → L (lower.deliver f h action to) (λ c. Delivers t h action to)
   deliver_lowers h action one to = deliver_at_lowers h.id h action one to
@@ -309,6 +311,7 @@ module _ (t : Target) where
           let it = lp.holds c S k s u later chains in
           (it.0, λ b st S' b' on. built.may_join t P.has_end P sp c S S k b (it.1 b st) (same S) S' b' on);
       ranks = λ c S r k s w h l g. lp.ranks c S k s w h l;
+      tidies = λ c S r k s w later h l g. lp.tidies c S k s w later h l;
     }
 
     module _ (asked : Lowers) (sa : Ways → Spot) (key : ℕ) (la : L asked (λ c. BackIn (sa c))) (back : (S : Scopes) → asked.after S ≡ S) where
@@ -376,6 +379,16 @@ module _ (t : Target) where
           ((g.0, (let g1 = g.1 in let a = more.longer in omega arith)), ((p.0.begun, omega arith), tt))
       guard_ranks false c S r k s wa wp h l g = la.ranks c S k s wa h l
 
+      guard_tidies : (x : Bool) (c : Ways) (S : Scopes) (r : ℕ) (k : Rest) (s : Building) → JumpWays (built.PlainWay t) c asked.jumps → JumpWays (built.PlainWay t) c (jumps_if x P.jumps) →
+          built.Later t (guard_code x c S r k s).1 → built.Tidy t s → built.LeadsWell t k.term → built.KindAt t false r → built.TidyAfter t (guard_code x c S r k s)
+      guard_tidies true c S r k s wa wp later h l g =
+          let l1 = built.later_before t (done c S k s) _ (la.grows c S (test_code c S r k s).0 (done c S k s)) later in
+          let l0 = built.later_before t (P.build c S k s).1 (done c S k s) (closed_grows Kind.Plain (P.build c S k s).0 (P.build c S k s).1) l1 in
+          let p = lp.tidies c S k s wp l0 h l in
+          la.tidies c S (test_code c S r k s).0 (done c S k s) wa later (built.closed_tidy t Kind.Plain (P.build c S k s).0 (P.build c S k s).1 p.0 p.1)
+          ((g, (built.kind_stands t Kind.Plain (P.build c S k s).0 (P.build c S k s).1 l1, tt)), tt, refl)
+      guard_tidies false c S r k s wa wp later h l g = la.tidies c S k s wa later h l
+
     guarded_lowers : (around : Around) (bounds : List Bound) (g : LowerIfAny) (d : CodeIfAny) → IfAnyLowers g d →
         LoweredArm (lower.guarded f around bounds g P) (λ rest c. GuardedAt t around c bounds d (Joins t (sp c)) rest)
     guarded_lowers around bounds _ _ without = unguarded around bounds
@@ -392,6 +405,10 @@ module _ (t : Target) where
               guard_ranks asked (λ c. Pe (in_guard bounds around) c true (Into h.id)) h.id la (λ S. refl) asked.has_end c S r k s
               (ways_first (BlockGiven (length s.blocks)) c asked.jumps (jumps_if asked.has_end P.jumps) w)
               (ways_second (BlockGiven (length s.blocks)) c asked.jumps (jumps_if asked.has_end P.jumps) w) h2 l g;
+          tidies = λ c S r k s w later h2 l g.
+              guard_tidies asked (λ c. Pe (in_guard bounds around) c true (Into h.id)) h.id la (λ S. refl) asked.has_end c S r k s
+              (ways_first (built.PlainWay t) c asked.jumps (jumps_if asked.has_end P.jumps) w)
+              (ways_second (built.PlainWay t) c asked.jumps (jumps_if asked.has_end P.jumps) w) later h2 l g;
         }
 
   arm_lowers : (h : Head) (pattern : NodeLower) (dp : NodeCode) → LowersAs pattern dp → (g : LowerIfAny) (dg : CodeIfAny) → IfAnyLowers g dg → (m : NodeLower) (d : NodeCode) → LowersAs m d →
@@ -416,6 +433,14 @@ module _ (t : Target) where
         let j = closed_length Kind.Plain b.0 b.1 in
         (built.tests_made t (ps.tests matched) (length b.1.blocks) r (closed Kind.Plain b.0 b.1)).2 (closed_ranked Kind.Plain b.0 b.1 it.0 it.1) (it.0.begun, omega arith)
         (built.given_on t (length s.blocks) (length (closed Kind.Plain b.0 b.1).blocks) r (let a = (code_lowered.grows c S r k s).longer in omega arith) g);
+    tidies = λ c S r k s w later h2 l g.
+        let b = code_of.build c S r k s in
+        let made = closed Kind.Plain b.0 b.1 in
+        let test = built.tests_made t (ps.tests matched) (length b.1.blocks) r made in
+        let l1 = built.later_before t made _ test.0 later in
+        let l0 = built.later_before t b.1 made (closed_grows Kind.Plain b.0 b.1) l1 in
+        let it = code_lowered.tidies c S r k s w l0 h2 l g in
+        test.3 later (built.closed_tidy t Kind.Plain b.0 b.1 it.0 it.1) (built.kind_stands t Kind.Plain b.0 b.1 l1) g;
   }
     where
       bounds : List Bound
@@ -475,6 +500,19 @@ module _ (t : Target) where
         (ways_first (BlockGiven (length s.blocks)) c (a matched around to).jumps (lower.arm_jumps f ms matched around to) w))
         (closed_ranked Kind.Plain b.0 b.1 rest.0 rest.1) (given_more (length s.blocks) (length made.blocks) (let i = g.longer in omega arith) (targets k.term) l) (rest.0.begun, omega arith)
 
+    arms_tidy : (ms : List NodeLower) (ds : List NodeCode) → AllLower ms ds → (c : Ways) (S : Scopes) (k : Rest) (s : Building) → JumpWays (built.PlainWay t) c (lower.arm_jumps f ms matched around to) →
+        built.Later t (lower.arms_from f number ms matched around to c S k s).1 → built.Tidy t s → built.LeadsWell t k.term → built.TidyAfter t (lower.arms_from f number ms matched around to c S k s)
+    arms_tidy _ _ none_lower c S k s w later h l = let u = built.unwind_tidy t (panic_drops t S) s h later in (u.0, (tt, u.1, refl))
+    arms_tidy _ _ (one_lowers _ _ ms ds (lowers_as hd sh e r a P Q A sn se sr sa) all) c S k s w later h l =
+        let b = lower.arms_from f number ms matched around to c S k s in
+        let made = closed Kind.Plain b.0 b.1 in
+        let arm = sa matched around to in
+        let l1 = built.later_before t made _ (arm.grows c S (length b.1.blocks) k made) later in
+        let l0 = built.later_before t b.1 made (closed_grows Kind.Plain b.0 b.1) l1 in
+        let rest = arms_tidy ms ds all c S k s (ways_second (built.PlainWay t) c (a matched around to).jumps (lower.arm_jumps f ms matched around to) w) l0 h l in
+        arm.tidies c S (length b.1.blocks) k made (ways_first (built.PlainWay t) c (a matched around to).jumps (lower.arm_jumps f ms matched around to) w) later
+        (built.closed_tidy t Kind.Plain b.0 b.1 rest.0 rest.1) l (built.kind_stands t Kind.Plain b.0 b.1 l1)
+
     arms_lower : (ms : List NodeLower) (ds : List NodeCode) → AllLower ms ds → L (lower.arms_in_order f number ms matched around to) (λ c. ArmsInOrderAt t ds matched around c to)
     arms_lower ms ds all = record {
       grows = λ c S k s. let j = joined x number k s in grows_on s j.1 _ (built.joined_grows t x number k s) (arms_grow ms ds all c S j.0 j.1);
@@ -487,6 +525,10 @@ module _ (t : Target) where
           let j = joined x number k s in
           let r = built.joined_ranked t x number k s h l in
           arms_rank ms ds all c S j.0 j.1 (ways_more (length s.blocks) (length j.1.blocks) (built.joined_grows t x number k s).longer c (lower.arm_jumps f ms matched around to) w) r.0 r.1;
+      tidies = λ c S k s w later h l.
+          let j = joined x number k s in
+          let r = built.joined_tidy t x number k s (built.later_before t j.1 _ (arms_grow ms ds all c S j.0 j.1) later) h l in
+          arms_tidy ms ds all c S j.0 j.1 w later r.0 r.1;
     }
       where
         x : Bool
@@ -538,7 +580,7 @@ module _ (t : Target) where
   emptied_lowers true key = nothing_as (built.nothing_lowered t)
     where
       nothing_as : L nothing (λ c. Nothing) → L (lower.emptied f true key) (λ c. EmptiedAt t true key)
-      nothing_as l = record { grows = l.grows; holds = λ c S k s. l.holds c S k s; ranks = l.ranks }
+      nothing_as l = record { grows = l.grows; holds = λ c S k s. l.holds c S k s; ranks = l.ranks; tidies = l.tidies }
   emptied_lowers false key = record {
     grows = λ c S k s. built.two_grow t (drop_term (site_of_key key)) key (panic_drops t S) k s;
     holds = λ c S k s u later chains.
@@ -546,6 +588,7 @@ module _ (t : Target) where
         let before = built.two_later t (drop_term (site_of_key key)) key (panic_drops t S) k s later in
         (made.0, λ b st. ((length s.blocks, 0), built.closed_stands t Kind.Plain k s before, (refl, built.drop_one_at t (site_of_key key) (panic_drops t S) k s made.1 before b st)));
     ranks = λ c S k s w h l. built.two_ranked t (drop_term (site_of_key key)) key (panic_drops t S) k s (λ n u. refl) h l;
+    tidies = λ c S k s w later h l. built.two_tidy t (drop_term (site_of_key key)) key (panic_drops t S) k s (λ n u p g. ((p, tt), g, refl)) later h l;
   }
     where
       drop_term : Site → ℕ → Unwind → Term
@@ -589,6 +632,7 @@ module _ (t : Target) where
     grows = λ c S r k s. grows_not s;
     holds = λ c S r k s u later chains step. (chains, λ b st S' b' on. (b, ((on refl).0, refl), (on refl).1 b st));
     ranks = λ c S r k s w h l g. (h, l);
+    tidies = λ c S r k s w later h l g. (h, l);
   }
 
   made_lowers : (h : Head) (e : Evaluates) (P : EvaluatesAt) → LowersE e P → LowersE (lower.made_in f h e) (code.made_in t h P)

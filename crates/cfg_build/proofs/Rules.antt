@@ -9,7 +9,7 @@ use Rattle.cfg_graph.specs.declared.graph.Kind.{Kind}
 use Rattle.cfg_graph.specs.declared.statement.Stmt.{Stmt}
 use Rattle.cfg_graph.specs.declared.terminator.Term.{Term}
 use Rattle.cfg_graph.specs.declared.terminator.Unwind.{Unwind}
-use Rattle.cfg_graph.specs.Edges.{is_turn_kind, targets, unwind_block}
+use Rattle.cfg_graph.specs.Edges.{is_cleanup, is_cleanup_kind, is_turn_kind, onward, targets, unwind_block, unwind_targets}
 use Rattle.cfg_graph.specs.Places.{named_step}
 use Rattle.cfg_meaning.specs.Actions as actions
 use Rattle.mir_base.specs.declared.operator.Cmp.{Cmp}
@@ -200,6 +200,59 @@ module _ (t : Target) where
   abbrev pub ChainsStand : Building → Type 0
   ChainsStand s = (es : List Entry) (n : ℕ) → chain_among es s.chains ≡ Some n → ChainAt es n
 
+  -- ---- cleanup blocks keep to themselves
+  -- a block stands there, which is a cleanup block or is none
+  abbrev pub KindAt : Bool → ℕ → Type 0
+  KindAt x n = (block : Block) × (slice_get t.body.blocks n ≡ Some block) × (is_cleanup block ≡ x)
+
+  abbrev pub AllKind : Bool → List ℕ → Type 0
+  AllKind x [] = Unit {0}
+  AllKind x (n ∷ ns) = KindAt x n × AllKind x ns
+
+  abbrev pub PlainWay : Way → Type 0
+  PlainWay way = KindAt false way.block
+
+  abbrev pub resumes : Term → Bool
+  resumes Term.Resume = true
+  resumes _ = false
+
+  -- what ends a block that is no cleanup block: exactly a panic out of it leads to a cleanup block
+  abbrev pub LeadsWell : Term → Type 0
+  LeadsWell term = AllKind false (onward term) × AllKind true (unwind_targets term) × (resumes term ≡ false)
+
+  -- what ends a cleanup block
+  abbrev pub CleansUp : Term → Type 0
+  CleansUp (Term.Goto n) = KindAt true n
+  CleansUp (Term.DropAt place n unwind) = KindAt true n × (unwind ≡ Unwind.Abort)
+  CleansUp Term.Resume = Unit {0}
+  CleansUp _ = ⊥
+
+  abbrev pub EndsWell : Bool → Term → Type 0
+  EndsWell true term = CleansUp term
+  EndsWell false term = LeadsWell term
+
+  pub record Tidy (s : Building) : Type 0 where
+    pub blocks : (n : ℕ) (m : Made) → slice_get s.blocks n ≡ Some (Some m) → EndsWell (is_cleanup m.block) m.block.term
+    pub chains : (es : List Entry) (n : ℕ) → chain_among es s.chains ≡ Some n → KindAt true n
+
+  -- all that is made is tidy, and so is what comes next
+  abbrev pub TidyAfter : Rest × Building → Type 0
+  TidyAfter r = Tidy r.1 × LeadsWell r.0.term
+
+  pub kind_stands : (kind : Kind) (k : Rest) (s : Building) → Later (closed kind k s) → KindAt (is_cleanup_kind kind) (length s.blocks)
+  kind_stands kind k s later =
+      ((made kind (length s.blocks) k).block, (later (length s.blocks) (made kind (length s.blocks) k) (closed_at kind k s)).0, refl)
+
+  pub closed_tidy : (kind : Kind) (k : Rest) (s : Building) → Tidy s → EndsWell (is_cleanup_kind kind) k.term → Tidy (closed kind k s)
+  closed_tidy kind k s h l = record {
+    blocks = λ n m e. by_place n m (push_cases s.blocks (Some (made kind (length s.blocks) k)) n (Some m) e);
+    chains = h.chains;
+  }
+    where
+      by_place : (n : ℕ) (m : Made) → (slice_get s.blocks n ≡ Some (Some m)) ⊎ ((n ≡ length s.blocks) × (Some (made kind (length s.blocks) k) ≡ Some m)) → EndsWell (is_cleanup m.block) m.block.term
+      by_place n m (inl e) = h.blocks n m e
+      by_place n m (inr e) = subst (λ m. EndsWell (is_cleanup m.block) m.block.term) (same_Some (made kind (length s.blocks) k) m e.1) l
+
   -- ---- what is built
   abbrev pub CodeEnds : Bool → Lowers → (Ways → Spot) → Ways → Scopes → Rest → Pos → Type 0
   CodeEnds true P spot c S k b = (b' : Pos) × Stands k b' × spot c S b (P.after S) b'
@@ -208,13 +261,15 @@ module _ (t : Target) where
   abbrev pub CodeStands : Bool → Lowers → (Ways → Spot) → Ways → Scopes → Rest → Rest × Building → Type 0
   CodeStands has_end P spot c S k r = ChainsStand r.1 × ((b : Pos) → Stands r.0 b → CodeEnds has_end P spot c S k b)
 
-  -- the code of what is lowered stands, whatever is built before it; and each edge leads to a number that was given out
+  -- the code of what is lowered stands, whatever is built before it; each edge leads to a number that was given out, and to a
+  -- block of the kind that it may lead to
   pub record Lowered (P : Lowers) (spot : Ways → Spot) : Type 0 where
     pub grows : (c : Ways) (S : Scopes) (k : Rest) (s : Building) → Grows s (P.build c S k s).1
     pub holds : (c : Ways) (S : Scopes) (k : Rest) (s : Building) → JumpWays IsUsed c P.jumps → Later (P.build c S k s).1 → ChainsStand s →
         CodeStands P.has_end P spot c S k (P.build c S k s)
     pub ranks : (c : Ways) (S : Scopes) (k : Rest) (s : Building) → JumpWays (BlockGiven (length s.blocks)) c P.jumps → Ranked s → LeadsOn k s →
         Ranked (P.build c S k s).1 × LeadsOn (P.build c S k s).0 (P.build c S k s).1
+    pub tidies : (c : Ways) (S : Scopes) (k : Rest) (s : Building) → JumpWays PlainWay c P.jumps → Later (P.build c S k s).1 → Tidy s → LeadsWell k.term → TidyAfter (P.build c S k s)
 
   -- ---- one after the other
   module _ (P Q : Lowers) (sp sq : Ways → Spot) (lp : Lowered P sp) (lq : Lowered Q sq) where
@@ -249,6 +304,14 @@ module _ (t : Target) where
         lp.ranks c S r.0 r.1 (ways_more (length s.blocks) (length r.1.blocks) (lq.grows c (P.after S) k s).longer c P.jumps wp) second.0 second.1
     then_ranks false c S k s wp wq h l = lp.ranks c S k s wp h l
 
+    then_tidies : (x : Bool) (c : Ways) (S : Scopes) (k : Rest) (s : Building) → JumpWays PlainWay c P.jumps → JumpWays PlainWay c (jumps_if x Q.jumps) → Later (then_build x P Q c S k s).1 → Tidy s →
+        LeadsWell k.term → TidyAfter (then_build x P Q c S k s)
+    then_tidies true c S k s wp wq later h l =
+        let r = Q.build c (P.after S) k s in
+        let second = lq.tidies c (P.after S) k s wq (later_before r.1 _ (lp.grows c S r.0 r.1) later) h l in
+        lp.tidies c S r.0 r.1 wp later second.0 second.1
+    then_tidies false c S k s wp wq later h l = lp.tidies c S k s wp later h l
+
     pub then_lowered : Lowered (then_lower P Q) (λ c. Then (sp c) (sq c))
     then_lowered = record {
       grows = then_grows P.has_end;
@@ -258,6 +321,8 @@ module _ (t : Target) where
       ranks = λ c S k s w h l.
           then_ranks P.has_end c S k s (ways_first (BlockGiven (length s.blocks)) c P.jumps (jumps_if P.has_end Q.jumps) w)
           (ways_second (BlockGiven (length s.blocks)) c P.jumps (jumps_if P.has_end Q.jumps) w) h l;
+      tidies = λ c S k s w later h l.
+          then_tidies P.has_end c S k s (ways_first PlainWay c P.jumps (jumps_if P.has_end Q.jumps) w) (ways_second PlainWay c P.jumps (jumps_if P.has_end Q.jumps) w) later h l;
     }
 
   pub change_lowered : (g : Scopes → Scopes) → Lowered (change g) (λ c. Changes g)
@@ -265,6 +330,7 @@ module _ (t : Target) where
     grows = λ c S k s. grows_not s;
     holds = λ c S k s u later chains. (chains, λ b st. (b, st, (refl, refl)));
     ranks = λ c S k s w h l. (h, l);
+    tidies = λ c S k s w later h l. (h, l);
   }
 
   pub nothing_lowered : Lowered nothing (λ c. Nothing)
@@ -280,6 +346,7 @@ module _ (t : Target) where
     grows = λ c S k s. lp.grows c (g S) k s;
     holds = λ c S k s u later chains. let it = lp.holds c (g S) k s u later chains in (it.0, λ b st. changed_ends P.has_end g P sp c S k b (it.1 b st));
     ranks = λ c S k s w h l. lp.ranks c (g S) k s w h l;
+    tidies = λ c S k s w later h l. lp.tidies c (g S) k s w later h l;
   }
 
   back_ends : (x : Bool) (P : Lowers) (sp : Ways → Spot) (c : Ways) (S : Scopes) (k : Rest) (b : Pos) → CodeEnds x P sp c S k b → CodeEnds x (back_in P) (λ c. BackIn (sp c)) c S k b
@@ -291,6 +358,7 @@ module _ (t : Target) where
     grows = lp.grows;
     holds = λ c S k s u later chains. let it = lp.holds c S k s u later chains in (it.0, λ b st. back_ends P.has_end P sp c S k b (it.1 b st));
     ranks = lp.ranks;
+    tidies = lp.tidies;
   }
 
   -- ---- effects as statements and terminators
@@ -399,6 +467,15 @@ module _ (t : Target) where
       by_entries g true ds n e = subst (Given (length (closed Kind.Cleanup k s).blocks)) (same_Some (length s.blocks) n e) g
       by_entries g false ds n e = let i = h.chains ds n e in let j = closed_length Kind.Cleanup k s in (i.0, (let i1 = i.1 in omega arith))
 
+  kept_tidy : (es : List Entry) (k : Rest) (s : Building) → Tidy s → CleansUp k.term → Later (kept_chain es k s).1 → Tidy (kept_chain es k s).1 × KindAt true (kept_chain es k s).0
+  kept_tidy es k s h l later =
+      let c = closed_tidy Kind.Cleanup k s h l in
+      (record { blocks = c.blocks; chains = λ ds n e. by_entries (same_entries ds es) ds n e }, kind_stands Kind.Cleanup k s later)
+    where
+      by_entries : (x : Bool) (ds : List Entry) (n : ℕ) → (if x then Some (length s.blocks) else chain_among ds s.chains) ≡ Some n → KindAt true n
+      by_entries true ds n e = subst (KindAt true) (same_Some (length s.blocks) n e) (kind_stands Kind.Cleanup k s later)
+      by_entries false ds n e = h.chains ds n e
+
   abbrev drop_rest : Entry → ℕ × Building → Rest
   drop_rest x rest = ending (Term.DropAt (place_of f (entry_site x)) rest.0 Unwind.Abort) x.key
 
@@ -456,6 +533,23 @@ module _ (t : Target) where
       by_kept ih (Some n) e = (h, h.chains (x ∷ es) n e)
       by_kept ih None e = kept_ranked (x ∷ es) (drop_rest x (chain f es s)) (chain f es s).1 ih.0 (ih.1, tt)
 
+  chain_tidy : (es : List Entry) (s : Building) → Tidy s → Later (chain f es s).1 → Tidy (chain f es s).1 × KindAt true (chain f es s).0
+  chain_tidy [] s h = by_kept (chain_among [] s.chains) refl
+    where
+      by_kept : (o : Option ℕ) → chain_among [] s.chains ≡ o → Later (chain_or o s (kept_chain [] (ending Term.Resume 0))).1 →
+          Tidy (chain_or o s (kept_chain [] (ending Term.Resume 0))).1 × KindAt true (chain_or o s (kept_chain [] (ending Term.Resume 0))).0
+      by_kept (Some n) e later = (h, h.chains [] n e)
+      by_kept None e later = kept_tidy [] (ending Term.Resume 0) s h tt later
+  chain_tidy (x ∷ es) s h = by_kept (chain_tidy es s h) (chain_among (x ∷ es) s.chains) refl
+    where
+      by_kept : (Later (chain f es s).1 → Tidy (chain f es s).1 × KindAt true (chain f es s).0) → (o : Option ℕ) → chain_among (x ∷ es) s.chains ≡ o →
+          Later (chain_or o s (after_chain x es)).1 → Tidy (chain_or o s (after_chain x es)).1 × KindAt true (chain_or o s (after_chain x es)).0
+      by_kept ih (Some n) e later = (h, h.chains (x ∷ es) n e)
+      by_kept ih None e later =
+          let r = chain f es s in
+          let rest = ih (later_before r.1 _ (kept_grows (x ∷ es) (drop_rest x r) r.1) later) in
+          kept_tidy (x ∷ es) (drop_rest x r) r.1 rest.0 (rest.1, refl) later
+
   -- where a panic goes on
   pub unwind_grows : (es : List Entry) (s : Building) → Grows s (unwind_to f es s).1
   unwind_grows [] s = grows_not s
@@ -468,6 +562,10 @@ module _ (t : Target) where
   pub unwind_ranked : (es : List Entry) (s : Building) → Ranked s → Ranked (unwind_to f es s).1 × AllGiven (length (unwind_to f es s).1.blocks) (unwind_block (unwind_to f es s).0 ++ [])
   unwind_ranked [] s h = (h, tt)
   unwind_ranked (x ∷ es) s h = let c = chain_ranked (x ∷ es) s h in (c.0, (c.1, tt))
+
+  pub unwind_tidy : (es : List Entry) (s : Building) → Tidy s → Later (unwind_to f es s).1 → Tidy (unwind_to f es s).1 × AllKind true (unwind_block (unwind_to f es s).0 ++ [])
+  unwind_tidy [] s h later = (h, tt)
+  unwind_tidy (x ∷ es) s h later = let c = chain_tidy (x ∷ es) s h later in (c.0, (c.1, tt))
 
   -- ---- a terminator with its two ways on
   abbrev two_ways : (ℕ → Unwind → Term) → ℕ → List Entry → Rest → Building → Rest × Building
@@ -494,12 +592,22 @@ module _ (t : Target) where
             ((h.begun, (let i = g.longer in omega arith)), u.1),
       )
 
+  abbrev pub TwoWays : (ℕ → Unwind → Term) → Type 0
+  TwoWays term = (n : ℕ) (u : Unwind) → KindAt false n → AllKind true (unwind_block u ++ []) → LeadsWell (term n u)
+
+  pub two_tidy : (term : ℕ → Unwind → Term) (node : ℕ) (es : List Entry) (k : Rest) (s : Building) → TwoWays term → Later (two_ways term node es k s).1 → Tidy s → LeadsWell k.term →
+      TidyAfter (two_ways term node es k s)
+  two_tidy term node es k s e later h l =
+      let u = unwind_tidy es (closed Kind.Plain k s) (closed_tidy Kind.Plain k s h l) later in
+      (u.0, e (length s.blocks) (unwind_to f es (closed Kind.Plain k s)).0 (kind_stands Kind.Plain k s (two_later term node es k s later)) u.1)
+
   stmt_lowered : (n : ℕ) (action : Action) (stmt : Stmt) → actions.action_of n stmt ≡ action_at t.local_of action → Lowered (act_by f false n (ByStmt stmt)) (λ c. Acts t action)
   stmt_lowered n action stmt e = record {
     grows = λ c S k s. grows_not s;
     holds = λ c S k s u later chains.
         (chains, λ b st. ((b.0, suc b.1), (st.0, st.1, st.2.2), by_statement (b.0, suc b.1) (st.0, stmt, st.1, st.2.0, ap (λ i. actions.action_of i stmt) st.2.1 ∙ e, refl)));
     ranks = λ c S k s w h l. (h, l);
+    tidies = λ c S k s w later h l. (h, l);
   }
 
   stmt_last : (n : ℕ) (action : Action) (stmt : Stmt) → actions.action_of n stmt ≡ action_at t.local_of action → IsLast t action → Lowered (act_by f true n (ByStmt stmt)) (λ c. Acts t action)
@@ -508,11 +616,12 @@ module _ (t : Target) where
     holds = λ c S k s u later chains.
         (chains, λ b st S' b'. by_last_statement (b.0, suc b.1) S' b' (st.0, stmt, st.1, st.2.0, ap (λ i. actions.action_of i stmt) st.2.1 ∙ e, refl) last);
     ranks = λ c S k s w h l. (h, (w.0, tt));
+    tidies = λ c S k s w later h l. (h, ((w.0, tt), tt, refl));
   }
 
   -- the effect of a terminator
   abbrev TermOf : ℕ → Action → (ℕ → Unwind → Term) → Type 0
-  TermOf n action term = ((m : ℕ) (u : Unwind) → action_of_term n (term m u) ≡ Some (action_at t.local_of action, m, u)) × ((m : ℕ) (u : Unwind) → targets (term m u) ≡ m ∷ unwind_block u ++ [])
+  TermOf n action term = ((m : ℕ) (u : Unwind) → action_of_term n (term m u) ≡ Some (action_at t.local_of action, m, u)) × ((m : ℕ) (u : Unwind) → targets (term m u) ≡ m ∷ unwind_block u ++ []) × TwoWays term
 
   term_stands : (n : ℕ) (action : Action) (term : ℕ → Unwind → Term) → TermOf n action term → (S : Scopes) (k : Rest) (s : Building) →
       Cleans t (panic_drops t S) (unwind_to f (panic_drops t S) (closed Kind.Plain k s)).0 → (b : Pos) → Stands (two_ways term n (panic_drops t S) k s).0 b → ActionTermAt t action S (length s.blocks) b
@@ -539,6 +648,7 @@ module _ (t : Target) where
           ),
         );
     ranks = λ c S k s w h l. two_ranked term n (panic_drops t S) k s e.1 h l;
+    tidies = λ c S k s w later h l. two_tidy term n (panic_drops t S) k s e.2 later h l;
   }
 
   term_last : (n : ℕ) (action : Action) (term : ℕ → Unwind → Term) → TermOf n action term → IsLast t action → Lowered (act_by f true n (ByTerm term)) (λ c. Acts t action)
@@ -548,6 +658,7 @@ module _ (t : Target) where
         let made = two_made term n (panic_drops t S) (ending (Term.Goto c.returns.block) n) s chains later in
         (made.0, λ b st S' b'. by_last_terminator (length s.blocks) S' b' (term_stands n action term e S (ending (Term.Goto c.returns.block) n) s made.1 b st) last);
     ranks = λ c S k s w h l. two_ranked term n (panic_drops t S) (ending (Term.Goto c.returns.block) n) s e.1 h (w.0, tt);
+    tidies = λ c S k s w later h l. two_tidy term n (panic_drops t S) (ending (Term.Goto c.returns.block) n) s e.2 later h ((w.0, tt), tt, refl);
   }
 
   -- whether it is the last or not
@@ -589,20 +700,20 @@ module _ (t : Target) where
   act_lowered n (effects.Free box) one = by_stmt n (effects.Free box) _ (ap effects.Free (site_same n box one))
   act_lowered n (effects.Compute to operator left right) one =
       by_term n (effects.Compute to operator left right) (Term.Math (place_of f to) operator (build.operand_of f left) (build.operand_of f right))
-      ((λ m u. λ i. Some (effects.Compute (site_same n to one.0 i) operator (operand_same n left one.1 i) (operand_same n right one.2 i), m, u)), λ m u. refl)
+      ((λ m u. λ i. Some (effects.Compute (site_same n to one.0 i) operator (operand_same n left one.1 i) (operand_same n right one.2 i), m, u)), (λ m u. refl), λ m u p g. ((p, tt), g, refl))
   act_lowered n (effects.Negate to operand) one =
       by_term n (effects.Negate to operand) (Term.Negate (place_of f to) (build.operand_of f operand))
-      ((λ m u. λ i. Some (effects.Negate (site_same n to one.0 i) (operand_same n operand one.1 i), m, u)), λ m u. refl)
+      ((λ m u. λ i. Some (effects.Negate (site_same n to one.0 i) (operand_same n operand one.1 i), m, u)), (λ m u. refl), λ m u p g. ((p, tt), g, refl))
   act_lowered n (effects.Bounds index count) one =
-      by_term n (effects.Bounds index count) (Term.Bounds (build.operand_of f index) count) ((λ m u. λ i. Some (effects.Bounds (operand_same n index one i) count, m, u)), λ m u. refl)
+      by_term n (effects.Bounds index count) (Term.Bounds (build.operand_of f index) count) ((λ m u. λ i. Some (effects.Bounds (operand_same n index one i) count, m, u)), (λ m u. refl), λ m u p g. ((p, tt), g, refl))
   act_lowered n (effects.Call to g args) one =
       by_term n (effects.Call to g args) (Term.Call (place_of f to) g (build.operands_of f args))
-      ((λ m u. λ i. Some (effects.Call (site_same n to one.0 i) g (operands_same n args one.1 i), m, u)), λ m u. refl)
+      ((λ m u. λ i. Some (effects.Call (site_same n to one.0 i) g (operands_same n args one.1 i), m, u)), (λ m u. refl), λ m u p g. ((p, tt), g, refl))
   act_lowered n (effects.CallVirtual to trait_no method args) one =
       by_term n (effects.CallVirtual to trait_no method args) (Term.Virtual (place_of f to) trait_no method (build.operands_of f args))
-      ((λ m u. λ i. Some (effects.CallVirtual (site_same n to one.0 i) trait_no method (operands_same n args one.1 i), m, u)), λ m u. refl)
+      ((λ m u. λ i. Some (effects.CallVirtual (site_same n to one.0 i) trait_no method (operands_same n args one.1 i), m, u)), (λ m u. refl), λ m u p g. ((p, tt), g, refl))
   act_lowered n (effects.Ask to) one =
-      by_term n (effects.Ask to) (Term.Ask (place_of f to)) ((λ m u. λ i. Some (effects.Ask (site_same n to one i), m, u)), λ m u. refl)
+      by_term n (effects.Ask to) (Term.Ask (place_of f to)) ((λ m u. λ i. Some (effects.Ask (site_same n to one i), m, u)), (λ m u. refl), λ m u p g. ((p, tt), g, refl))
 
   -- ---- drops
   pub drop_one_at : (site : Site) (es : List Entry) (k : Rest) (s : Building) → Cleans t es (unwind_to f es (closed Kind.Plain k s)).0 → Later (closed Kind.Plain k s) → (b : Pos) →
@@ -637,6 +748,14 @@ module _ (t : Target) where
       let rest = drops_ranked es S k s h l in
       two_ranked (drop_term (entry_site x)) x.key (es ++ panic_drops t S) r.0 r.1 (λ n u. refl) rest.0 rest.1
 
+  drops_tidy : (es : List Entry) (S : Scopes) (k : Rest) (s : Building) → Later (drop_all f es S k s).1 → Tidy s → LeadsWell k.term → TidyAfter (drop_all f es S k s)
+  drops_tidy [] S k s later h l = (h, l)
+  drops_tidy (x ∷ es) S k s later h l =
+      let r = drop_all f es S k s in
+      let before = two_later (drop_term (entry_site x)) x.key (es ++ panic_drops t S) r.0 r.1 later in
+      let rest = drops_tidy es S k s (later_before r.1 _ (closed_grows Kind.Plain r.0 r.1) before) h l in
+      two_tidy (drop_term (entry_site x)) x.key (es ++ panic_drops t S) r.0 r.1 (λ n u p g. ((p, tt), g, refl)) later rest.0 rest.1
+
   -- ---- scopes are left
   abbrev dropped_of : Scope → List Entry
   dropped_of scope = needing_drop t.items scope.entries
@@ -656,11 +775,16 @@ module _ (t : Target) where
   leave_ranks [] k s h l = (h, l)
   leave_ranks (scope ∷ S) k s h l = drops_ranked (dropped_of scope) S k s h l
 
+  leave_tidies : (S : Scopes) (k : Rest) (s : Building) → Later (leave_from f S k s).1 → Tidy s → LeadsWell k.term → TidyAfter (leave_from f S k s)
+  leave_tidies [] k s later h l = (h, l)
+  leave_tidies (scope ∷ S) k s later h l = drops_tidy (dropped_of scope) S k s later h l
+
   pub leave_lowered : Lowered (leave f) (λ c. Left t)
   leave_lowered = record {
     grows = λ c S k s. leave_grows S k s;
     holds = λ c S k s u later chains. leave_holds S k s chains later;
     ranks = λ c S k s w h l. leave_ranks S k s h l;
+    tidies = λ c S k s w later h l. leave_tidies S k s later h l;
   }
 
   pub scoped_lowered : (enter : Scopes → Scopes) (P : Lowers) (sp : Ways → Spot) → Lowered P sp → Lowered (scoped f enter P) (λ c. Scoped t enter (sp c))
@@ -710,6 +834,19 @@ module _ (t : Target) where
       by_base ih true = drops_ranked (dropped_of scope) S (leaves_to f node way S s).0 (leaves_to f node way S s).1 ih.0 ih.1
       by_base ih false = (h, (g, tt))
 
+  leaves_tidy : (node : ℕ) (way : Way) (S : Scopes) (s : Building) → PlainWay way → Later (leaves_to f node way S s).1 → Tidy s → TidyAfter (leaves_to f node way S s)
+  leaves_tidy node way [] s g later h = (h, ((g, tt), tt, refl))
+  leaves_tidy node way (scope ∷ S) s g later h = by_base (λ later. leaves_tidy node way S s g later h) (not (nat_lt (length S) way.base)) later
+    where
+      by_base : (Later (leaves_to f node way S s).1 → TidyAfter (leaves_to f node way S s)) → (x : Bool) →
+          Later (build.leaves_one f x (let rest = leaves_to f node way S s in drop_all f (dropped_of scope) S rest.0 rest.1) (ending (Term.Goto way.block) node, s)).1 →
+          TidyAfter (build.leaves_one f x (let rest = leaves_to f node way S s in drop_all f (dropped_of scope) S rest.0 rest.1) (ending (Term.Goto way.block) node, s))
+      by_base ih true later =
+          let r = leaves_to f node way S s in
+          let rest = ih (later_before r.1 _ (drops_grow (dropped_of scope) S r.0 r.1) later) in
+          drops_tidy (dropped_of scope) S r.0 r.1 later rest.0 rest.1
+      by_base ih false later = (h, ((g, tt), tt, refl))
+
   -- an exit that is a jump: by `return`, or one that names a loop
   abbrev pub IsJump : Exit → Type 0
   IsJump Value = ⊥
@@ -731,6 +868,7 @@ module _ (t : Target) where
     holds = λ c S k s u later chains.
         let made = leaves_made node (way_of exit c) S s chains later in (made.0, λ b st S' b'. (way_has IsUsed exit c u, made.1 b st));
     ranks = λ c S k s w h l. leaves_ranked node (way_of exit c) S s (way_has (BlockGiven (length s.blocks)) exit c w) h;
+    tidies = λ c S k s w later h l. leaves_tidy node (way_of exit c) S s (way_has PlainWay exit c w) later h;
   }
 
   pub jump_lowered : (node : ℕ) (exit : Exit) (P : Lowers) (sp : Ways → Spot) → Lowered P sp → Lowered (jump f node exit P) (λ c. JumpAt t (way_of exit c) (sp c))
@@ -743,13 +881,14 @@ module _ (t : Target) where
     holds = λ c S k s u later chains.
         let made = unwind_made (panic_drops t S) s chains later in (made.0, λ b st S' b'. ((unwind_to f (panic_drops t S) s).0, ends_with _ node b st, made.1));
     ranks = λ c S k s w h l. unwind_ranked (panic_drops t S) s h;
+    tidies = λ c S k s w later h l. let u = unwind_tidy (panic_drops t S) s h later in (u.0, (tt, u.1, refl));
   }
 
   -- ---- tests
   abbrev pub TestMade : Building → Rest × Building → (Pos → Pos → Pos → Type 0) → ℕ → ℕ → Type 0
   TestMade s r spot y n =
       Grows s r.1 × (ChainsStand s → Later r.1 → StepAt t y → StepAt t n → ChainsStand r.1 × ((b : Pos) → Stands r.0 b → spot b (y, 0) (n, 0)))
-      × (Ranked s → Given (length s.blocks) y → Given (length s.blocks) n → Ranked r.1 × LeadsOn r.0 r.1)
+      × (Ranked s → Given (length s.blocks) y → Given (length s.blocks) n → Ranked r.1 × LeadsOn r.0 r.1) × (Later r.1 → Tidy s → KindAt false y → KindAt false n → TidyAfter r)
 
   pub if_made : (operand : effects.Operand) (node : ℕ) → OperandOf node operand → (y n : ℕ) (s : Building) → TestMade s (if_true f operand node y n s) (IfAt t operand) y n
   if_made operand node one y n s = (
@@ -759,7 +898,8 @@ module _ (t : Target) where
       λ b st.
           (build.operand_of f operand, y, n, ends_with _ node b st, ap (λ i. actions.operand_of i (build.operand_of f operand)) st.2.2 ∙ operand_same node operand one, (py, refl), (pn, refl)),
     )),
-    λ h gy gn. (h, (gn, (gy, tt))),
+    (λ h gy gn. (h, (gn, (gy, tt)))),
+    λ later h py pn. (h, ((pn, (py, tt)), tt, refl)),
   )
 
   equals_made : (site : Site) (value : effects.Operand) → OperandOf site.node value → (y n : ℕ) (s : Building) → TestMade s (equals f site value y n s) (EqualsAt t site value) y n
@@ -789,7 +929,8 @@ module _ (t : Target) where
         ),
       ),
     )),
-    λ h gy gn. (h, (gn, (gy, tt))),
+    (λ h gy gn. (h, (gn, (gy, tt)))),
+    λ later h py pn. (h, ((pn, (py, tt)), tt, refl)),
   )
 
   pub given_on : (n m d : ℕ) → n ≤ m → Given n d → Given m d
@@ -800,14 +941,15 @@ module _ (t : Target) where
     test_made (IsVariant site variant) y n s = (
       grows_not s,
       (λ h later py pn. (h, λ b st. (place_of f site, y, n, ends_with _ site.node b st, site_same (t.node b.0 b.1) site (sym st.2.2), (py, refl), (pn, refl)))),
-      λ h gy gn. (h, (gn, (gy, tt))),
+      (λ h gy gn. (h, (gn, (gy, tt)))),
+      λ later h py pn. (h, ((pn, (py, tt)), tt, refl)),
     )
     test_made (IsNumber site value kind) y n s = equals_made site (effects.Number value kind) tt y n s
     test_made (IsTruth site value) y n s = equals_made site (effects.Truth value) tt y n s
     test_made (AnyOf alternatives) y n s = any_made alternatives y n s
 
     pub tests_made : (x : PatternTests) (y n : ℕ) (s : Building) → TestMade s (tests f x y n s) (TestsAt t x) y n
-    tests_made no_test y n s = (grows_not s, (λ h later py pn. (h, λ b st. goes y (ends_with _ 0 b st) py)), λ h gy gn. (h, (gy, tt)))
+    tests_made no_test y n s = (grows_not s, (λ h later py pn. (h, λ b st. goes y (ends_with _ 0 b st) py)), (λ h gy gn. (h, (gy, tt))), λ later h py pn. (h, ((py, tt), tt, refl)))
     tests_made (a_test first rest) y n s =
         let r = tests f rest y n s in
         let c = closed Kind.Plain r.0 r.1 in
@@ -820,14 +962,18 @@ module _ (t : Target) where
               let more = second.1 h (later_before r.1 c g l2) py pn in
               let it = one.1 more.0 later (plain_stands r.0 r.1 l2) pn in
               (it.0, λ b st. ((length r.1.blocks, 0), it.1 b st, more.1 (length r.1.blocks, 0) (closed_stands Kind.Plain r.0 r.1 l2)))),
-          λ h gy gn.
+          (λ h gy gn.
               let more = second.2 h gy gn in
               let j = closed_length Kind.Plain r.0 r.1 in
-              one.2 (closed_ranked Kind.Plain r.0 r.1 more.0 more.1) (more.0.begun, omega arith) (given_on (length s.blocks) (length c.blocks) n (let a = second.0.longer in omega arith) gn),
+              one.2 (closed_ranked Kind.Plain r.0 r.1 more.0 more.1) (more.0.begun, omega arith) (given_on (length s.blocks) (length c.blocks) n (let a = second.0.longer in omega arith) gn)),
+          λ later h py pn.
+              let l2 = later_before c _ one.0 later in
+              let more = second.3 (later_before r.1 c g l2) h py pn in
+              one.3 later (closed_tidy Kind.Plain r.0 r.1 more.0 more.1) (kind_stands Kind.Plain r.0 r.1 l2) pn,
         )
 
     any_made : (x : Alternatives) (y n : ℕ) (s : Building) → TestMade s (any_test f x y n s) (AnyTestAt t x) y n
-    any_made no_alternative y n s = (grows_not s, (λ h later py pn. (h, λ b st. goes n (ends_with _ 0 b st) pn)), λ h gy gn. (h, (gn, tt)))
+    any_made no_alternative y n s = (grows_not s, (λ h later py pn. (h, λ b st. goes n (ends_with _ 0 b st) pn)), (λ h gy gn. (h, (gn, tt))), λ later h py pn. (h, ((pn, tt), tt, refl)))
     any_made (an_alternative first rest) y n s =
         let r = any_test f rest y n s in
         let c = closed Kind.Plain r.0 r.1 in
@@ -840,10 +986,14 @@ module _ (t : Target) where
               let more = second.1 h (later_before r.1 c g l2) py pn in
               let it = one.1 more.0 later py (plain_stands r.0 r.1 l2) in
               (it.0, λ b st. ((length r.1.blocks, 0), it.1 b st, more.1 (length r.1.blocks, 0) (closed_stands Kind.Plain r.0 r.1 l2)))),
-          λ h gy gn.
+          (λ h gy gn.
               let more = second.2 h gy gn in
               let j = closed_length Kind.Plain r.0 r.1 in
-              one.2 (closed_ranked Kind.Plain r.0 r.1 more.0 more.1) (given_on (length s.blocks) (length c.blocks) y (let a = second.0.longer in omega arith) gy) (more.0.begun, omega arith),
+              one.2 (closed_ranked Kind.Plain r.0 r.1 more.0 more.1) (given_on (length s.blocks) (length c.blocks) y (let a = second.0.longer in omega arith) gy) (more.0.begun, omega arith)),
+          λ later h py pn.
+              let l2 = later_before c _ one.0 later in
+              let more = second.3 (later_before r.1 c g l2) h py pn in
+              one.3 later (closed_tidy Kind.Plain r.0 r.1 more.0 more.1) py (kind_stands Kind.Plain r.0 r.1 l2),
         )
 
   -- ---- branches
@@ -859,6 +1009,10 @@ module _ (t : Target) where
   pub joined_ranked : (x : Bool) (node : ℕ) (k : Rest) (s : Building) → Ranked s → LeadsOn k s → Ranked (joined x node k s).1 × LeadsOn (joined x node k s).0 (joined x node k s).1
   joined_ranked true node k s h l = let j = closed_length Kind.Plain k s in (closed_ranked Kind.Plain k s h l, ((h.begun, omega arith), tt))
   joined_ranked false node k s h l = (h, l)
+
+  pub joined_tidy : (x : Bool) (node : ℕ) (k : Rest) (s : Building) → Later (joined x node k s).1 → Tidy s → LeadsWell k.term → TidyAfter (joined x node k s)
+  joined_tidy true node k s later h l = (closed_tidy Kind.Plain k s h l, ((kind_stands Kind.Plain k s later, tt), tt, refl))
+  joined_tidy false node k s later h l = (h, l)
 
   -- a code that may join others, given where it ends if it has an end
   abbrev pub MayJoin : Bool → Spot → Scopes → Rest → Pos → Type 0
@@ -961,6 +1115,20 @@ module _ (t : Target) where
           let g5 = yes_grows c S k s in
           let j5 = closed_length Kind.Plain (yes_code c S k s).0 (yes_code c S k s).1 in
           (made_test (yes_at c S k s) (no_at c S k s) (yes_made c S k s)).2 c5 (r4.0.begun, omega arith) (r2.0.begun, (let a = g5.longer in omega arith));
+      tidies = λ c S k s w later h l.
+          let z = P.has_end || Q.has_end in
+          let one = made_test (yes_at c S k s) (no_at c S k s) (yes_made c S k s) in
+          let l5 = later_before (yes_made c S k s) _ one.0 later in
+          let l4 = later_before (yes_code c S k s).1 (yes_made c S k s) (closed_grows Kind.Plain (yes_code c S k s).0 (yes_code c S k s).1) l5 in
+          let l3 = later_before (no_made c S k s) (yes_code c S k s).1 (lp.grows c S (join k s).0 (no_made c S k s)) l4 in
+          let l2 = later_before (no_code c S k s).1 (no_made c S k s) (closed_grows Kind.Plain (no_code c S k s).0 (no_code c S k s).1) l3 in
+          let l1 = later_before (join k s).1 (no_code c S k s).1 (lq.grows c S (join k s).0 (join k s).1) l2 in
+          let j = joined_tidy z node k s l1 h l in
+          let no = lq.tidies c S (join k s).0 (join k s).1 (ways_second PlainWay c P.jumps Q.jumps w) l2 j.0 j.1 in
+          let no_tidy = closed_tidy Kind.Plain (no_code c S k s).0 (no_code c S k s).1 no.0 no.1 in
+          let yes = lp.tidies c S (join k s).0 (no_made c S k s) (ways_first PlainWay c P.jumps Q.jumps w) l4 no_tidy j.1 in
+          one.3 later (closed_tidy Kind.Plain (yes_code c S k s).0 (yes_code c S k s).1 yes.0 yes.1) (kind_stands Kind.Plain (yes_code c S k s).0 (yes_code c S k s).1 l5)
+          (kind_stands Kind.Plain (no_code c S k s).0 (no_code c S k s).1 l3);
     }
       where
         or_true : (y z : Bool) → y ≡ true → y || z ≡ true
@@ -1012,6 +1180,13 @@ module _ (t : Target) where
       by_place n m (inl e) = h.blocks n m e
       by_place n m (inr e) = absurd (none-some m e.1)
 
+  pub reserved_tidy : (s : Building) → Tidy s → Tidy (reserved s)
+  reserved_tidy s h = record { blocks = λ n m e. by_place n m (push_cases s.blocks None n (Some m) e); chains = h.chains }
+    where
+      by_place : (n : ℕ) (m : Made) → (slice_get s.blocks n ≡ Some (Some m)) ⊎ ((n ≡ length s.blocks) × (None ≡ Some m)) → EndsWell (is_cleanup m.block) m.block.term
+      by_place n m (inl e) = h.blocks n m e
+      by_place n m (inr e) = absurd (none-some m e.1)
+
   -- a block whose number was given out is made
   module _ (kind : Kind) (n : ℕ) (k : Rest) (s : Building) (free : slice_get s.blocks n ≡ Some None) where
     abbrev block_filled : Made
@@ -1044,6 +1219,13 @@ module _ (t : Target) where
       by_place i m (inl e) = h.blocks i m e
       by_place i m (inr e) =
           subst (MadeWell i) (same_Some (made Kind.Turn (length s.blocks) k) m e.1) ((λ x. absurd (let never : true ≡ false = x in cc)), l)
+
+  pub filled_tidy : (kind : Kind) (n : ℕ) (k : Rest) (s : Building) → Tidy s → EndsWell (is_cleanup_kind kind) k.term → Tidy (filled kind n k s)
+  filled_tidy kind n k s h l = record { blocks = λ i m e. by_place i m (set_cases s.blocks n i (Some (made kind (length s.blocks) k)) (Some m) e); chains = h.chains }
+    where
+      by_place : (i : ℕ) (m : Made) → (slice_get s.blocks i ≡ Some (Some m)) ⊎ ((i ≡ n) × (Some (made kind (length s.blocks) k) ≡ Some m)) → EndsWell (is_cleanup m.block) m.block.term
+      by_place i m (inl e) = h.blocks i m e
+      by_place i m (inr e) = subst (λ m. EndsWell (is_cleanup m.block) m.block.term) (same_Some (made kind (length s.blocks) k) m e.1) l
 
   -- the ways of the jumps in a loop, from those around it
   module _ (P : Way → Type 0) (id base exit begin : ℕ) (is_left : Bool) (c : Ways) where
@@ -1091,6 +1273,14 @@ module _ (t : Target) where
   exit_given : (x : Bool) (k : Rest) (s : Building) → Ranked s → x ≡ true → Given (length (with_exit x k s).blocks) (length s.blocks)
   exit_given true k s h e = let j = closed_length Kind.Plain k s in (h.begun, omega arith)
   exit_given false k s h e = absurd (let never : false ≡ true = e in cc)
+
+  exit_tidy : (x : Bool) (k : Rest) (s : Building) → Tidy s → LeadsWell k.term → Tidy (with_exit x k s)
+  exit_tidy true k s h l = closed_tidy Kind.Plain k s h l
+  exit_tidy false k s h l = h
+
+  exit_plain : (x : Bool) (k : Rest) (s : Building) → Later (with_exit x k s) → x ≡ true → KindAt false (length s.blocks)
+  exit_plain true k s later e = kind_stands Kind.Plain k s later
+  exit_plain false k s later e = absurd (let never : false ≡ true = e in cc)
 
   module _ (id : ℕ) (turn : Lowers) (sp : Ways → Spot) (lt : Lowered turn sp) (back : (S : Scopes) → turn.after S ≡ S) where
     abbrev left : Bool
@@ -1170,6 +1360,16 @@ module _ (t : Target) where
           let r = code_in c S k s in
           let j2 = set_length r.1.blocks (begin_at k s) (Some (made Kind.Turn (length r.1.blocks) r.0)) in
           (turn_ranked (begin_at k s) r.0 r.1 it.0 it.1, ((h1.begun, (let a = (code_grows c S k s).longer in omega arith)), tt));
+      tidies = λ c S k s w later h l.
+          let r = code_in c S k s in
+          let l2 = filled_later Kind.Turn (begin_at k s) r.0 r.1 (begin_free c S k s) later in
+          let l1 = later_before (reserved (begun_with k s)) r.1 (code_grows c S k s) l2 in
+          let l0 = later_before (begun_with k s) (reserved (begun_with k s)) (reserved_grows (begun_with k s)) l1 in
+          let turn_at = filled_stands Kind.Turn (begin_at k s) r.0 r.1 (begin_free c S k s) later in
+          let begun : KindAt false (begin_at k s) = ((made Kind.Turn (length r.1.blocks) r.0).block, turn_at.0, refl) in
+          let ways = ways_inside PlainWay id (length S) (length s.blocks) (begin_at k s) left c turn.jumps (λ e. exit_plain left k s l0 e) begun w.0 w.1 in
+          let it = lt.tidies (ways_in c S k s) S (again k s) (reserved (begun_with k s)) (w.0, ways) l2 (reserved_tidy (begun_with k s) (exit_tidy left k s h l)) ((begun, tt), tt, refl) in
+          (filled_tidy Kind.Turn (begin_at k s) r.0 r.1 it.0 it.1, ((begun, tt), tt, refl));
     }
 
   -- ---- assignment
@@ -1188,26 +1388,26 @@ module _ (t : Target) where
     abbrev stored : Rest → Rest
     stored k = with_line (put_into f site key) site.node k
 
-    abbrev onward : Rest → Building → Building
-    onward k s = closed Kind.Plain (stored k) s
+    abbrev after_store : Rest → Building → Building
+    after_store k s = closed Kind.Plain (stored k) s
 
     abbrev drops_of : Scopes → List Entry
     drops_of S = panic_drops t (taken t (key ∷ []) S)
 
     abbrev down : Scopes → Rest → Building → ℕ × Building
-    down S k s = chain f (drops_of S) (onward k s)
+    down S k s = chain f (drops_of S) (after_store k s)
 
     abbrev unwound : Scopes → Rest → Building → Rest
     unwound S k s = stored (ending (Term.Goto (down S k s).0) site.node)
 
     replaced_lowered : Lowered (replaces f true site key) (λ c. ReplacesAt t true site key)
     replaced_lowered = record {
-      grows = λ c S k s. grows_on s (onward k s) _ (closed_grows Kind.Plain (stored k) s)
-          (grows_on (onward k s) (down S k s).1 _ (chain_grows (drops_of S) (onward k s)) (closed_grows Kind.Cleanup (unwound S k s) (down S k s).1));
+      grows = λ c S k s. grows_on s (after_store k s) _ (closed_grows Kind.Plain (stored k) s)
+          (grows_on (after_store k s) (down S k s).1 _ (chain_grows (drops_of S) (after_store k s)) (closed_grows Kind.Cleanup (unwound S k s) (down S k s).1));
       holds = λ c S k s u later chains.
           let l2 = later_before (down S k s).1 _ (closed_grows Kind.Cleanup (unwound S k s) (down S k s).1) later in
-          let l1 = later_before (onward k s) _ (chain_grows (drops_of S) (onward k s)) l2 in
-          let made = chain_made (drops_of S) (onward k s) chains l2 in
+          let l1 = later_before (after_store k s) _ (chain_grows (drops_of S) (after_store k s)) l2 in
+          let made = chain_made (drops_of S) (after_store k s) chains l2 in
           let st1 = closed_stands Kind.Plain (stored k) s l1 in
           let st2 = closed_stands Kind.Cleanup (unwound S k s) (down S k s).1 later in (
             made.0,
@@ -1236,11 +1436,18 @@ module _ (t : Target) where
       ranks = λ c S k s w h l.
           let h1 = closed_ranked Kind.Plain (stored k) s h l in
           let j1 = closed_length Kind.Plain (stored k) s in
-          let h2 = chain_ranked (drops_of S) (onward k s) h1 in
-          let g2 = chain_grows (drops_of S) (onward k s) in
+          let h2 = chain_ranked (drops_of S) (after_store k s) h1 in
+          let g2 = chain_grows (drops_of S) (after_store k s) in
           let h3 = closed_ranked Kind.Cleanup (unwound S k s) (down S k s).1 h2.0 (h2.1, tt) in
           let j3 = closed_length Kind.Cleanup (unwound S k s) (down S k s).1 in
           (h3, ((h.begun, (let a = g2.longer in omega arith)), ((h2.0.begun, omega arith), tt)));
+      tidies = λ c S k s w later h l.
+          let l2 = later_before (down S k s).1 _ (closed_grows Kind.Cleanup (unwound S k s) (down S k s).1) later in
+          let l1 = later_before (after_store k s) _ (chain_grows (drops_of S) (after_store k s)) l2 in
+          let d = chain_tidy (drops_of S) (after_store k s) (closed_tidy Kind.Plain (stored k) s h l) l2 in (
+            closed_tidy Kind.Cleanup (unwound S k s) (down S k s).1 d.0 d.1,
+            ((kind_stands Kind.Plain (stored k) s l1, tt), (kind_stands Kind.Cleanup (unwound S k s) (down S k s).1 later, tt), refl),
+          );
     }
 
   pub replaces_lowered : (needs : Bool) (site : Site) (key : ℕ) → Lowered (replaces f needs site key) (λ c. ReplacesAt t needs site key)

@@ -1,8 +1,9 @@
 -- The laws of the lowering: the raw graph of a typed program runs as the program does, and each of its bodies walks
 -- as the body of the program runs freely.
-use Rattle.std.specs.Prelude.{◌≡◌, ℕ, ℤ, Bool, true, List, Some, slice_get, Contains}
+use Rattle.std.specs.Prelude.{length, ◌<◌, ◌≡◌, ℕ, ℤ, Bool, true, List, Some, slice_get, Contains}
 use Rattle.cfg_graph.specs.declared.graph.Block.{Block}
 use Rattle.cfg_graph.specs.Edges.{IsRanked, targets}
+use Rattle.cfg_graph.specs.WellFormed.Cleanup.{keeps_to_cleanup}
 use Rattle.cfg_meaning.specs.Programs.{raw_graph_run, free_walk}
 use Rattle.cfg_meaning.specs.Walk.{renamed}
 use Rattle.mir_ty.specs.ItemTable.{ItemTable}
@@ -42,3 +43,12 @@ LoweredIsRanked =
     IsRanked (body_of items tree)
     × ((n : ℕ) (block : Block) → slice_get (body_of items tree).blocks n ≡ Some block →
     Contains (targets block.term) 0 → ⊥)
+
+-- cleanup blocks keep to themselves: from one of them no edge leads to another block, and from another block exactly
+-- unwinding leads to one; and each edge leads to a block
+abbrev pub LoweredKeepsToCleanup : Type 0
+LoweredKeepsToCleanup =
+    (items : ItemTable) (tree : BodyTree) → NamesItsLoops tree →
+    (n : ℕ) (block : Block) → slice_get (body_of items tree).blocks n ≡ Some block →
+    (keeps_to_cleanup (body_of items tree) block ≡ true)
+    × ((m : ℕ) → Contains (targets block.term) m → m < length (body_of items tree).blocks)
