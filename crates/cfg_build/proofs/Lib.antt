@@ -1,0 +1,6 @@
+pub mod Bodies
+mod Examples
+pub mod Forms
+pub mod Jumps
+pub mod Rules
+pub mod Scopes

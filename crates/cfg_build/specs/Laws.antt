@@ -1,0 +1,54 @@
+-- The laws of the lowering: the raw graph of a typed program runs as the program does, and each of its bodies walks
+-- as the body of the program runs freely.
+use Rattle.std.specs.Prelude.{length, ◌<◌, ◌≡◌, ℕ, ℤ, Bool, true, List, Some, slice_get, Contains}
+use Rattle.cfg_graph.specs.declared.graph.Block.{Block}
+use Rattle.cfg_graph.specs.Edges.{IsRanked, targets}
+use Rattle.cfg_graph.specs.WellFormed.Cleanup.{keeps_to_cleanup}
+use Rattle.cfg_meaning.specs.Programs.{raw_graph_run, free_walk}
+use Rattle.cfg_meaning.specs.Walk.{renamed}
+use Rattle.mir_ty.specs.ItemTable.{ItemTable}
+use Rattle.typed_tree.specs.Tree.{BodyTree, ProgramTree}
+use Rattle.src_meaning.specs.Programs.{source, free_run, reached_by, refused_of}
+use Rattle.cfg_code.specs.Laws.{without_place, outcome_without_place}
+use Rattle.cfg_build.specs.Loops.{names_its_loops}
+use Rattle.cfg_build.specs.Lower.{body_of, node_of, graph_of}
+
+-- each jump of a body names a loop around it
+abbrev pub NamesItsLoops : BodyTree → Type 0
+NamesItsLoops tree = names_its_loops tree ≡ true
+
+abbrev pub AllNameTheirLoops : ProgramTree → Type 0
+AllNameTheirLoops program =
+    (n : ℕ) (tree : BodyTree) → slice_get program.bodies n ≡ Some tree → NamesItsLoops tree
+
+-- with the same numbers to be asked and the same ticks, the trace and the end are the same
+abbrev pub LoweredRunsAsItsSource : Type 0
+LoweredRunsAsItsSource =
+    (program : ProgramTree) → AllNameTheirLoops program → (asked : List ℤ) (ticks : ℕ) →
+    outcome_without_place (raw_graph_run (graph_of program) asked ticks)
+    ≡ outcome_without_place (source program asked ticks)
+
+-- with the same choices a free walk ends as the free run does, and meets the same refused use, at the same node
+abbrev pub LoweredWalksAsItRunsFreely : Type 0
+LoweredWalksAsItRunsFreely =
+    (items : ItemTable) (tree : BodyTree) → NamesItsLoops tree → (list : List Bool) →
+    (renamed without_place (free_walk items (node_of items tree) (body_of items tree) list)
+    ≡ renamed without_place (free_run items tree list))
+    × (refused_of (free_walk items (node_of items tree) (body_of items tree) list) ≡ reached_by items tree list)
+
+-- each edge but that to a turn block lowers the rank, and none leads to block 0
+abbrev pub LoweredIsRanked : Type 0
+LoweredIsRanked =
+    (items : ItemTable) (tree : BodyTree) → NamesItsLoops tree →
+    IsRanked (body_of items tree)
+    × ((n : ℕ) (block : Block) → slice_get (body_of items tree).blocks n ≡ Some block →
+    Contains (targets block.term) 0 → ⊥)
+
+-- cleanup blocks keep to themselves: from one of them no edge leads to another block, and from another block exactly
+-- unwinding leads to one; and each edge leads to a block
+abbrev pub LoweredKeepsToCleanup : Type 0
+LoweredKeepsToCleanup =
+    (items : ItemTable) (tree : BodyTree) → NamesItsLoops tree →
+    (n : ℕ) (block : Block) → slice_get (body_of items tree).blocks n ≡ Some block →
+    (keeps_to_cleanup (body_of items tree) block ≡ true)
+    × ((m : ℕ) → Contains (targets block.term) m → m < length (body_of items tree).blocks)

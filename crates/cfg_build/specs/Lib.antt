@@ -1,0 +1,4 @@
+pub mod Build
+pub mod Laws
+pub mod Loops
+pub mod Lower
