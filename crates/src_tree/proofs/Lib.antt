@@ -9,3 +9,4 @@ pub mod Spells
 pub mod Tables
 pub mod Texts
 pub mod Named
+pub mod Tests
