@@ -5,4 +5,6 @@ pub mod Answer
 pub mod Examples
 pub mod Laws
 pub mod Depth
+pub mod Shallow
 pub mod Lower
+pub mod Within
