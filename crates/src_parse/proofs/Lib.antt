@@ -8,3 +8,4 @@ pub mod Depth
 pub mod Shallow
 pub mod Lower
 pub mod Within
+pub mod Parts

@@ -12,7 +12,8 @@ use Rattle.src_tree.specs.Grammar.{Rest, ends, token, either, part, maybe, list,
 use Rattle.src_tree.specs.Layout.{node, end, tok, sub, row_of, depth, parts_depth, due_place, Levelled, Follows}
 use Rattle.src_tree.proofs.Follow.{is_known}
 use Rattle.src_tree.proofs.Complete.{Tree, Held}
-use Rattle.src_parse.specs.Bounds.{least_place, Bound, bound_of, value, ended_by, ended, lesser, with_part, bound}
+use Rattle.src_parse.specs.declared.bound.Bound.{Bound}
+use Rattle.src_parse.specs.Bounds.{least_place, bound_of, value, ended_by, ended, lesser, with_part, bound}
 use Rattle.src_parse.proofs.Alive.{sample, is_sample, leaf, leaf_places, leaf_from, all_leaves, leaf_block, way_arms, joinable, ender}
 use Rattle.src_parse.proofs.Depth.{settle_by, settle, settle_up, settle_mono, possible, poss, total, total_mono, pick, fit}
 

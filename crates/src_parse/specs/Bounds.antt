@@ -5,6 +5,7 @@ use Rattle.src_tree.specs.declared.row.Row.{Row}
 use Rattle.src_tree.specs.declared.row.Sort.{Sort}
 use Rattle.src_tree.specs.declared.place.Place.{Place}
 use Rattle.src_tree.specs.declared.place.Start.{Start}
+use Rattle.src_parse.specs.declared.bound.Bound.{Bound}
 use Rattle.src_tree.specs.Grammar.{Rest, ends, token, either, part, maybe, list, more, many, items, alternatives, statements, arms, arm_body, after_break, allowed, place_of, counts}
 
 abbrev least_expr : Start → ℕ
@@ -29,11 +30,6 @@ least_place c = elim c.sort [
   | Sort.Expr ↦ least_expr c.start
   | _ ↦ 0
 ]
-
--- a depth of at least `floor`, and by at least `around` more than the parts so far or the node inside
-pub record Bound : Type 0 where
-  pub floor : ℕ
-  pub around : ℕ
 
 abbrev pub bound_of : ℕ → ℕ → Bound
 bound_of f a = record { floor = f; around = a }
@@ -80,3 +76,13 @@ bound c (statements o) = ended c Row.Block 0 1
 bound c (arms o) = ended c Row.Match (arms_floor o) 1
 bound c arm_body = ended c Row.Arm 2 1
 bound c after_break = ended c Row.Break 0 1
+
+-- how much is still to be looked at
+abbrev pub size : Rest → ℕ
+size (token k after) = suc (size after)
+size (either k after other) = suc (size after + size other)
+size (part p after) = suc (size after)
+size (list p later dots close after) = suc (size after)
+size (more p dots close after) = suc (size after)
+size (many p close after) = suc (size after)
+size _ = 0

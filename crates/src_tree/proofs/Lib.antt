@@ -10,3 +10,4 @@ pub mod Tables
 pub mod Texts
 pub mod Named
 pub mod Tests
+pub mod Pieces

@@ -26,4 +26,4 @@ pub use place::{Part, Place, Seen, Start};
 pub use points::{advance, behind, due, made, step_at};
 pub use row::{Row, Sort};
 pub use spelling::{copy_token, spell};
-pub use table::{Begun, Point, Step};
+pub use table::{Begun, ITEMS, Point, Step};

@@ -3,25 +3,22 @@ use Rattle.std.proofs.lemmas.List.{nil_from_length}
 use Rattle.src_token.specs.declared.token.Token.{Token}
 use Rattle.src_tree.specs.declared.node.Node.{Node}
 use Rattle.src_tree.specs.declared.node.Piece
-use Rattle.src_tree.specs.declared.node.Piece.TheFolds.{fold-roll-Piece}
-use Rattle.src_tree.specs.declared.node.Piece.TheVariants.{rolls-Node, rolls-Token}
 use Rattle.src_tree.specs.Checking.{levels, begun as begun_of, follows as follows_of}
 use Rattle.src_tree.specs.Grammar.{joined}
 use Rattle.src_tree.specs.Layout.{sub, tok, end}
 use Rattle.src_tree.specs.Table.{joined_of, rest_at}
 use Rattle.src_tree.specs.View.{a_node, a_token, layout_of, piece_of, parts_from, parts_in}
+use Rattle.src_tree.proofs.Pieces.{node_seen, token_seen}
 use Rattle.src_tree.proofs.Tests.{joined_on, not_joined}
 use Rattle.src_tree.proofs.levels.+levelled.Goals as goal
 
 one : (ps : List Piece.Piece) (g : Node) (rest : List Piece.Piece) → ps ≡ Piece.Node g ∷ rest → parts_in ps ≡ sub (layout_of g) (parts_in rest)
 one ps g rest e =
-    let v : piece_of (Piece.Node g) ≡ a_node (layout_of g) = ap piece_of (sym (rolls-Node g)) ∙ search (rules, fold-roll-Piece) in
-    ap parts_in e ∙ ap (λ z. parts_from (z ∷ map piece_of rest)) v
+    ap parts_in e ∙ ap (λ z. parts_from (z ∷ map piece_of rest)) (node_seen g)
 
 two : (ps : List Piece.Piece) (g : Node) (t : Token) (rest : List Piece.Piece) → ps ≡ Piece.Node g ∷ Piece.Token t ∷ rest → parts_in ps ≡ sub (layout_of g) (tok t (parts_in rest))
 two ps g t rest e =
-    let w : piece_of (Piece.Token t) ≡ a_token t = ap piece_of (sym (rolls-Token t)) ∙ search (rules, fold-roll-Piece) in
-    one ps g (Piece.Token t ∷ rest) e ∙ ap (λ z. sub (layout_of g) (parts_from (z ∷ map piece_of rest))) w
+    one ps g (Piece.Token t ∷ rest) e ∙ ap (λ z. sub (layout_of g) (parts_from (z ∷ map piece_of rest))) (token_seen t)
 
 pub begun-returns-then-node_levelled : goal.begun-returns-then-node_levelled
 begun-returns-then-node_levelled t c =
