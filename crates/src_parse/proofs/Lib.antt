@@ -9,3 +9,5 @@ pub mod Shallow
 pub mod Lower
 pub mod Within
 pub mod Parts
+pub mod Turns
+pub mod Limit

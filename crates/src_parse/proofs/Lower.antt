@@ -262,7 +262,7 @@ pub needs_step : (s : Stack) (t : Token) → Good s → Fitted s → Up s (step 
 needs_step [] t g f = tt
 needs_step (frame c q at d ∷ S) t g f = ups S c q d t g f
 
-abbrev Later : Stack → Option Stack → Type 0
+abbrev pub Later : Stack → Option Stack → Type 0
 Later from None = Unit {0}
 Later from (Some s) = Good s × Fitted s × (need from ≤ need s)
 

@@ -1,5 +1,5 @@
 -- Parts with one more.
-use Rattle.std.proofs.Common.{◌≡◌, List, [], ◌∷◌, ◌++◌, refl, sym, ap, ◌∙◌, map}
+use Rattle.std.proofs.Common.{◌≡◌, ℕ, List, [], ◌∷◌, ◌++◌, refl, sym, ap, ◌∙◌, map}
 use Rattle.mir_base.specs.declared.place_in_text.Pos.{Pos}
 use Rattle.src_token.specs.declared.token.Token.{Token}
 use Rattle.src_tree.specs.declared.row.Row.{Row}
@@ -9,7 +9,9 @@ use Rattle.src_tree.specs.Layout as plain
 use Rattle.src_tree.specs.Layout.{Parts, tok, sub, end}
 use Rattle.src_tree.specs.View.{Single, a_token, a_node, layout_of, piece_of, parts_from, parts_in}
 use Rattle.src_tree.specs.Reading.{with_tok, with_sub}
-use Rattle.src_tree.specs.Grammar.{items}
+use Rattle.src_tree.specs.declared.place.Place.{Place}
+use Rattle.src_parse.specs.Counting.{Counted}
+use Rattle.src_tree.specs.Grammar.{Rest, items}
 use Rattle.src_tree.specs.Table.{rest_at}
 use Rattle.src_tree.proofs.Named.{items_is}
 use Rattle.src_tree.proofs.Pieces.{token_seen, node_seen, node_laid}
@@ -39,3 +41,9 @@ items_there = items_is
 
 pub node_in : (g : Node) → layout_of g ≡ plain.node g.at g.row (parts_in g.parts)
 node_in g = node_laid g
+
+abbrev pub counted : Place → Rest → Pos → Parts Pos → ℕ → ℕ → ℕ → Counted
+counted c q at ps d f a = record { place = c; rest = q; at = at; parts = ps; deepest = d; floor = f; around = a }
+
+pub same_counted : (c : Place) (q q2 : Rest) (at : Pos) (ps ps2 : Parts Pos) (d d2 f a : ℕ) → q ≡ q2 → ps ≡ ps2 → d ≡ d2 → counted c q at ps d f a ≡ counted c q2 at ps2 d2 f a
+same_counted c q q2 at ps ps2 d d2 f a x y z = ap (λ v. counted c v at ps d f a) x ∙ ap (λ v. counted c q2 at v d f a) y ∙ ap (λ v. counted c q2 at ps2 v f a) z

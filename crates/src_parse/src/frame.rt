@@ -155,7 +155,7 @@ pub(crate) fn began(
 }
 
 /// The node with one more part, which is complete.
-#[tactic(auto, using(crate::proofs::Parts::one_node))]
+#[tactic(auto, using(crate::proofs::Parts::one_node, crate::proofs::Parts::node_in))]
 pub(crate) fn with_node(frame: Frame, part: Frame, row: Row) -> Result<Frame, NoMemory>
     ensures { IfOk result (λ new. frame_of new ≡ with_node_of (frame_of frame) (frame_of part) row) }
 {

@@ -41,6 +41,7 @@ fn joins(place: Place, row: Row, token: &Token) -> Option<u16>
 
 /// The innermost node behind a token. Nodes that are complete become parts of those around them, which are taken
 /// from the list.
+#[tactic(auto, using(crate::proofs::Turns::act_moves, crate::proofs::Turns::act_opens, crate::proofs::Turns::act_ends, crate::proofs::Turns::act_joins, crate::proofs::Turns::act_refuses, crate::proofs::Turns::act_outermost, crate::proofs::Turns::act_hands))]
 pub(crate) fn step(
     alloc: Global,
     below: &mut List<Frame>,
@@ -77,6 +78,7 @@ pub(crate) fn step(
 }
 
 /// The text where its tokens end: all nodes have to be complete.
+#[tactic(auto, using(crate::proofs::Turns::close_not_made))]
 pub(crate) fn close(below: &mut List<Frame>, top: Frame) -> Result<Option<Frame>, NoMemory>
     ensures { IfOk result (λ new. close_of (stack_of below.old) (frame_of top) ≡ option_map frame_of new) }
 {
