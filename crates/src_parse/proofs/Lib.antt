@@ -11,3 +11,5 @@ pub mod Within
 pub mod Parts
 pub mod Turns
 pub mod Limit
+pub mod Bare
+pub mod Numbers
