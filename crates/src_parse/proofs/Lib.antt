@@ -13,3 +13,5 @@ pub mod Turns
 pub mod Limit
 pub mod Bare
 pub mod Numbers
+pub mod Spots
+pub mod Verdict

@@ -56,7 +56,7 @@ reached_floor b d F R x y z e f g = omega arith
 pub need_counted : (f : Counted) (S : List Counted) → Holds (f ∷ S) → need_of f ≡ cap (needed f S)
 need_counted f S h = reached_floor (bound f.place f.rest) (parts_depth f.parts) (bounds S).floor (bounds S).around f.deepest f.floor f.around h.0 h.1 h.2
 
-abbrev HoldsIf : Option (List Counted) → Type 0
+abbrev pub HoldsIf : Option (List Counted) → Type 0
 HoldsIf None = Unit {0}
 HoldsIf (Some S) = Holds S
 

@@ -35,11 +35,14 @@ pub fn parse(alloc: Global, tokens: &[Spanned], end: Pos) -> Result<Tree, ParseE
         }
         at += 1;
     }
-    match close(&mut below, top)? {
-        Some(text) if text.deepest <= LIMIT => Ok(Tree {
-            items: text.parts,
-            end,
-        }),
-        _ => Err(ParseError::Syntax { at, pos: end }),
+    let Some(text) = close(&mut below, top)? else {
+        return Err(ParseError::Syntax { at, pos: end });
+    };
+    if text.deepest > LIMIT {
+        return Err(ParseError::Syntax { at, pos: end });
     }
+    Ok(Tree {
+        items: text.parts,
+        end,
+    })
 }
