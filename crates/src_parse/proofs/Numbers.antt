@@ -1,5 +1,6 @@
 -- The numbers of the frames are those of the trees that they speak of.
-use Rattle.std.proofs.Common.{◌≡◌, ℕ, ◌+◌, ◌≤◌, max, min, Bool, true, false, Option, Some, None, option_map, List, [], ◌∷◌, refl, sym, ap, ◌∙◌, subst, arith}
+use Rattle.std.proofs.Common.{◌≡◌, ℕ, ◌+◌, ◌≤◌, max, min, nat_le, nat_lt, ◌<◌, if◌then◌else◌, Bool, true, false, Option, Some, None, option_map, List, [], ◌∷◌, refl, sym, ap, ◌∙◌, subst, arith}
+use Rattle.std.proofs.lemmas.Bool.{leb-true, ltb-true, ltb-false}
 use Rattle.mir_base.specs.declared.place_in_text.Pos.{Pos}
 use Rattle.src_token.specs.declared.token.Token.{Token}
 use Rattle.src_tree.specs.declared.row.Row.{Row}
@@ -11,11 +12,11 @@ use Rattle.src_tree.specs.Laws.{unplaced_parts}
 use Rattle.src_tree.specs.Reading.{or_else, and_then, only_if, opens, joins, with_tok, with_sub, frame, file_place}
 use Rattle.src_tree.proofs.Complete.{Held}
 use Rattle.src_parse.specs.declared.bound.Bound.{Bound}
-use Rattle.src_parse.specs.Bounds.{bound_of, value, bound}
-use Rattle.src_parse.specs.Counting.{Counted, sat, reach, need_of, taken, inside, began, with_node, goes_on, is_joined, act}
+use Rattle.src_parse.specs.Bounds.{bound_of, value, bound, most, limit}
+use Rattle.src_parse.specs.Counting.{Counted, sat, reach, reach_by, need_of, passes, taken, inside, began, with_node, goes_on, is_joined, act}
 use Rattle.src_parse.proofs.Alive.{at_once, and_behind, alive}
 use Rattle.src_parse.proofs.Depth.{total, total_behind, behind_total, below, need}
-use Rattle.src_parse.proofs.Shallow.{fits, fits_formed, total_is}
+use Rattle.src_parse.proofs.Shallow.{fits, fits_formed, fits_most, total_is}
 use Rattle.src_parse.proofs.Lower.{Fitted, fit_of, alive_poss}
 use Rattle.src_parse.proofs.Sound.{Good}
 use Rattle.src_parse.proofs.Bare.{bare, erase, depth_unplaced_parts}
@@ -157,3 +158,27 @@ need_is f (g ∷ S) gd ft =
   where
     summed : (b B : Bound) (d e : ℕ) → d ≡ e → value B (value b d) ≡ (around_by b e B).floor
     summed b B d e h = omega arith
+
+-- What the test of the limit tells.
+
+small : (f : Counted) (S : List Counted) → Good (erase (f ∷ S)) → Fitted (erase (f ∷ S)) → ((bound f.place f.rest).floor ≤ 3) × ((bound f.place f.rest).around ≤ 2)
+small f [] gd ft =
+    subst (λ z. ((bound z f.rest).floor ≤ 3) × ((bound z f.rest).around ≤ 2)) (sym gd.0)
+    (subst (λ z. ((bound file_place z).floor ≤ 3) × ((bound file_place z).around ≤ 2)) (sym gd.1) (omega arith, omega arith))
+small f (g ∷ S) gd ft = fits_most f.place f.rest (at_once (fits f.place) f.rest ft.0)
+
+by_test : (a : Bool) (n : ℕ) → (if a then false else nat_lt limit n) ≡ false → (a ≡ true → n ≤ limit) → n ≤ limit
+by_test true n e f = f refl
+by_test false n e f = let h = ltb-false limit n e in omega arith
+
+pub stays_within : (f : Counted) (S : List Counted) → Good (erase (f ∷ S)) → Fitted (erase (f ∷ S)) → passes f ≡ false → need_of f ≤ limit
+stays_within f S gd ft e =
+    by_test (nat_le (reach_by f most).floor limit) (need_of f) e
+    (λ t. let s = small f S gd ft in let a = s.0 in let b = s.1 in let l = leb-true (reach_by f most).floor limit t in omega arith)
+
+pub goes_past : (f : Counted) → passes f ≡ true → limit < need_of f
+goes_past f e = go (nat_le (reach_by f most).floor limit) e
+  where
+    go : (a : Bool) → (if a then false else nat_lt limit (need_of f)) ≡ true → limit < need_of f
+    go true e = absurd (cc)
+    go false e = ltb-true limit (need_of f) e

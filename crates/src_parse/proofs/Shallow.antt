@@ -13,7 +13,7 @@ use Rattle.src_tree.specs.Layout.{node, end, tok, sub, row_of, depth, parts_dept
 use Rattle.src_tree.proofs.Follow.{is_known}
 use Rattle.src_tree.proofs.Complete.{Tree, Held}
 use Rattle.src_parse.specs.declared.bound.Bound.{Bound}
-use Rattle.src_parse.specs.Bounds.{least_place, bound_of, value, ended_by, ended, lesser, with_part, bound}
+use Rattle.src_parse.specs.Bounds.{least_place, bound_of, value, ended_by, ended, lesser, with_part, bound, most}
 use Rattle.src_parse.proofs.Alive.{sample, is_sample, leaf, leaf_places, leaf_from, all_leaves, leaf_block, way_arms, joinable, ender}
 use Rattle.src_parse.proofs.Depth.{settle_by, settle, settle_up, settle_mono, possible, poss, total, total_mono, pick, fit}
 
@@ -147,16 +147,19 @@ shallow c arm_body = true
 shallow c after_break = true
 
 abbrev pub fits : Place → Rest → Bool
-fits c q = fit c q && (formed c q && shallow c q)
+fits c q = fit c q && (formed c q && (shallow c q && at_most (bound c q) most))
 
 pub fits_fit : (c : Place) (q : Rest) → fits c q ≡ true → fit c q ≡ true
 fits_fit c q h = (and_parts (fit c q) _ h).0
 
 pub fits_formed : (c : Place) (q : Rest) → fits c q ≡ true → formed c q ≡ true
-fits_formed c q h = (and_parts (formed c q) (shallow c q) (and_parts (fit c q) _ h).1).0
+fits_formed c q h = (and_parts (formed c q) _ (and_parts (fit c q) _ h).1).0
 
 pub fits_shallow : (c : Place) (q : Rest) → fits c q ≡ true → shallow c q ≡ true
-fits_shallow c q h = (and_parts (formed c q) (shallow c q) (and_parts (fit c q) _ h).1).1
+fits_shallow c q h = (and_parts (shallow c q) _ (and_parts (formed c q) _ (and_parts (fit c q) _ h).1).1).0
+
+pub fits_most : (c : Place) (q : Rest) → fits c q ≡ true → ((bound c q).floor ≤ 3) × ((bound c q).around ≤ 2)
+fits_most c q h = at_most_is (bound c q) most (and_parts (shallow c q) _ (and_parts (formed c q) _ (and_parts (fit c q) _ h).1).1).1
 
 by_test : (h : Bool) (r : Row) (ps : Held) (b : Bool) (q : Rest) (o : Option Rest) → b ≡ true → Follows h (Some q) r ps → Follows h (if b then Some q else o) r ps
 by_test h r ps true q o e f = f

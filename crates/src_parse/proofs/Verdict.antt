@@ -19,12 +19,12 @@ use Rattle.src_parse.specs.declared.error.ParseError.TheVariants.{Syntax, TooDee
 use Rattle.src_parse.specs.Reads.{Items, IsItems, Begins}
 use Rattle.src_parse.specs.Bounds.{limit}
 use Rattle.src_parse.specs.Answers.{tokens_in, places_in, PartsPlaced, IsTree, BeginsWithin, IsBad, place_or, place_at, IsRefused}
-use Rattle.src_parse.specs.Counting.{Counted, start, need_of, with_node, act, step, read, close}
+use Rattle.src_parse.specs.Counting.{Counted, start, need_of, passes, with_node, act, step, read, close}
 use Rattle.src_parse.proofs.Depth.{need}
 use Rattle.src_parse.proofs.Answer.{started, begins, no_more, sound}
 use Rattle.src_parse.proofs.Limit.{reached, at_least, no_deeper}
 use Rattle.src_parse.proofs.Bare.{bare, erase, read_bare, close_bare, depth_unplaced_parts, items_placed}
-use Rattle.src_parse.proofs.Numbers.{cap, needed, Holds, need_counted, need_is, act_holds, node_holds}
+use Rattle.src_parse.proofs.Numbers.{cap, needed, Holds, need_counted, need_is, act_holds, node_holds, stays_within, goes_past}
 use Rattle.src_parse.proofs.Spots.{InPlace, left, At, act_at, close_at, EndPlaced}
 
 abbrev pub from_start : List Spanned → Pos → Option (List Counted)
@@ -74,6 +74,9 @@ need_read : (ss : List Spanned) (e : Pos) (f : Counted) (S : List Counted) → f
 need_read ss e f S r =
     let g = reached (tokens_in ss) (erase (f ∷ S)) (plain_state ss e (Some (f ∷ S)) r) in
     need_counted f S (kept ss e (f ∷ S) r).0 ∙ ap cap (sym (need_is f S g.0 g.1))
+
+pub within_limit : (ss : List Spanned) (e : Pos) (f : Counted) (S : List Counted) → from_start ss e ≡ Some (f ∷ S) → passes f ≡ false → need_of f ≤ limit
+within_limit ss e f S r p = let g = reached (tokens_in ss) (erase (f ∷ S)) (plain_state ss e (Some (f ∷ S)) r) in stays_within f S g.0 g.1 p
 
 before_is : (ss : List Spanned) (i : ℕ) (e : Pos) (f : Counted) (S : List Counted) → from_start (take i ss) e ≡ Some (f ∷ S) → need_of f ≤ limit → BeginsWithin (take i (tokens_in ss))
 before_is ss i e f S r h =

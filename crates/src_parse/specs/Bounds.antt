@@ -77,6 +77,10 @@ bound c (arms o) = ended c Row.Match (arms_floor o) 1
 bound c arm_body = ended c Row.Arm 2 1
 bound c after_break = ended c Row.Break 0 1
 
+-- no point that a parser comes to has a greater one
+abbrev pub most : Bound
+most = bound_of 3 2
+
 -- how much is still to be looked at
 abbrev pub size : Rest → ℕ
 size (token k after) = suc (size after)

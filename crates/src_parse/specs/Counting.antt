@@ -1,6 +1,6 @@
 -- The parser of `Reading` with places, and with the numbers by which it knows how deep its trees are at least; nothing that
 -- a reader must believe rests on it.
-use Rattle.std.specs.Prelude.{ℕ, ◌+◌, max, min, Bool, true, false, Option, Some, None, option_map, List, [], ◌∷◌}
+use Rattle.std.specs.Prelude.{ℕ, ◌+◌, max, min, nat_le, nat_lt, if◌then◌else◌, Bool, true, false, Option, Some, None, option_map, List, [], ◌∷◌}
 use Rattle.mir_base.specs.declared.place_in_text.Pos.{Pos}
 use Rattle.src_token.specs.declared.token.Token.{Token}
 use Rattle.src_token.specs.declared.token.Spanned.{Spanned}
@@ -10,7 +10,7 @@ use Rattle.src_tree.specs.Grammar.{counts, allowed, Rest, items, move, behind, m
 use Rattle.src_tree.specs.Layout.{node, Parts, end, tok, sub}
 use Rattle.src_tree.specs.Reading.{or_else, and_then, only_if, opens, joins, with_tok, with_sub, file_place}
 use Rattle.src_parse.specs.declared.bound.Bound.{Bound}
-use Rattle.src_parse.specs.Bounds.{bound_of, bound}
+use Rattle.src_parse.specs.Bounds.{bound_of, bound, most, limit}
 
 -- A node of which a part may still come. How deep its parts so far are; and of what stands around it, how deep the text is
 -- at least and by how much deeper than the node.
@@ -37,6 +37,10 @@ reach f q = reach_by f (bound f.place q)
 -- the least depth of a text that goes on from here
 abbrev pub need_of : Counted → ℕ
 need_of f = (reach f f.rest).floor
+
+-- whether each text that goes on from here is past the limit; most often the greatest bound tells that it is not
+abbrev pub passes : Counted → Bool
+passes f = if nat_le (reach_by f most).floor limit then false else nat_lt limit (need_of f)
 
 abbrev pub taken : Counted → Rest → Token → Counted
 taken f q t = record {

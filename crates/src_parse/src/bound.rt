@@ -15,6 +15,12 @@ pub struct Bound {
 /// A depth past the limit on nesting, for what can come to no end.
 const PAST_LIMIT: u32 = 65;
 
+/// No point that the parser comes to has a greater bound.
+pub(crate) const MOST: Bound = Bound {
+    floor: 3,
+    around: 2,
+};
+
 /// The least depth of a tree that stands there.
 fn least_place(place: Place) -> u32
     ensures small { result < 3 }

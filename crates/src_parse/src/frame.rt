@@ -1,12 +1,13 @@
 //! Nodes of which a part may still come.
 ghost use Rattle.std.specs.Prelude.{◌≡◌, IfOk};
 ghost use Rattle.src_tree.specs.Table.{rest_of, rest_at};
-ghost use Rattle.src_parse.specs.Counting.{reach_by, reach as reach_of, need_of, taken as taken_of, inside as inside_of, began as began_of, with_node as with_node_of, start as start_of};
+ghost use Rattle.src_parse.specs.Counting.{reach_by, reach as reach_of, need_of, passes as passes_of, taken as taken_of, inside as inside_of, began as began_of, with_node as with_node_of, start as start_of};
 ghost use Rattle.src_tree.specs.Layout.{tok, sub, end};
 ghost use Rattle.src_tree.specs.View.{layout_of, parts_in};
 ghost use Rattle.src_parse.specs.View.{frame_of};
 
-use crate::bound::{Bound, bound_at};
+use crate::LIMIT;
+use crate::bound::{Bound, MOST, bound_at};
 use mir_base::{List, NoMemory, Pos};
 use src_token::Token;
 use src_tree::{ITEMS, Node, Piece, Place, Point, Row, Sort, Start, behind, copy_token, counts};
@@ -41,10 +42,18 @@ fn reach(frame: &Frame, bound: Bound) -> Bound
 }
 
 /// The least depth of a text that goes on from here.
-pub(crate) fn need(frame: &Frame) -> u32
+fn need(frame: &Frame) -> u32
     ensures { result ≡ need_of (frame_of frame.now) }
 {
     reach(frame, bound_at(frame.place, frame.point)).floor
+}
+
+/// Whether each text that goes on from here is nested past the limit. Most often the greatest bound tells that it is
+/// not.
+pub(crate) fn passes(frame: &Frame) -> bool
+    ensures { result ≡ passes_of (frame_of frame.now) }
+{
+    reach(frame, MOST).floor > LIMIT && need(frame) > LIMIT
 }
 
 /// The frame of a text before its first token.

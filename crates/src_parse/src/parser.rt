@@ -2,7 +2,7 @@ ghost use Rattle.std.specs.Prelude.{◌≡◌, ◌<◌, ◌^◌, IfOk, IfErr, le
 ghost use Rattle.src_parse.specs.Answers.{IsTree, IsRefused};
 
 use crate::ParseError;
-use crate::frame::{need, start};
+use crate::frame::{passes, start};
 use crate::steps::{close, step};
 use mir_base::{List, Pos};
 use src_token::Spanned;
@@ -30,7 +30,7 @@ pub fn parse(alloc: Global, tokens: &[Spanned], end: Pos) -> Result<Tree, ParseE
             Some(next) => top = next,
             None => return Err(ParseError::Syntax { at, pos }),
         }
-        if need(&top) > LIMIT {
+        if passes(&top) {
             return Err(ParseError::TooDeep { at, pos });
         }
         at += 1;

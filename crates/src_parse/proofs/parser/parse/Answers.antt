@@ -5,7 +5,8 @@ use Rattle.src_parse.specs.Answers.{IsRefused}
 use Rattle.src_parse.specs.Bounds.{limit}
 use Rattle.src_parse.specs.Counting.{act, close, need_of}
 use Rattle.src_parse.specs.View.{frame_of, stack_of}
-use Rattle.src_parse.proofs.Verdict.{from_start, next_state, syntax_is, deep_is, tree_is, end_none, end_deep, take_all}
+use Rattle.src_parse.proofs.Verdict.{from_start, next_state, syntax_is, deep_is, tree_is, end_none, end_deep, take_all, within_limit}
+use Rattle.src_parse.proofs.Numbers.{goes_past}
 use Rattle.src_parse.proofs.parser.parse.Goals as goal
 
 pub returns-in-None-clause-refused : goal.returns-in-None-clause-refused
@@ -18,10 +19,10 @@ returns-in-None-clause-refused c =
     let v = c.loop-spanned.invariant in
     let g : slice_get ts i ≡ Some s = slice_get-get_or ts i s c.loop-spanned-test.true ∙ ap (λ z. Some z) (sym c.spanned-item.is) in
     let n : act S f s.token s.at ≡ None = search rules in
-    subst (λ z. IsRefused ts c.args.end (Syntax z s.at)) (sym v.2) (syntax_is ts c.args.end i s f S g v.0 v.1 n)
+    subst (λ z. IsRefused ts c.args.end (Syntax z s.at)) (sym v.2) (syntax_is ts c.args.end i s f S g v.0 (within_limit (take i ts) c.args.end f S v.0 v.1) n)
 
-pub returns-then-need-gt-LIMIT-clause-refused : goal.returns-then-need-gt-LIMIT-clause-refused
-returns-then-need-gt-LIMIT-clause-refused c =
+pub returns-then-passes-clause-refused : goal.returns-then-passes-clause-refused
+returns-then-passes-clause-refused c =
     let ts = c.args.tokens.now in
     let s = c.spanned-item.result in
     let i = c.loop-spanned.spanned-index in
@@ -32,8 +33,8 @@ returns-then-need-gt-LIMIT-clause-refused c =
     let S2 = stack_of c.step.new.below in
     let g : slice_get ts i ≡ Some s = slice_get-get_or ts i s c.loop-spanned-test.true ∙ ap (λ z. Some z) (sym c.spanned-item.is) in
     let a : act S f s.token s.at ≡ Some (f2 ∷ S2) = search rules in
-    let d : limit < need_of f2 = search rules in
-    subst (λ z. IsRefused ts c.args.end (TooDeep z s.at)) (sym v.2) (deep_is ts c.args.end i s f S f2 S2 g v.0 v.1 a d)
+    let d : limit < need_of f2 = goes_past f2 (search rules) in
+    subst (λ z. IsRefused ts c.args.end (TooDeep z s.at)) (sym v.2) (deep_is ts c.args.end i s f S f2 S2 g v.0 (within_limit (take i ts) c.args.end f S v.0 v.1) a d)
 
 pub loop-spanned-preserved : goal.loop-spanned-preserved
 loop-spanned-preserved c =
@@ -64,7 +65,7 @@ returns-in_default-clause-refused c =
     let whole : i ≡ length ts = search rules in
     let r : from_start ts c.args.end ≡ Some (f ∷ S) = ap (λ z. from_start z c.args.end) (sym (take_all ts) ∙ ap (λ n. take n ts) (sym whole)) ∙ v.0 in
     let n : close S f ≡ None = search rules in
-    subst (λ z. IsRefused ts c.args.end (Syntax z c.args.end)) (sym whole ∙ sym v.2) (end_none ts c.args.end f S r v.1 n)
+    subst (λ z. IsRefused ts c.args.end (Syntax z c.args.end)) (sym whole ∙ sym v.2) (end_none ts c.args.end f S r (within_limit ts c.args.end f S r v.1) n)
 
 pub returns-then-text-gt-LIMIT-clause-refused : goal.returns-then-text-gt-LIMIT-clause-refused
 returns-then-text-gt-LIMIT-clause-refused c =
@@ -78,7 +79,7 @@ returns-then-text-gt-LIMIT-clause-refused c =
     let r : from_start ts c.args.end ≡ Some (f ∷ S) = ap (λ z. from_start z c.args.end) (sym (take_all ts) ∙ ap (λ n. take n ts) (sym whole)) ∙ v.0 in
     let n : close S f ≡ Some h = search rules in
     let d : limit < h.deepest = search rules in
-    subst (λ z. IsRefused ts c.args.end (Syntax z c.args.end)) (sym whole ∙ sym v.2) (end_deep ts c.args.end f S h r v.1 n d)
+    subst (λ z. IsRefused ts c.args.end (Syntax z c.args.end)) (sym whole ∙ sym v.2) (end_deep ts c.args.end f S h r (within_limit ts c.args.end f S r v.1) n d)
 
 pub returns-clause-tree : goal.returns-clause-tree
 returns-clause-tree c =
