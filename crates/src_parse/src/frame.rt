@@ -1,5 +1,5 @@
 //! Nodes of which a part may still come.
-ghost use Rattle.std.specs.Prelude.{◌≡◌, IfOk};
+ghost use Rattle.std.specs.Prelude.{◌≡◌, IfOk, OnOk};
 ghost use Rattle.src_tree.specs.Table.{rest_of, rest_at};
 ghost use Rattle.src_parse.specs.Counting.{reach_by, reach as reach_of, need_of, passes as passes_of, taken as taken_of, inside as inside_of, began as began_of, with_node as with_node_of, start as start_of};
 ghost use Rattle.src_tree.specs.Layout.{tok, sub, end};
@@ -12,6 +12,7 @@ use mir_base::{List, NoMemory, Pos};
 use src_token::Token;
 use src_tree::{ITEMS, Node, Piece, Place, Point, Row, Sort, Start, behind, copy_token, counts};
 use std::alloc::Global;
+use std::mem;
 
 /// A node of which a part may still come.
 #[derive(Debug, Drop)]
@@ -77,20 +78,19 @@ pub(crate) fn start(alloc: Global, at: Pos) -> Frame
     }
 }
 
-/// The node with one more token.
+/// One more token of a node, which is at this point behind it.
 #[tactic(auto, using(crate::proofs::Parts::one_token))]
-pub(crate) fn taken(
+pub(crate) fn take(
     alloc: Global,
-    frame: Frame,
+    frame: &mut Frame,
     point: Point,
     token: &Token,
-) -> Result<Frame, NoMemory>
-    ensures { IfOk result (λ new. frame_of new ≡ taken_of (frame_of frame) (rest_of point) token.now) }
+) -> Result<(), NoMemory>
+    ensures { OnOk result (frame_of frame.new ≡ taken_of (frame_of frame.old) (rest_of point) token.now) }
 {
-    let mut frame = frame;
     frame.parts.push(Piece::Token(copy_token(alloc, token)?))?;
     frame.point = point;
-    Ok(frame)
+    Ok(())
 }
 
 fn one_part(alloc: Global, token: &Token) -> Result<List<Piece>, NoMemory>
@@ -133,42 +133,28 @@ fn node_and_token(alloc: Global, node: Node, token: &Token) -> Result<List<Piece
     Ok(parts)
 }
 
-/// A node that begins with another that is complete.
-pub(crate) fn began(
+/// The node is complete as this row, and with the token it begins another.
+pub(crate) fn begin(
     alloc: Global,
-    frame: Frame,
+    frame: &mut Frame,
     row: Row,
     point: u16,
     token: &Token,
-) -> Result<Frame, NoMemory>
-    ensures { IfOk result (λ new. frame_of new ≡ began_of (frame_of frame) row (rest_at point) token.now) }
+) -> Result<(), NoMemory>
+    ensures { OnOk result (frame_of frame.new ≡ began_of (frame_of frame.old) row (rest_at point) token.now) }
 {
-    let Frame {
-        place,
-        at,
-        parts,
-        deepest,
-        floor,
-        around,
-        ..
-    } = frame;
-    Ok(Frame {
-        place,
-        point: Point::At(point),
-        at,
-        parts: node_and_token(alloc, Node { row, at, parts }, token)?,
-        deepest: deepest.saturating_add(counts(row)),
-        floor,
-        around,
-    })
+    let parts = mem::replace(&mut frame.parts, List::new(alloc));
+    let at = frame.at;
+    frame.parts = node_and_token(alloc, Node { row, at, parts }, token)?;
+    frame.point = Point::At(point);
+    frame.deepest = frame.deepest.saturating_add(counts(row));
+    Ok(())
 }
 
-/// The node with one more part, which is complete.
-#[tactic(auto, using(crate::proofs::Parts::one_node, crate::proofs::Parts::node_in))]
-pub(crate) fn with_node(frame: Frame, part: Frame, row: Row) -> Result<Frame, NoMemory>
-    ensures { IfOk result (λ new. frame_of new ≡ with_node_of (frame_of frame) (frame_of part) row) }
+/// One more part of a node, which is complete as this row.
+pub(crate) fn hold(frame: &mut Frame, part: Frame, row: Row) -> Result<(), NoMemory>
+    ensures { OnOk result (frame_of frame.new ≡ with_node_of (frame_of frame.old) (frame_of part) row) }
 {
-    let mut frame = frame;
     let Frame {
         at,
         parts,
@@ -178,5 +164,5 @@ pub(crate) fn with_node(frame: Frame, part: Frame, row: Row) -> Result<Frame, No
     frame.parts.push(Piece::Node(Node { row, at, parts }))?;
     frame.point = behind(frame.point, row);
     frame.deepest = frame.deepest.max(deepest.saturating_add(counts(row)));
-    Ok(frame)
+    Ok(())
 }

@@ -26,23 +26,23 @@ pub fn parse(alloc: Global, tokens: &[Spanned], end: Pos) -> Result<Tree, ParseE
     let mut at = 0;
     for spanned in tokens {
         let pos = spanned.at;
-        match step(alloc, &mut below, top, &spanned.token, pos)? {
-            Some(next) => top = next,
-            None => return Err(ParseError::Syntax { at, pos }),
+        if !step(alloc, &mut below, &mut top, &spanned.token, pos)? {
+            return Err(ParseError::Syntax { at, pos });
         }
         if passes(&top) {
             return Err(ParseError::TooDeep { at, pos });
         }
         at += 1;
     }
-    let Some(text) = close(&mut below, top)? else {
+    if !close(&mut below, &mut top)? {
         return Err(ParseError::Syntax { at, pos: end });
-    };
-    if text.deepest > LIMIT {
+    }
+    // The last item has been counted with its last token; this tests it once more.
+    if top.deepest > LIMIT {
         return Err(ParseError::Syntax { at, pos: end });
     }
     Ok(Tree {
-        items: text.parts,
+        items: top.parts,
         end,
     })
 }

@@ -9,8 +9,8 @@ use Rattle.src_parse.proofs.Verdict.{from_start, next_state, syntax_is, deep_is,
 use Rattle.src_parse.proofs.Numbers.{goes_past}
 use Rattle.src_parse.proofs.parser.parse.Goals as goal
 
-pub returns-in-None-clause-refused : goal.returns-in-None-clause-refused
-returns-in-None-clause-refused c =
+pub returns-then-not-branch-clause-refused : goal.returns-then-not-branch-clause-refused
+returns-then-not-branch-clause-refused c =
     let ts = c.args.tokens.now in
     let s = c.spanned-item.result in
     let i = c.loop-spanned.spanned-index in
@@ -29,7 +29,7 @@ returns-then-passes-clause-refused c =
     let f = frame_of c.loop-spanned.top in
     let S = stack_of c.loop-spanned.below in
     let v = c.loop-spanned.invariant in
-    let f2 = frame_of c.in-Some.next in
+    let f2 = frame_of c.step.new.top in
     let S2 = stack_of c.step.new.below in
     let g : slice_get ts i ≡ Some s = slice_get-get_or ts i s c.loop-spanned-test.true ∙ ap (λ z. Some z) (sym c.spanned-item.is) in
     let a : act S f s.token s.at ≡ Some (f2 ∷ S2) = search rules in
@@ -44,7 +44,7 @@ loop-spanned-preserved c =
     let f = frame_of c.loop-spanned.top in
     let S = stack_of c.loop-spanned.below in
     let v = c.loop-spanned.invariant in
-    let f2 = frame_of c.in-Some.next in
+    let f2 = frame_of c.step.new.top in
     let S2 = stack_of c.step.new.below in
     let g : slice_get ts i ≡ Some s = slice_get-get_or ts i s c.loop-spanned-test.true ∙ ap (λ z. Some z) (sym c.spanned-item.is) in
     let a : act S f s.token s.at ≡ Some (f2 ∷ S2) = search rules in
@@ -55,8 +55,8 @@ loop-spanned-preserved c =
       ap (λ z. z + 1) e,
     )
 
-pub returns-in_default-clause-refused : goal.returns-in_default-clause-refused
-returns-in_default-clause-refused c =
+pub returns-then-not-branch-2-clause-refused : goal.returns-then-not-branch-2-clause-refused
+returns-then-not-branch-2-clause-refused c =
     let ts = c.args.tokens.now in
     let i = c.loop-spanned.spanned-index in
     let f = frame_of c.loop-spanned.top in
@@ -67,13 +67,13 @@ returns-in_default-clause-refused c =
     let n : close S f ≡ None = search rules in
     subst (λ z. IsRefused ts c.args.end (Syntax z c.args.end)) (sym whole ∙ sym v.2) (end_none ts c.args.end f S r (within_limit ts c.args.end f S r v.1) n)
 
-pub returns-then-text-gt-LIMIT-clause-refused : goal.returns-then-text-gt-LIMIT-clause-refused
-returns-then-text-gt-LIMIT-clause-refused c =
+pub returns-then-top-gt-LIMIT-clause-refused : goal.returns-then-top-gt-LIMIT-clause-refused
+returns-then-top-gt-LIMIT-clause-refused c =
     let ts = c.args.tokens.now in
     let i = c.loop-spanned.spanned-index in
     let f = frame_of c.loop-spanned.top in
     let S = stack_of c.loop-spanned.below in
-    let h = frame_of c.in-Some-2.text in
+    let h = frame_of c.close.new.top in
     let v = c.loop-spanned.invariant in
     let whole : i ≡ length ts = search rules in
     let r : from_start ts c.args.end ≡ Some (f ∷ S) = ap (λ z. from_start z c.args.end) (sym (take_all ts) ∙ ap (λ n. take n ts) (sym whole)) ∙ v.0 in
@@ -87,10 +87,10 @@ returns-clause-tree c =
     let i = c.loop-spanned.spanned-index in
     let f = frame_of c.loop-spanned.top in
     let S = stack_of c.loop-spanned.below in
-    let h = frame_of c.in-Some-2.text in
+    let h = frame_of c.close.new.top in
     let v = c.loop-spanned.invariant in
     let whole : i ≡ length ts = search rules in
     let r : from_start ts c.args.end ≡ Some (f ∷ S) = ap (λ z. from_start z c.args.end) (sym (take_all ts) ∙ ap (λ n. take n ts) (sym whole)) ∙ v.0 in
     let n : close S f ≡ Some h = search rules in
     let d : h.deepest ≤ limit = search rules in
-    tree_is ts c.args.end f S h (record { items = c.in-Some-2.text.parts; end = c.args.end }) r n d refl refl
+    tree_is ts c.args.end f S h (record { items = c.close.new.top.parts; end = c.args.end }) r n d refl refl

@@ -14,7 +14,7 @@ returns-in-Some c =
     let t = c.args.token.now in
     let q = rest_of c.in-Some.point in
     let m : move f.rest t ≡ Some q = search rules in
-    let k : frame_of c.in_ok-taken.field-0 ≡ taken f q t = search rules in
+    let k : frame_of c.take.new.frame ≡ taken f q t = search rules in
     sym c.loop-point.invariant ∙ act_moves S f t c.args.at q m ∙ ap (λ z. Some (z ∷ S)) (sym k)
 
 pub returns-in-Some-opens : goal.returns-in-Some-opens
@@ -26,10 +26,10 @@ returns-in-Some-opens c =
     let q = rest_at c.in-Some-opens.point in
     let m : move f.rest t ≡ None = search rules in
     let o : opens f.place.head f.rest t ≡ Some (p, q) = search rules in
-    let k : frame_of c.in_ok-part.part ≡ inside f p q c.args.at t = search rules in
+    let k : frame_of c.replace.new.dest ≡ inside f p q c.args.at t = search rules in
     let p2 : c.push.new.self ≡ c.loop-point.below ++ c.loop-point.top ∷ [] = search rules in
     let s : stack_of c.push.new.self ≡ f ∷ S = ap stack_of p2 ∙ stack_push c.loop-point.below c.loop-point.top in
-    sym c.loop-point.invariant ∙ act_opens S f t c.args.at p q m o ∙ ap (λ z. Some (z ∷ f ∷ S)) (sym k) ∙ ap (λ z. Some (frame_of c.in_ok-part.part ∷ z)) (sym s)
+    sym c.loop-point.invariant ∙ act_opens S f t c.args.at p q m o ∙ ap (λ z. Some (z ∷ f ∷ S)) (sym k) ∙ ap (λ z. Some (frame_of c.replace.new.dest ∷ z)) (sym s)
 
 pub returns-in-Some-joins : goal.returns-in-Some-joins
 returns-in-Some-joins c =
@@ -42,5 +42,5 @@ returns-in-Some-joins c =
     let o : opens f.place.head f.rest t ≡ None = search rules in
     let d : made f.rest ≡ Some r = search rules in
     let j : joins f.place r t ≡ Some q = search rules in
-    let k : frame_of c.in_ok-began.field-0 ≡ began f r q t = search rules in
+    let k : frame_of c.begin.new.frame ≡ began f r q t = search rules in
     sym c.loop-point.invariant ∙ act_joins S f t c.args.at r q m o d j ∙ ap (λ z. Some (z ∷ S)) (sym k)
