@@ -1,5 +1,5 @@
 -- A text has no more tokens than bytes.
-use Rattle.std.proofs.Common.{◌≡◌, ℕ, ◌+◌, ◌<◌, ◌≤◌, List, [], ◌∷◌, ◌++◌, length, refl, sym, ap, ◌∙◌, subst, arith}
+use Rattle.std.proofs.Common.{ℕ, ◌≤◌, List, [], ◌∷◌, ◌++◌, length, ap, ◌∙◌, arith}
 use Rattle.std.specs.Str.{chars}
 use Rattle.std.proofs.lemmas.List.{length-append}
 use Rattle.std.proofs.lemmas.Str.{length-le-encodes, encodes-chars}
@@ -7,7 +7,7 @@ use Rattle.src_token.specs.declared.token.Spanned.{Spanned}
 use Rattle.src_token.specs.declared.piece.Reading.{Reading}
 use Rattle.src_token.specs.declared.piece.Reading.TheVariants.{Skipped, Reads, Fails}
 use Rattle.src_token.specs.Rows.{Row, blank, line_comment, comment, open_comment, slash, mark, word, number, label, no_label, text, open_text, other}
-use Rattle.src_token.specs.Tokens.{Cut, Cutting, CutTokens, Tokens, token_of, tokens_of}
+use Rattle.src_token.specs.Tokens.{Cut, Cutting, Tokens, token_of, tokens_of}
 
 row_some : (p : List ℕ) (r : Reading) → Row p r → 1 ≤ length p
 row_some p r (blank c e) = omega arith

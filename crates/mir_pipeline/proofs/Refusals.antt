@@ -1,5 +1,5 @@
 -- Each refusal of a layer is one of the text.
-use Rattle.std.proofs.Common.{◌≡◌, ℕ, List, refl}
+use Rattle.std.proofs.Common.{ℕ, List, refl}
 use Rattle.src_token.specs.declared.token.Spanned.{Spanned}
 use Rattle.src_token.specs.declared.token.LexError.{LexError}
 use Rattle.src_token.specs.declared.token.LexError.TheVariants.{BadChar, BadNumber, OpenComment, OpenText, NotUtf8, Memory}

@@ -1,15 +1,15 @@
 -- Tokens begin a tree within a depth exactly where they are read and the state needs no more.
-use Rattle.std.proofs.Common.{◌≡◌, ℕ, ◌+◌, ◌≤◌, max, Bool, true, false, Option, Some, None, option_map, List, [], ◌∷◌, ◌++◌, refl, sym, ap, ◌∙◌, subst, arith}
+use Rattle.std.proofs.Common.{◌≡◌, ◌+◌, ◌≤◌, Bool, true, false, Option, Some, None, option_map, List, [], ◌∷◌, ◌++◌, refl, sym, ap, ◌∙◌, subst, arith}
 use Rattle.src_token.specs.declared.token.Token.{Token}
 use Rattle.src_tree.specs.declared.row.Row.{Row}
 use Rattle.src_tree.specs.declared.place.Place.{Place}
 use Rattle.src_tree.specs.Grammar.{allowed, Rest, made, behind, counts}
-use Rattle.src_tree.specs.Layout.{node, parts_of, spell_parts, depth, parts_depth, ItemsLevelled}
+use Rattle.src_tree.specs.Layout.{node, parts_of, depth, parts_depth}
 use Rattle.src_tree.specs.Reading.{and_then, only_if, with_sub, frame, close_all, whole, start}
 use Rattle.src_tree.proofs.Complete.{Tree, Held, Stack, run, complete}
 use Rattle.src_parse.specs.Reads.{IsItems}
-use Rattle.src_parse.proofs.Depth.{total, total_up, need}
-use Rattle.src_parse.proofs.Sound.{Good, start_good, handed_on, Reached, runs, run_none}
+use Rattle.src_parse.proofs.Depth.{total, need}
+use Rattle.src_parse.proofs.Sound.{Good, start_good, handed_on}
 use Rattle.src_parse.proofs.Finish.{run_append}
 use Rattle.src_parse.proofs.Answer.{started, sound}
 use Rattle.src_parse.proofs.Lower.{Fitted, up_hand, fitted_on, needs_run, Later}

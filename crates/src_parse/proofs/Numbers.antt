@@ -5,21 +5,20 @@ use Rattle.mir_base.specs.declared.place_in_text.Pos.{Pos}
 use Rattle.src_token.specs.declared.token.Token.{Token}
 use Rattle.src_tree.specs.declared.row.Row.{Row}
 use Rattle.src_tree.specs.declared.place.Place.{Place}
-use Rattle.src_tree.specs.declared.place.Part.{Part}
-use Rattle.src_tree.specs.Grammar.{Rest, items, allowed, move, made, behind, due, counts, place_of}
+use Rattle.src_tree.specs.Grammar.{Rest, items, allowed, move, made, behind}
 use Rattle.src_tree.specs.Layout.{Node, node, Parts, end, tok, sub, depth, parts_depth}
 use Rattle.src_tree.specs.Laws.{unplaced_parts}
 use Rattle.src_tree.specs.Reading.{or_else, and_then, only_if, opens, joins, with_tok, with_sub, frame, file_place}
 use Rattle.src_tree.proofs.Complete.{Held}
 use Rattle.src_parse.specs.declared.bound.Bound.{Bound}
 use Rattle.src_parse.specs.Bounds.{bound_of, value, bound, most, limit}
-use Rattle.src_parse.specs.Counting.{Counted, sat, reach, reach_by, need_of, passes, taken, inside, began, with_node, goes_on, is_joined, act}
+use Rattle.src_parse.specs.Counting.{Counted, sat, reach_by, need_of, passes, taken, inside, began, with_node, goes_on, is_joined, act}
 use Rattle.src_parse.proofs.Alive.{at_once, and_behind, alive}
 use Rattle.src_parse.proofs.Depth.{total, total_behind, behind_total, below, need}
 use Rattle.src_parse.proofs.Shallow.{fits, fits_formed, fits_most, total_is}
 use Rattle.src_parse.proofs.Lower.{Fitted, fit_of, alive_poss}
 use Rattle.src_parse.proofs.Sound.{Good}
-use Rattle.src_parse.proofs.Bare.{bare, erase, depth_unplaced_parts}
+use Rattle.src_parse.proofs.Bare.{erase, depth_unplaced_parts}
 
 module _ {L : Type 0} where
   depth_and_tok : (ps : Parts L) (t : Token) → parts_depth (with_tok ps t) ≡ parts_depth ps

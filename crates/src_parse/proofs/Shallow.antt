@@ -1,21 +1,20 @@
 -- From each point of a row there is a way to its end that is as little deep as can be.
-use Rattle.std.proofs.Common.{◌≡◌, ℕ, suc, ◌+◌, ◌≤◌, max, min, nat_le, Bool, true, false, ◌&&◌, ◌||◌, not, Option, Some, None, List, [], ◌∷◌, refl, sym, ap, ◌∙◌, subst, arith, if◌then◌else◌}
-use Rattle.std.proofs.lemmas.Bool.{and_parts, and_from, leb-true}
+use Rattle.std.proofs.Common.{◌≡◌, ℕ, ◌+◌, ◌≤◌, max, min, nat_le, Bool, true, false, ◌&&◌, ◌||◌, not, Option, Some, None, refl, arith, if◌then◌else◌}
+use Rattle.std.proofs.lemmas.Bool.{and_parts, leb-true}
 use Rattle.src_token.specs.declared.token.Token.{Token}
 use Rattle.src_token.specs.declared.mark.Mark.{Mark}
 use Rattle.src_tree.specs.declared.row.Row.{Row}
 use Rattle.src_tree.specs.declared.place.Place.{Place}
-use Rattle.src_tree.specs.declared.place.Part.{Part}
 use Rattle.src_tree.specs.declared.place.Start.{Start}
 use Rattle.src_tree.specs.declared.kind.Kind.{Kind}
-use Rattle.src_tree.specs.Grammar.{Rest, ends, token, either, part, maybe, list, more, many, items, alternatives, statements, arms, arm_body, after_break, is, allowed, place_of, counts, move, due, behind, made}
-use Rattle.src_tree.specs.Layout.{node, end, tok, sub, row_of, depth, parts_depth, due_place, Levelled, Follows}
+use Rattle.src_tree.specs.Grammar.{Rest, ends, token, either, part, maybe, list, more, many, items, alternatives, statements, arms, arm_body, after_break, is, allowed, place_of, counts, move}
+use Rattle.src_tree.specs.Layout.{end, tok, sub, depth, parts_depth, Follows}
 use Rattle.src_tree.proofs.Follow.{is_known}
-use Rattle.src_tree.proofs.Complete.{Tree, Held}
+use Rattle.src_tree.proofs.Complete.{Held}
 use Rattle.src_parse.specs.declared.bound.Bound.{Bound}
-use Rattle.src_parse.specs.Bounds.{least_place, bound_of, value, ended_by, ended, lesser, with_part, bound, most}
+use Rattle.src_parse.specs.Bounds.{least_place, value, ended_by, lesser, bound, most}
 use Rattle.src_parse.proofs.Alive.{sample, is_sample, leaf, leaf_places, leaf_from, all_leaves, leaf_block, way_arms, joinable, ender}
-use Rattle.src_parse.proofs.Depth.{settle_by, settle, settle_up, settle_mono, possible, poss, total, total_mono, pick, fit}
+use Rattle.src_parse.proofs.Depth.{settle_by, settle, settle_mono, possible, poss, total, pick, fit}
 
 abbrev pub at_most : Bound → Bound → Bool
 at_most x y = nat_le x.floor y.floor && nat_le x.around y.around

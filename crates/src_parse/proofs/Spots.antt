@@ -1,14 +1,14 @@
 -- Each node of the frames has the place of its first token.
-use Rattle.std.proofs.Common.{◌≡◌, ℕ, zero, suc, ◌+◌, Bool, true, false, Option, Some, None, option_map, List, [], ◌∷◌, ◌++◌, length, map, drop, slice_get, refl, sym, ap, ◌∙◌, subst, arith}
+use Rattle.std.proofs.Common.{◌≡◌, ℕ, ◌+◌, Bool, true, false, Option, Some, None, option_map, List, [], ◌∷◌, length, drop, slice_get, refl, sym, ap, ◌∙◌, subst, arith}
 use Rattle.std.proofs.lemmas.List.{length-append, drop-drop}
 use Rattle.mir_base.specs.declared.place_in_text.Pos.{Pos}
 use Rattle.src_token.specs.declared.token.Token.{Token}
 use Rattle.src_tree.specs.declared.row.Row.{Row}
 use Rattle.src_tree.specs.declared.place.Place.{Place}
-use Rattle.src_tree.specs.Grammar.{Rest, allowed, move, made, behind}
+use Rattle.src_tree.specs.Grammar.{Rest, allowed, move, made}
 use Rattle.src_tree.specs.Layout.{Node, node, Parts, end, tok, sub, spell, spell_parts}
 use Rattle.src_tree.specs.Reading.{or_else, and_then, only_if, opens, joins, with_tok, with_sub, file_place}
-use Rattle.src_tree.proofs.Spells.{spell_behind, parts_behind}
+use Rattle.src_tree.proofs.Spells.{spell_behind}
 use Rattle.src_parse.specs.Answers.{Placed, PartsPlaced}
 use Rattle.src_parse.specs.Counting.{Counted, taken, inside, began, with_node, goes_on, is_joined, act, close}
 

@@ -1,5 +1,5 @@
 -- What a token does to the innermost node, case by case; and the end.
-use Rattle.std.proofs.Common.{◌≡◌, Bool, true, false, Option, Some, None, option_map, List, [], ◌∷◌, ◌++◌, map, reverse, refl, sym, ap, ◌∙◌}
+use Rattle.std.proofs.Common.{◌≡◌, true, false, Option, Some, None, option_map, List, [], ◌∷◌, ◌++◌, map, reverse, refl, ap, ◌∙◌}
 use Rattle.mir_base.specs.declared.place_in_text.Pos.{Pos}
 use Rattle.src_token.specs.declared.token.Token.{Token}
 use Rattle.src_tree.specs.declared.row.Row.{Row}
@@ -9,7 +9,7 @@ use Rattle.src_tree.specs.Reading.{or_else, and_then, only_if, opens, joins}
 use Rattle.std.proofs.lemmas.List.{map_push, reverse-append}
 use Rattle.src_parse.specs.declared.frame.Frame.{Frame}
 use Rattle.src_parse.specs.View.{frame_of, stack_of}
-use Rattle.src_parse.specs.Counting.{Counted, taken, inside, began, with_node, goes_on, is_joined, act, close}
+use Rattle.src_parse.specs.Counting.{Counted, taken, inside, began, with_node, is_joined, act, close}
 
 abbrev going : Counted → List Counted → Token → Pos → Option Rest → Option (Place × Rest) → Option (List Counted)
 going f S t at m o = or_else (option_map (λ q. taken f q t ∷ S) m) (option_map (λ e. inside f e.0 e.1 at t ∷ f ∷ S) o)

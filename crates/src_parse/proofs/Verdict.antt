@@ -1,5 +1,5 @@
 -- What the frames answer is the tree of the tokens, or the first bad token.
-use Rattle.std.proofs.Common.{◌≡◌, ℕ, zero, suc, ◌+◌, ◌<◌, ◌≤◌, max, min, Bool, true, false, Option, Some, None, option_map, List, [], ◌∷◌, ◌++◌, length, map, take, slice_get, get_or, refl, sym, ap, ◌∙◌, subst, arith, append-nil}
+use Rattle.std.proofs.Common.{◌≡◌, ℕ, zero, suc, ◌<◌, ◌≤◌, Bool, true, false, Option, Some, None, option_map, List, [], ◌∷◌, ◌++◌, length, take, slice_get, refl, sym, ap, ◌∙◌, subst, arith, append-nil}
 use Rattle.std.proofs.lemmas.List.{take-map}
 use Rattle.std.proofs.lemmas.Option.{slice_get_within, slice_get_past}
 use Rattle.mir_base.specs.declared.place_in_text.Pos.{Pos}
@@ -8,13 +8,12 @@ use Rattle.src_token.specs.declared.token.Spanned.{Spanned}
 use Rattle.src_tree.specs.declared.node.Tree as tree
 use Rattle.src_tree.specs.declared.row.Row.{Row}
 use Rattle.src_tree.specs.Grammar.{allowed, made}
-use Rattle.src_tree.specs.Layout.{node, Parts, row_of, parts_of, parts_depth, spell_parts, ItemsLevelled}
+use Rattle.src_tree.specs.Layout.{node, parts_of, parts_depth, spell_parts, ItemsLevelled}
 use Rattle.src_tree.specs.Laws.{unplaced_parts}
-use Rattle.src_tree.specs.Reading.{and_then, only_if, whole, close_all, file_place}
+use Rattle.src_tree.specs.Reading.{and_then, only_if, whole}
 use Rattle.src_tree.specs.View.{items_of}
 use Rattle.src_tree.proofs.Places.{spell_unplaced_parts}
 use Rattle.src_tree.proofs.Complete.{Stack, complete}
-use Rattle.src_parse.specs.declared.error.ParseError.{ParseError}
 use Rattle.src_parse.specs.declared.error.ParseError.TheVariants.{Syntax, TooDeep}
 use Rattle.src_parse.specs.Reads.{Items, IsItems, Begins}
 use Rattle.src_parse.specs.Bounds.{limit}
@@ -23,7 +22,7 @@ use Rattle.src_parse.specs.Counting.{Counted, start, need_of, passes, with_node,
 use Rattle.src_parse.proofs.Depth.{need}
 use Rattle.src_parse.proofs.Answer.{started, begins, no_more, sound}
 use Rattle.src_parse.proofs.Limit.{reached, at_least, no_deeper}
-use Rattle.src_parse.proofs.Bare.{bare, erase, read_bare, close_bare, depth_unplaced_parts, items_placed}
+use Rattle.src_parse.proofs.Bare.{erase, read_bare, close_bare, depth_unplaced_parts, items_placed}
 use Rattle.src_parse.proofs.Numbers.{cap, needed, Holds, need_counted, need_is, act_holds, node_holds, stays_within, goes_past}
 use Rattle.src_parse.proofs.Spots.{InPlace, left, At, act_at, close_at, EndPlaced}
 

@@ -11,10 +11,10 @@ use Rattle.src_tree.specs.Layout.{node, tok, sub, end, spell_parts, depth, parts
 use Rattle.src_tree.specs.Reading.{and_then, with_sub, frame, whole}
 use Rattle.src_tree.proofs.Samples.{every}
 use Rattle.src_tree.proofs.Follow.{ok, places, is_known, same_place}
-use Rattle.src_tree.proofs.Facts.{here_of, good_part, joins_as, join_rows, same_places, known_part}
+use Rattle.src_tree.proofs.Facts.{here_of, good_part, joins_as, join_rows, same_places}
 use Rattle.src_tree.proofs.Complete.{Tree, Held, Stack, run, and_parts_of, Stands, handed, standing, by_join, reads_rest}
 use Rattle.src_parse.proofs.Alive.{leaves, way_row, way, way_follows, ender, joinable, joinable_by, at_once}
-use Rattle.src_parse.proofs.Depth.{by_start, settle_by, settle, possible, poss, total, total_behind, total_up, total_behind_mono, behind_total, below, need}
+use Rattle.src_parse.proofs.Depth.{by_start, settle_by, settle, poss, total, total_behind, total_up, total_behind_mono, behind_total, below, need}
 use Rattle.src_parse.proofs.Shallow.{fits, fits_formed, fits_shallow, low_row, low_way, low_follows, low_possible, low_depth}
 use Rattle.src_parse.proofs.Lower.{Fitted, fit_of, fitted_on, alive_poss, below_mono, depth_with_sub}
 use Rattle.src_parse.proofs.Sound.{Good, ok_good, placed, known_place}

@@ -1,6 +1,6 @@
 -- The parser of `Reading` with places, and with the numbers by which it knows how deep its trees are at least; nothing that
 -- a reader must believe rests on it.
-use Rattle.std.specs.Prelude.{ℕ, ◌+◌, max, min, nat_le, nat_lt, if◌then◌else◌, Bool, true, false, Option, Some, None, option_map, List, [], ◌∷◌}
+use Rattle.std.specs.Prelude.{ℕ, ◌+◌, max, min, nat_le, nat_lt, if◌then◌else◌, Bool, false, Option, None, option_map, List, [], ◌∷◌}
 use Rattle.mir_base.specs.declared.place_in_text.Pos.{Pos}
 use Rattle.src_token.specs.declared.token.Token.{Token}
 use Rattle.src_token.specs.declared.token.Spanned.{Spanned}

@@ -1,5 +1,5 @@
 -- What contracts see of a part and of a node, by what it is made of.
-use Rattle.std.proofs.Common.{◌≡◌, List, sym, ap, ◌∙◌}
+use Rattle.std.proofs.Common.{◌≡◌, sym, ap, ◌∙◌}
 use Rattle.src_token.specs.declared.token.Token.{Token}
 use Rattle.src_tree.specs.declared.node.Node.{Node}
 use Rattle.src_tree.specs.declared.node.Piece

@@ -1,11 +1,10 @@
 -- `Levelled` as a test, for the functions that compute it; nothing that a reader must believe rests on it.
-use Rattle.std.specs.Prelude.{ℕ, Bool, true, false, ◌&&◌, nat_eq, Option, Some, None}
+use Rattle.std.specs.Prelude.{ℕ, Bool, false, ◌&&◌, nat_eq, Option, Some, None}
 use Rattle.src_tree.specs.declared.row.Row.{Row}
 use Rattle.src_tree.specs.declared.place.Place.{Place}
 use Rattle.src_tree.specs.declared.place.Seen.{Seen}
-use Rattle.src_tree.specs.Grammar.{seen, allowed, Rest, items, move, behind, made}
+use Rattle.src_tree.specs.Grammar.{seen, allowed, Rest, move, behind, made}
 use Rattle.src_tree.specs.View.{Single, a_token, a_node}
-use Rattle.mir_base.specs.declared.place_in_text.Pos.{Pos}
 use Rattle.src_tree.specs.Reading.{only_if}
 use Rattle.src_tree.specs.Layout.{Node, node, Parts, end, tok, sub, row_of, due_place, entry_rest, joined_place, joined_rest}
 

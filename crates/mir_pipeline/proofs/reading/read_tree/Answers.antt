@@ -1,4 +1,4 @@
-use Rattle.std.proofs.Common.{rules, ◌≡◌, length, ap, arith}
+use Rattle.std.proofs.Common.{rules, ◌≡◌, length, arith}
 use Rattle.src_token.specs.Tokens.{Tokens}
 use Rattle.mir_pipeline.proofs.Fewer.{fewer_bytes}
 use Rattle.mir_pipeline.proofs.reading.read_tree.Goals as goal

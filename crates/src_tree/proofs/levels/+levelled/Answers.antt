@@ -1,13 +1,13 @@
-use Rattle.std.proofs.Common.{rules, ◌≡◌, Some, None, option_map, ◌∷◌, ◌&&◌, [], List, length, map, false, true, sym, ap, ◌∙◌, refl}
+use Rattle.std.proofs.Common.{rules, ◌≡◌, Some, None, ◌∷◌, ◌&&◌, [], List, length, map, sym, ap, ◌∙◌, refl}
 use Rattle.std.proofs.lemmas.List.{nil_from_length}
 use Rattle.src_token.specs.declared.token.Token.{Token}
 use Rattle.src_tree.specs.declared.node.Node.{Node}
 use Rattle.src_tree.specs.declared.node.Piece
 use Rattle.src_tree.specs.Checking.{levels, begun as begun_of, follows as follows_of}
 use Rattle.src_tree.specs.Grammar.{joined}
-use Rattle.src_tree.specs.Layout.{sub, tok, end}
+use Rattle.src_tree.specs.Layout.{sub, tok}
 use Rattle.src_tree.specs.Table.{joined_of, rest_at}
-use Rattle.src_tree.specs.View.{a_node, a_token, layout_of, piece_of, parts_from, parts_in}
+use Rattle.src_tree.specs.View.{layout_of, piece_of, parts_from, parts_in}
 use Rattle.src_tree.proofs.Pieces.{node_seen, token_seen}
 use Rattle.src_tree.proofs.Tests.{joined_on, not_joined}
 use Rattle.src_tree.proofs.levels.+levelled.Goals as goal
