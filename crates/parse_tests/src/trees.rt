@@ -13,7 +13,8 @@ ok struct S; struct T(i32, S,); struct U { a: i32, b: Box<dyn Show>, }\n\
 ok #[derive(Copy, Clone,)] struct S; #[derive()] enum E { A, B(i32), C { x: S } } enum N {}\n\
 ok trait Tr { fn a(&self) -> i32; fn b(&mut self, n: i32); fn c(self); fn d(mut self, x: u8,); fn e(); } trait E {}\n\
 ok impl S { fn new(n: i32) -> Self { S(n) } } impl S {} impl Tr for S { fn f(&self) {} }\n\
-ok fn f(a: (i32, i32), [b, ..]: [[i32; 3]; 2usize], _: &mut S, mut c: !, (d): (T), e: &S, g: (), h: (T,), i: Self,) -> () {}\n\
+ok fn f(a: (i32, i32), [b, ..]: [[i32; 3]; 2usize], _: &mut S, mut c: !, (d): (T), e: &S, g: (), h: \
+(T,), i: Self,) -> () {}\n\
 ok fn f(a: Box<Box<i32>>, b: Box<dyn T>) {}\n\
 ok fn f() { ; ; let x; let y: i32; let z = 1; let (a, b): (i32, i32) = (1, 2); 3; }\n\
 ok fn f() { {} if a {} match a { _ => {} } loop {} while a {} 'l: loop {} 'l: while a {} }\n\
@@ -22,13 +23,15 @@ ok fn f() { if let a | b = c {} while let (x, ..) = y {} }\n\
 ok fn f() { match a { 0 => {} 1 => 2, -3 if b => {} _ | true => c } }\n\
 ok fn f() { match a { 0 => {1} -1 => {}, _ => if b {} else {}, } }\n\
 ok fn f() { match a { _ | x | mut y | 1 | -2i32 | true | false | A::B | Self | Self::C | P(x, ..) => {} } }\n\
-ok fn f() { match a { Q { a: b, mut c, d, .. } | () | (x) | (x,) | [x, y, ..] | (..) | [..] | S { .. } | S {} | P() => {} } }\n\
+ok fn f() { match a { Q { a: b, mut c, d, .. } | () | (x) | (x,) | [x, y, ..] | (..) | [..] | S { \
+.. } | S {} | P() => {} } }\n\
 ok fn f() { return; return 1; break; break 2; break 'l; break 'l 3; continue; continue 'l; }\n\
 ok fn f() { move [a, b,] |x: i32, (y, z): T| -> i32 { x }; move [] || {}; move [] || -> () {}; }\n\
 ok fn f() { a = b = c; a || b || c; a && b && c; a == b; a != b; a < b; a <= b; a > b; a >= b; a + b = c; }\n\
 ok fn f() { a + b - c; a * b / c % d; -!*& &mut x; &mut y; & &z }\n\
 ok fn f() { a.b(c)(d)[e].f.0.g(h,)[i](j); (a.b)(c); a.0.1; 1.a }\n\
-ok fn f() { 1; true; false; self; a; A::b; Self; Self::c; (a, b,); (a); (a,); (); [a, b]; []; S {}; S { a: 1, b, }; A::B { x: 1 } }\n\
+ok fn f() { 1; true; false; self; a; A::b; Self; Self::c; (a, b,); (a); (a,); (); [a, b]; []; S {}; \
+S { a: 1, b, }; A::B { x: 1 } }\n\
 ok fn f() { panic!(); panic!(\"no\"); panic; panic() }\n\
 ok fn f() { if (S { a: 1 }).a {} while [S {}][0] {} match f(S {}) { _ => {} } if { S {} } {} }\n\
 ok fn f() { {1}; if a {1} else {2}; loop {}; {} - 1 }\n\

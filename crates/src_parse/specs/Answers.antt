@@ -40,8 +40,8 @@ pub record IsTree (tokens : List Spanned) (end_ : Pos) (tree : Tree) : Type 0 wh
 abbrev pub BeginsWithin : List Token → Type 0
 BeginsWithin ts = (g : Items) × (rest : List Token) × IsItems (ts ++ rest) g × (parts_depth g ≤ limit)
 
--- The tokens before the bad one begin a tree within the limit, and with it they do not. Where there is no such token, all
--- tokens are no tree: then the bad one is the end.
+-- The tokens before the bad one begin a tree within the limit, and with it they do not. Where there is no such token,
+-- all tokens are no tree: then the bad one is the end.
 pub record IsBad (tokens : List Spanned) (at : ℕ) : Type 0 where
   pub known : at ≤ length tokens
   pub before : BeginsWithin (take at (tokens_in tokens))
@@ -59,7 +59,8 @@ place_at tokens end_ at = place_or (slice_get tokens at) end_
 -- the tokens have no tree, for this reason; want of memory says nothing of them
 abbrev pub IsRefused : List Spanned → Pos → ParseError → Type 0
 IsRefused tokens end_ (Syntax at pos) =
-    IsBad tokens at × (pos ≡ place_at tokens end_ at) × (at < length tokens → Begins (take (suc at) (tokens_in tokens)) → ⊥)
+    IsBad tokens at × (pos ≡ place_at tokens end_ at)
+    × (at < length tokens → Begins (take (suc at) (tokens_in tokens)) → ⊥)
 IsRefused tokens end_ (TooDeep at pos) =
     IsBad tokens at × (pos ≡ place_at tokens end_ at) × (at < length tokens) × Begins (take (suc at) (tokens_in tokens))
 IsRefused tokens end_ Memory = Unit {0}

@@ -1,5 +1,5 @@
--- The parser of `Reading` with places, and with the numbers by which it knows how deep its trees are at least; nothing that
--- a reader must believe rests on it.
+-- The parser of `Reading` with places, and with the numbers by which it knows how deep its trees are at least; nothing
+-- that a reader must believe rests on it.
 use Rattle.std.specs.Prelude.{ℕ, ◌+◌, max, min, nat_le, nat_lt, if◌then◌else◌, Bool, false, Option, None, option_map, List, [], ◌∷◌}
 use Rattle.mir_base.specs.declared.place_in_text.Pos.{Pos}
 use Rattle.src_token.specs.declared.token.Token.{Token}
@@ -12,8 +12,8 @@ use Rattle.src_tree.specs.Reading.{or_else, and_then, only_if, opens, joins, wit
 use Rattle.src_parse.specs.declared.bound.Bound.{Bound}
 use Rattle.src_parse.specs.Bounds.{bound_of, bound, most, limit}
 
--- A node of which a part may still come. How deep its parts so far are; and of what stands around it, how deep the text is
--- at least and by how much deeper than the node.
+-- A node of which a part may still come. How deep its parts so far are; and of what stands around it, how deep the text
+-- is at least and by how much deeper than the node.
 pub record Counted : Type 0 where
   pub place : Place
   pub rest : Rest
@@ -54,7 +54,15 @@ taken f q t = record {
 }
 
 abbrev pub opened : Bound → Place → Rest → Pos → Token → Counted
-opened b c q at t = record { place = c; rest = q; at = at; parts = tok t end; deepest = 0; floor = b.floor; around = b.around }
+opened b c q at t = record {
+  place = c;
+  rest = q;
+  at = at;
+  parts = tok t end;
+  deepest = 0;
+  floor = b.floor;
+  around = b.around;
+}
 
 abbrev pub inside : Counted → Place → Rest → Pos → Token → Counted
 inside f c q at t = opened (reach f (behind f.rest Row.File)) c q at t
@@ -93,7 +101,8 @@ abbrev pub act : List Counted → Counted → Token → Pos → Option (List Cou
 act [] f t at = or_else (goes_on f [] t at) (and_then (made f.rest) (λ r. is_joined f [] t r))
 act (g ∷ S) f t at =
     or_else (goes_on f (g ∷ S) t at)
-    (and_then (made f.rest) (λ r. or_else (is_joined f (g ∷ S) t r) (only_if (allowed f.place r) (act S (with_node g f r) t at))))
+    (and_then (made f.rest) (λ r. or_else (is_joined f (g ∷ S) t r)
+    (only_if (allowed f.place r) (act S (with_node g f r) t at))))
 
 abbrev pub step : List Counted → Token → Pos → Option (List Counted)
 step [] t at = None

@@ -50,7 +50,8 @@ pub(crate) fn step(
     token: &Token,
     at: Pos,
 ) -> Result<bool, NoMemory>
-    ensures { IfOk result (λ went. act (stack_of below.old) (frame_of top.old) token.now at ≡ only_if went (Some (frame_of top.new ∷ stack_of below.new))) }
+    ensures { IfOk result (λ went. act (stack_of below.old) (frame_of top.old) token.now at
+        ≡ only_if went (Some (frame_of top.new ∷ stack_of below.new))) }
 {
     loop {
         if let Some(point) = advance(top.point, token) {
@@ -83,7 +84,8 @@ pub(crate) fn step(
 /// All nodes end where the tokens of a text do; false where one is not complete.
 #[tactic(auto, using(crate::proofs::Turns::close_not_made))]
 pub(crate) fn close(below: &mut List<Frame>, top: &mut Frame) -> Result<bool, NoMemory>
-    ensures { IfOk result (λ ended. close_of (stack_of below.old) (frame_of top.old) ≡ only_if ended (Some (frame_of top.new))) }
+    ensures { IfOk result (λ ended. close_of (stack_of below.old) (frame_of top.old)
+        ≡ only_if ended (Some (frame_of top.new))) }
 {
     loop {
         let Some(row) = made(top.point) else {

@@ -103,7 +103,8 @@ module _ {L : Type 0} where
     follows head None r parts = false
     follows head (Some q) r end = makes (made q) r
     follows head (Some q) r (tok t rest) = follows head (move q t) r rest
-    follows head (Some q) r (sub g rest) = levels (due_place head q) g && follows head (Some (behind q (row_of g))) r rest
+    follows head (Some q) r (sub g rest) =
+        levels (due_place head q) g && follows head (Some (behind q (row_of g))) r rest
 
 -- what is due behind a part
 abbrev pub past : Bool → Rest → Single → Option Rest
