@@ -192,7 +192,7 @@ is_sample Kind.Label = refl
 is_sample Kind.Text = refl
 is_sample Kind.Derive = refl
 
-abbrev leaf_block : Tree
+abbrev pub leaf_block : Tree
 leaf_block = node tt Row.Block (tok (Token.Mark Mark.OpenBrace) (tok (Token.Mark Mark.CloseBrace) end))
 
 abbrev leaf_expr : Start → Tree
@@ -212,13 +212,13 @@ leaf c = elim c.sort [
   | _ ↦ node tt Row.Ident (tok (Token.Name []) end)
 ]
 
-abbrev leaf_arm : Tree
+abbrev pub leaf_arm : Tree
 leaf_arm = node tt Row.Arm (sub (node tt Row.WildPattern (tok (Token.Mark Mark.Underscore) end)) (tok (Token.Mark Mark.FatArrow) (sub leaf_block end)))
 
 abbrev in_place : Sort → ℕ → Bool → Start → Place
 in_place s n h b = record { sort = s; least = n; head = h; start = b }
 
-abbrev leaf_places : List Place
+abbrev pub leaf_places : List Place
 leaf_places =
     in_place Sort.Name 0 false Start.Anything ∷ in_place Sort.Type_ 0 false Start.Anything ∷ in_place Sort.Pattern 0 false Start.Anything ∷ in_place Sort.Pattern 1 false Start.Anything
     ∷ in_place Sort.Expr 0 false Start.Anything ∷ in_place Sort.Expr 0 true Start.Anything ∷ in_place Sort.Expr 0 false Start.OnlyBlock ∷ in_place Sort.Expr 0 false Start.BlockOrIf
@@ -226,11 +226,11 @@ leaf_places =
     ∷ in_place Sort.Expr 7 false Start.Anything ∷ in_place Sort.Expr 3 true Start.Anything ∷ in_place Sort.Expr 4 true Start.Anything ∷ in_place Sort.Expr 5 true Start.Anything
     ∷ in_place Sort.Expr 6 true Start.Anything ∷ in_place Sort.Expr 7 true Start.Anything ∷ []
 
-abbrev AllLeaves : List Place → Type 0
+abbrev pub AllLeaves : List Place → Type 0
 AllLeaves [] = Unit {0}
 AllLeaves (c ∷ cs) = Levelled (Some c) (leaf c) × AllLeaves cs
 
-all_leaves : AllLeaves leaf_places
+pub all_leaves : AllLeaves leaf_places
 all_leaves = (
   (refl, refl),
   (
@@ -269,7 +269,7 @@ all_leaves = (
   ),
 )
 
-leaf_from : (ds : List Place) (c : Place) → AllLeaves ds → is_known ds c ≡ true → Levelled (Some c) (leaf c)
+pub leaf_from : (ds : List Place) (c : Place) → AllLeaves ds → is_known ds c ≡ true → Levelled (Some c) (leaf c)
 leaf_from [] c a k = absurd (cc)
 leaf_from (d ∷ ds) c a k = go (leaf_from ds c a.1) (same_place d c) refl
   where
@@ -293,7 +293,7 @@ way_row (arms o) = Row.Match
 way_row arm_body = Row.Arm
 way_row after_break = Row.Break
 
-abbrev way_arms : Bool → Held
+abbrev pub way_arms : Bool → Held
 way_arms false = sub leaf_arm (tok (Token.Mark Mark.CloseBrace) end)
 way_arms true = tok (Token.Mark Mark.CloseBrace) end
 

@@ -15,6 +15,7 @@ use Rattle.src_tree.specs.Reading.{frame}
 use Rattle.src_tree.proofs.Follow.{all_ends, is_none}
 use Rattle.src_tree.proofs.Facts.{picks, no_more}
 use Rattle.src_tree.proofs.Complete.{Stack}
+use Rattle.src_parse.specs.Bounds.{least_place}
 use Rattle.src_parse.proofs.Alive.{joinable, ender}
 
 -- a node that may not stand there as it is becomes the first part of a parameter or an arm
@@ -73,29 +74,6 @@ poss c (statements o) = possible c Row.Block
 poss c (arms o) = possible c Row.Match
 poss c arm_body = possible c Row.Arm
 poss c after_break = possible c Row.Break
-
-abbrev least_expr : Start → ℕ
-least_expr Start.Statement = 0
-least_expr Start.Jump = 0
-least_expr Start.JumpInHead = 0
-least_expr _ = 1
-
-abbrev least_pattern : Bool → Start → ℕ
-least_pattern head Start.IsArm = 2
-least_pattern true Start.IsParam = 0
-least_pattern head _ = 1
-
--- the least depth of a tree there
-abbrev pub least_place : Place → ℕ
-least_place c = elim c.sort [
-  | Sort.Item ↦ 1
-  | Sort.Method ↦ 1
-  | Sort.Field ↦ 1
-  | Sort.Type_ ↦ 1
-  | Sort.Pattern ↦ least_pattern c.head c.start
-  | Sort.Expr ↦ least_expr c.start
-  | _ ↦ 0
-]
 
 abbrev pub pick : Bool → Bool → ℕ → ℕ → ℕ
 pick true true x y = min x y

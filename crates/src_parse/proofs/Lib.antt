@@ -5,4 +5,13 @@ pub mod Answer
 pub mod Examples
 pub mod Laws
 pub mod Depth
+pub mod Shallow
 pub mod Lower
+pub mod Within
+pub mod Parts
+pub mod Turns
+pub mod Limit
+pub mod Bare
+pub mod Numbers
+pub mod Spots
+pub mod Verdict

@@ -15,7 +15,9 @@ use Rattle.src_tree.proofs.Facts.{here_of, implied, same_places, known_part}
 use Rattle.src_tree.proofs.Alike.{entry_alike, joined_alike}
 use Rattle.src_tree.proofs.Complete.{Tree, Held, Stack, run}
 use Rattle.src_parse.proofs.Alive.{everywhere, alive, leaves, way_row, at_once, and_moved, and_behind, joinable, ender}
-use Rattle.src_parse.proofs.Depth.{by_start, settle_by, settle, settle_up, possible, poss, least_place, total, total_behind, total_up, total_mono, total_move, total_made, total_heavy, total_part, behind_total, total_behind_mono, fit, below, need}
+use Rattle.src_parse.specs.Bounds.{least_place}
+use Rattle.src_parse.proofs.Shallow.{fits, fits_fit}
+use Rattle.src_parse.proofs.Depth.{by_start, settle_by, settle, settle_up, possible, poss, total, total_behind, total_up, total_mono, total_move, total_made, total_heavy, total_part, behind_total, total_behind_mono, fit, below, need}
 use Rattle.src_parse.proofs.Sound.{Good, ok_good, handed_on, known_place, steps_well, Ok}
 
 -- each join makes a parameter or an arm as deep as it has to be
@@ -51,12 +53,12 @@ joined_total c r q n h = go (allowed c r)
 
 abbrev deep_entry : Place → Option Entry → Bool
 deep_entry c None = true
-deep_entry c (Some e) = implies (may_begin c e.row) (nat_le (least_place c) (total c e.rest 0) && everywhere (fit c) e.rest)
+deep_entry c (Some e) = implies (may_begin c e.row) (nat_le (least_place c) (total c e.rest 0) && everywhere (fits c) e.rest)
 
 abbrev deep_joined : Place → Option Joined → Bool
 deep_joined c None = true
 deep_joined c (Some j) =
-    implies (may_begin c j.row) (everywhere (fit c) j.rest && (every (λ r. implies (allowed j.place r) (possible c r)) rows && gains c.start c j.rest))
+    implies (may_begin c j.row) (everywhere (fits c) j.rest && (every (λ r. implies (allowed j.place r) (possible c r)) rows && gains c.start c j.rest))
 
 abbrev deep : Place → Bool
 deep c = every (λ t. deep_entry c (entry (seen c) t) && deep_joined c (joined (seen c) t)) samples
@@ -72,19 +74,19 @@ known_deep (d ∷ ds) c g k = let p = and_parts (deep d) (every deep ds) g in go
     go ih x true e = ap deep (sym (same_places d c e)) ∙ x
     go ih x false e = ih (subst (λ b. (b || is_known ds c) ≡ true) e k)
 
-entry_deep : (c : Place) (t : Token) (e : Entry) → is_known places c ≡ true → entry (seen c) t ≡ Some e → may_begin c e.row ≡ true → (least_place c ≤ total c e.rest 0) × (everywhere (fit c) e.rest ≡ true)
+entry_deep : (c : Place) (t : Token) (e : Entry) → is_known places c ≡ true → entry (seen c) t ≡ Some e → may_begin c e.row ≡ true → (least_place c ≤ total c e.rest 0) × (everywhere (fits c) e.rest ≡ true)
 entry_deep c t x k e m =
     let f = of_samples (λ t. deep_entry c (entry (seen c) t) && deep_joined c (joined (seen c) t)) (known_deep places c places_deep k) t in
     let p = (and_parts (deep_entry c (entry (seen c) (like t))) _ f).0 in
-    let q = and_parts (nat_le (least_place c) (total c x.rest 0)) (everywhere (fit c) x.rest) (implied (may_begin c x.row) _ (subst (λ o. deep_entry c o ≡ true) (sym (entry_alike c t) ∙ e) p) m) in
+    let q = and_parts (nat_le (least_place c) (total c x.rest 0)) (everywhere (fits c) x.rest) (implied (may_begin c x.row) _ (subst (λ o. deep_entry c o ≡ true) (sym (entry_alike c t) ∙ e) p) m) in
     (leb-true (least_place c) (total c x.rest 0) q.0, q.1)
 
 joined_deep : (c : Place) (t : Token) (j : Joined) → is_known places c ≡ true → joined (seen c) t ≡ Some j → may_begin c j.row ≡ true
-    → (everywhere (fit c) j.rest ≡ true) × ((r : Row) → allowed j.place r ≡ true → possible c r ≡ true) × (gains c.start c j.rest ≡ true)
+    → (everywhere (fits c) j.rest ≡ true) × ((r : Row) → allowed j.place r ≡ true → possible c r ≡ true) × (gains c.start c j.rest ≡ true)
 joined_deep c t x k e m =
     let f = of_samples (λ t. deep_entry c (entry (seen c) t) && deep_joined c (joined (seen c) t)) (known_deep places c places_deep k) t in
     let p = (and_parts (deep_entry c (entry (seen c) (like t))) _ f).1 in
-    let q = and_parts (everywhere (fit c) x.rest) _ (implied (may_begin c x.row) _ (subst (λ o. deep_joined c o ≡ true) (sym (joined_alike c t) ∙ e) p) m) in
+    let q = and_parts (everywhere (fits c) x.rest) _ (implied (may_begin c x.row) _ (subst (λ o. deep_joined c o ≡ true) (sym (joined_alike c t) ∙ e) p) m) in
     let s = and_parts (every (λ r. implies (allowed x.place r) (possible c r)) rows) (gains c.start c x.rest) q.1 in
     (q.0, (λ r a. implied (allowed x.place r) (possible c r) (of_rows (λ r. implies (allowed x.place r) (possible c r)) s.0 r) a), s.1)
 
@@ -109,19 +111,19 @@ way_poss c (arms o) h = h
 way_poss c arm_body h = h
 way_poss c after_break h = h
 
-alive_poss : (c : Place) (q : Rest) → everywhere (alive c) q ≡ true → poss c q ≡ true
+pub alive_poss : (c : Place) (q : Rest) → everywhere (alive c) q ≡ true → poss c q ≡ true
 alive_poss c q a = way_poss c q (and_parts (leaves c.head q) (possible c (way_row q)) (at_once (alive c) q a)).1
 
 abbrev pub Fitted : Stack → Type 0
 Fitted [] = Unit {0}
 Fitted (frame c q at d ∷ []) = Unit {0}
-Fitted (frame c q at d ∷ f ∷ S) = (everywhere (fit c) q ≡ true) × Fitted (f ∷ S)
+Fitted (frame c q at d ∷ f ∷ S) = (everywhere (fits c) q ≡ true) × Fitted (f ∷ S)
 
-fit_of : (c : Place) (q : Rest) (d : Held) (S : Stack) → Good (frame c q tt d ∷ S) → Fitted (frame c q tt d ∷ S) → fit c q ≡ true
+pub fit_of : (c : Place) (q : Rest) (d : Held) (S : Stack) → Good (frame c q tt d ∷ S) → Fitted (frame c q tt d ∷ S) → fit c q ≡ true
 fit_of c q d [] g f = ap (fit c) g.1
-fit_of c q d (frame c0 q0 a0 d0 ∷ S) g f = at_once (fit c) q f.0
+fit_of c q d (frame c0 q0 a0 d0 ∷ S) g f = fits_fit c q (at_once (fits c) q f.0)
 
-below_mono : (S : Stack) (c : Place) (q : Rest) (d : Held) (n m : ℕ) → Good (frame c q tt d ∷ S) → Fitted (frame c q tt d ∷ S) → n ≤ m → below S n ≤ below S m
+pub below_mono : (S : Stack) (c : Place) (q : Rest) (d : Held) (n m : ℕ) → Good (frame c q tt d ∷ S) → Fitted (frame c q tt d ∷ S) → n ≤ m → below S n ≤ below S m
 below_mono [] c q d n m g f h = h
 below_mono (frame c0 q0 a0 d0 ∷ S) c q d n m g f h =
     below_mono S c0 q0 d0 (total_behind c0 q0 (max (parts_depth d0) n)) (total_behind c0 q0 (max (parts_depth d0) m)) g.4 f.1
@@ -155,12 +157,12 @@ up_move S c q d t None e g f = tt
 up_move [] c q d t (Some q1) e g f = let n : None ≡ Some q1 = ap (λ z. move z t) (sym g.1) ∙ e in absurd (cc)
 up_move (frame c0 q0 a0 d0 ∷ S) c q d t (Some q1) e g f =
     let m = total_move c q (parts_depth d) t q1 e (alive_poss c q1 (and_moved (alive c) q t q1 g.3 e)) in (
-      (and_moved (fit c) q t q1 f.0 e, f.1),
+      (and_moved (fits c) q t q1 f.0 e, f.1),
       below_mono (frame c0 q0 a0 d0 ∷ S) c q d (total c q (parts_depth d)) (total c q1 (parts_depth (with_tok d t))) g f
           (subst (λ z. total c q (parts_depth d) ≤ total c q1 z) (sym (depth_with_tok d t)) m.1),
     )
 
-fitted_top : (S : Stack) (c cg : Place) (q qg : Rest) (d dg : Held) → Fitted (frame c q tt d ∷ S) → everywhere (fit cg) qg ≡ true → Fitted (frame cg qg tt dg ∷ frame c q tt d ∷ S)
+fitted_top : (S : Stack) (c cg : Place) (q qg : Rest) (d dg : Held) → Fitted (frame c q tt d ∷ S) → everywhere (fits cg) qg ≡ true → Fitted (frame cg qg tt dg ∷ frame c q tt d ∷ S)
 fitted_top S c cg q qg d dg f e = (e, f)
 
 up_entry : (S : Stack) (c : Place) (q : Rest) (d : Held) (t : Token) (p : Part) → due q ≡ Some p → Good (frame c q tt d ∷ S) → Fitted (frame c q tt d ∷ S) → (o : Option Entry) → entry (seen (place_of c.head p)) t ≡ o
@@ -202,7 +204,7 @@ up_join c0 q0 d0 S c q d t r m g f k (Some j) x = go (may_begin c j.row) (allowe
         ((h.0, f.1), below_mono (frame c0 q0 tt d0 ∷ S) c q d (total c q (parts_depth d)) (total c j.rest (max n 0)) g f (omega arith))
 
 -- handing on
-up_hand : (c0 : Place) (q0 : Rest) (d0 : Held) (S : Stack) (c : Place) (q : Rest) (d : Held) (r : Row) → made q ≡ Some r → allowed c r ≡ true → Good (frame c q tt d ∷ frame c0 q0 tt d0 ∷ S) → Fitted (frame c q tt d ∷ frame c0 q0 tt d0 ∷ S)
+pub up_hand : (c0 : Place) (q0 : Rest) (d0 : Held) (S : Stack) (c : Place) (q : Rest) (d : Held) (r : Row) → made q ≡ Some r → allowed c r ≡ true → Good (frame c q tt d ∷ frame c0 q0 tt d0 ∷ S) → Fitted (frame c q tt d ∷ frame c0 q0 tt d0 ∷ S)
     → need (frame c q tt d ∷ frame c0 q0 tt d0 ∷ S) ≤ need (frame c0 (behind q0 r) tt (with_sub d0 (node tt r d)) ∷ S)
 up_hand c0 q0 d0 S c q d r m a g f =
     let n = counts r + parts_depth d in
@@ -218,9 +220,9 @@ up_hand c0 q0 d0 S c q d r m a g f =
     or_left true b h = refl
     or_left false b h = absurd (cc)
 
-fitted_on : (c0 : Place) (q0 : Rest) (d0 d1 : Held) (S : Stack) (p : Part) (r : Row) → due q0 ≡ Some p → Fitted (frame c0 q0 tt d0 ∷ S) → Fitted (frame c0 (behind q0 r) tt d1 ∷ S)
+pub fitted_on : (c0 : Place) (q0 : Rest) (d0 d1 : Held) (S : Stack) (p : Part) (r : Row) → due q0 ≡ Some p → Fitted (frame c0 q0 tt d0 ∷ S) → Fitted (frame c0 (behind q0 r) tt d1 ∷ S)
 fitted_on c0 q0 d0 d1 [] p r e f = tt
-fitted_on c0 q0 d0 d1 (x ∷ S) p r e f = (and_behind (fit c0) q0 p r f.0 e, f.1)
+fitted_on c0 q0 d0 d1 (x ∷ S) p r e f = (and_behind (fits c0) q0 p r f.0 e, f.1)
 
 pub ups : (S : Stack) (c : Place) (q : Rest) (d : Held) (t : Token) → Good (frame c q tt d ∷ S) → Fitted (frame c q tt d ∷ S) → Up (frame c q tt d ∷ S) (act S c q tt d t tt)
 ups [] c q d t g f =
@@ -260,7 +262,7 @@ pub needs_step : (s : Stack) (t : Token) → Good s → Fitted s → Up s (step 
 needs_step [] t g f = tt
 needs_step (frame c q at d ∷ S) t g f = ups S c q d t g f
 
-abbrev Later : Stack → Option Stack → Type 0
+abbrev pub Later : Stack → Option Stack → Type 0
 Later from None = Unit {0}
 Later from (Some s) = Good s × Fitted s × (need from ≤ need s)
 

@@ -1,6 +1,14 @@
-//! The parser: so far the law of its pure form, that it reads exactly the beginnings of levelled trees.
+//! The parser: from tokens to the one syntax tree that they spell, or the first token with which they can spell none.
 #![tactic(auto)]
 
+mod bound;
+mod error;
+mod frame;
 mod law;
+mod parser;
+mod steps;
 
+pub use bound::Bound;
+pub use error::ParseError;
 pub use law::law_of_reading;
+pub use parser::{LIMIT, parse};

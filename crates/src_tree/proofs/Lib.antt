@@ -9,3 +9,5 @@ pub mod Spells
 pub mod Tables
 pub mod Texts
 pub mod Named
+pub mod Tests
+pub mod Pieces

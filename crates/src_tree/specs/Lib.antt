@@ -4,3 +4,4 @@ pub mod Reading
 pub mod Laws
 pub mod View
 pub mod Table
+pub mod Checking

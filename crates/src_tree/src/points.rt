@@ -20,8 +20,9 @@ fn look_up(at: u16) -> Option<Step>
     pick(&TABLE, at)
 }
 
+/// The step of a number; past the table it ends a file.
 #[tactic(auto, using(crate::proofs::Tables::step_there, crate::proofs::Tables::step_absent))]
-fn step_at(at: u16) -> Step
+pub fn step_at(at: u16) -> Step
     ensures { shown rest_at result ≡ rest_at at }
 {
     match look_up(at) {

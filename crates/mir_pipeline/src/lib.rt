@@ -1,0 +1,8 @@
+//! The way of a text through the layers, from its bytes on, with one type for all refusals of a text.
+#![tactic(auto)]
+
+mod reading;
+mod refusal;
+
+pub use reading::read_tree;
+pub use refusal::Refusal;

@@ -1,0 +1,67 @@
+ghost use Rattle.std.specs.Prelude.{◌≡◌};
+ghost use Rattle.mir_pipeline.specs.declared.refusal.Refusal.{Refusal};
+ghost use Rattle.mir_pipeline.specs.Trees.{refusal_of, of_tokens};
+
+use mir_base::Pos;
+use src_parse::ParseError;
+use src_token::LexError;
+use std::error::Error;
+use std::fmt;
+
+/// Why a text is refused. The first reason of the first layer that has one is answered.
+#[derive(Clone, Copy, Debug, PartialEq, Eq)]
+pub enum Refusal {
+    /// The bytes have no tokens. The codes are 1 for a character that begins no token, 2 for a number that is none
+    /// of the language, 3 for a comment without its end, 4 for a text between quotes without its end, and 5 for
+    /// bytes that are not UTF-8.
+    Lex { code: u8, at: Pos },
+    /// No tree goes on with the token of this number, counted from 0; where it is the number of tokens, the text ends
+    /// too early.
+    Syntax { at: u32, pos: Pos },
+    /// Only trees that are nested more than 64 levels deep go on with the token of this number.
+    TooDeep { at: u32, pos: Pos },
+    /// Memory was wanted and could not be had.
+    Memory,
+}
+
+impl fmt::Display for Refusal {
+    fn fmt<W: fmt::Write>(&self, f: &mut fmt::Formatter<W>) -> fmt::Result {
+        let text = match self {
+            Refusal::Lex { .. } => "the bytes are no tokens",
+            Refusal::Syntax { .. } => "no text of the language goes on so",
+            Refusal::TooDeep { .. } => "the text is nested too deep",
+            Refusal::Memory => "out of memory",
+        };
+        write!(f, "{text}")
+    }
+}
+
+impl Error for Refusal {}
+
+impl From<LexError> for Refusal {
+    ghost from_gives = { λ error refusal. refusal ≡ refusal_of error };
+
+    fn from(error: LexError) -> Refusal {
+        let (code, at) = match error {
+            LexError::BadChar(at) => (1, at),
+            LexError::BadNumber(at) => (2, at),
+            LexError::OpenComment(at) => (3, at),
+            LexError::OpenText(at) => (4, at),
+            LexError::NotUtf8(at) => (5, at),
+            LexError::Memory => return Refusal::Memory,
+        };
+        Refusal::Lex { code, at }
+    }
+}
+
+impl From<ParseError> for Refusal {
+    ghost from_gives = { λ error refusal. refusal ≡ of_tokens error };
+
+    fn from(error: ParseError) -> Refusal {
+        match error {
+            ParseError::Syntax { at, pos } => Refusal::Syntax { at, pos },
+            ParseError::TooDeep { at, pos } => Refusal::TooDeep { at, pos },
+            ParseError::Memory => Refusal::Memory,
+        }
+    }
+}

@@ -1,0 +1,92 @@
+-- How deep a node is at least that goes on from a point of its row: what a parser compares with the limit on nesting.
+-- Nothing that a reader must believe rests on it.
+use Rattle.std.specs.Prelude.{ℕ, suc, ◌+◌, max, min, Bool, true, false}
+use Rattle.src_tree.specs.declared.row.Row.{Row}
+use Rattle.src_tree.specs.declared.row.Sort.{Sort}
+use Rattle.src_tree.specs.declared.place.Place.{Place}
+use Rattle.src_tree.specs.declared.place.Start.{Start}
+use Rattle.src_parse.specs.declared.bound.Bound.{Bound}
+use Rattle.src_tree.specs.Grammar.{Rest, ends, token, either, part, maybe, list, more, many, items, alternatives, statements, arms, arm_body, after_break, allowed, place_of, counts}
+
+abbrev least_expr : Start → ℕ
+least_expr Start.Statement = 0
+least_expr Start.Jump = 0
+least_expr Start.JumpInHead = 0
+least_expr _ = 1
+
+abbrev least_pattern : Bool → Start → ℕ
+least_pattern head Start.IsArm = 2
+least_pattern true Start.IsParam = 0
+least_pattern head _ = 1
+
+-- the least depth of a tree there
+abbrev pub least_place : Place → ℕ
+least_place c = elim c.sort [
+  | Sort.Item ↦ 1
+  | Sort.Method ↦ 1
+  | Sort.Field ↦ 1
+  | Sort.Type_ ↦ 1
+  | Sort.Pattern ↦ least_pattern c.head c.start
+  | Sort.Expr ↦ least_expr c.start
+  | _ ↦ 0
+]
+
+abbrev pub bound_of : ℕ → ℕ → Bound
+bound_of f a = record { floor = f; around = a }
+
+abbrev pub value : Bound → ℕ → ℕ
+value b d = max b.floor (d + b.around)
+
+-- the limit on nesting
+abbrev pub limit : ℕ
+limit = 64
+
+-- a node that may not stand there as it is becomes the first part of a parameter or of an arm
+abbrev pub ended_by : Bool → Start → ℕ → ℕ → Bound
+ended_by true s f a = bound_of f a
+ended_by false Start.IsParam f a = bound_of (max f 1) a
+ended_by false Start.IsArm f a = bound_of (suc (max f 1)) (suc a)
+ended_by false _ f a = bound_of (suc limit) (suc limit)
+
+abbrev pub ended : Place → Row → ℕ → ℕ → Bound
+ended c r f a = ended_by (allowed c r) c.start f a
+
+abbrev pub lesser : Bound → Bound → Bound
+lesser x y = bound_of (min x.floor y.floor) (min x.around y.around)
+
+abbrev pub with_part : ℕ → Bound → Bound
+with_part n b = bound_of (max b.floor (n + b.around)) b.around
+
+abbrev pub arms_floor : Bool → ℕ
+arms_floor false = 3
+arms_floor true = 0
+
+abbrev pub bound : Place → Rest → Bound
+bound c (ends r) = ended c r 0 (counts r)
+bound c (token k after) = bound c after
+bound c (either k after other) = lesser (bound c after) (bound c other)
+bound c (part p after) = with_part (least_place (place_of c.head p)) (bound c after)
+bound c (maybe p after r) = ended c r 0 (counts r)
+bound c (list p later dots close after) = bound c after
+bound c (more p dots close after) = bound c after
+bound c (many p close after) = bound c after
+bound c items = ended c Row.File 0 0
+bound c alternatives = ended c Row.OrPattern 0 1
+bound c (statements o) = ended c Row.Block 0 1
+bound c (arms o) = ended c Row.Match (arms_floor o) 1
+bound c arm_body = ended c Row.Arm 2 1
+bound c after_break = ended c Row.Break 0 1
+
+-- no point that a parser comes to has a greater one
+abbrev pub most : Bound
+most = bound_of 3 2
+
+-- how much is still to be looked at
+abbrev pub size : Rest → ℕ
+size (token k after) = suc (size after)
+size (either k after other) = suc (size after + size other)
+size (part p after) = suc (size after)
+size (list p later dots close after) = suc (size after)
+size (more p dots close after) = suc (size after)
+size (many p close after) = suc (size after)
+size _ = 0

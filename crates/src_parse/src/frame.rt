@@ -1,0 +1,168 @@
+//! Nodes of which a part may still come.
+ghost use Rattle.std.specs.Prelude.{◌≡◌, IfOk, OnOk};
+ghost use Rattle.src_tree.specs.Table.{rest_of, rest_at};
+ghost use Rattle.src_parse.specs.Counting.{reach_by, reach as reach_of, need_of, passes as passes_of, taken as taken_of, inside as inside_of, began as began_of, with_node as with_node_of, start as start_of};
+ghost use Rattle.src_tree.specs.Layout.{tok, sub, end};
+ghost use Rattle.src_tree.specs.View.{layout_of, parts_in};
+ghost use Rattle.src_parse.specs.View.{frame_of};
+
+use crate::LIMIT;
+use crate::bound::{Bound, MOST, bound_at};
+use mir_base::{List, NoMemory, Pos};
+use src_token::Token;
+use src_tree::{ITEMS, Node, Piece, Place, Point, Row, Sort, Start, behind, copy_token, counts};
+use std::alloc::Global;
+use std::mem;
+
+/// A node of which a part may still come.
+#[derive(Debug, Drop)]
+pub(crate) struct Frame {
+    /// Where it stands.
+    pub(crate) place: Place,
+    /// Where it is in its row.
+    pub(crate) point: Point,
+    /// Where its first token stands.
+    pub(crate) at: Pos,
+    pub(crate) parts: List<Piece>,
+    /// How deep its parts so far are nested.
+    pub(crate) deepest: u32,
+    /// How deep the text is at least, by what stands around the node.
+    pub(crate) floor: u32,
+    /// By how much the text is deeper than the node at least.
+    pub(crate) around: u32,
+}
+
+fn reach(frame: &Frame, bound: Bound) -> Bound
+    ensures { result ≡ reach_by (frame_of frame.now) bound }
+{
+    let own = bound.floor.max(frame.deepest.saturating_add(bound.around));
+    Bound {
+        floor: frame.floor.max(own.saturating_add(frame.around)),
+        around: bound.around.saturating_add(frame.around),
+    }
+}
+
+/// The least depth of a text that goes on from here.
+fn need(frame: &Frame) -> u32
+    ensures { result ≡ need_of (frame_of frame.now) }
+{
+    reach(frame, bound_at(frame.place, frame.point)).floor
+}
+
+/// Whether each text that goes on from here is nested past the limit. Most often the greatest bound tells that it is
+/// not.
+pub(crate) fn passes(frame: &Frame) -> bool
+    ensures { result ≡ passes_of (frame_of frame.now) }
+{
+    reach(frame, MOST).floor > LIMIT && need(frame) > LIMIT
+}
+
+/// The frame of a text before its first token.
+#[tactic(auto, using(crate::proofs::Parts::items_there))]
+pub(crate) fn start(alloc: Global, at: Pos) -> Frame
+    ensures { frame_of result ≡ start_of at }
+{
+    Frame {
+        place: Place {
+            sort: Sort::File,
+            least: 0,
+            head: false,
+            start: Start::Anything,
+        },
+        point: Point::At(ITEMS),
+        at,
+        parts: List::new(alloc),
+        deepest: 0,
+        floor: 0,
+        around: 0,
+    }
+}
+
+/// One more token of a node, which is at this point behind it.
+#[tactic(auto, using(crate::proofs::Parts::one_token))]
+pub(crate) fn take(
+    alloc: Global,
+    frame: &mut Frame,
+    point: Point,
+    token: &Token,
+) -> Result<(), NoMemory>
+    ensures { OnOk result (frame_of frame.new ≡ taken_of (frame_of frame.old) (rest_of point) token.now) }
+{
+    frame.parts.push(Piece::Token(copy_token(alloc, token)?))?;
+    frame.point = point;
+    Ok(())
+}
+
+fn one_part(alloc: Global, token: &Token) -> Result<List<Piece>, NoMemory>
+    ensures { IfOk result (λ parts. parts_in parts ≡ tok token.now end) }
+{
+    let mut parts = List::new(alloc);
+    parts.push(Piece::Token(copy_token(alloc, token)?))?;
+    Ok(parts)
+}
+
+/// A node that begins with a token, as a part of another.
+pub(crate) fn inside(
+    alloc: Global,
+    frame: &Frame,
+    place: Place,
+    point: u16,
+    at: Pos,
+    token: &Token,
+) -> Result<Frame, NoMemory>
+    ensures { IfOk result (λ new. frame_of new ≡ inside_of (frame_of frame.now) place (rest_at point) at token.now) }
+{
+    let around = reach(frame, bound_at(frame.place, behind(frame.point, Row::File)));
+    Ok(Frame {
+        place,
+        point: Point::At(point),
+        at,
+        parts: one_part(alloc, token)?,
+        deepest: 0,
+        floor: around.floor,
+        around: around.around,
+    })
+}
+
+fn node_and_token(alloc: Global, node: Node, token: &Token) -> Result<List<Piece>, NoMemory>
+    ensures { IfOk result (λ parts. parts_in parts ≡ sub (layout_of node) (tok token.now end)) }
+{
+    let mut parts = List::new(alloc);
+    parts.push(Piece::Node(node))?;
+    parts.push(Piece::Token(copy_token(alloc, token)?))?;
+    Ok(parts)
+}
+
+/// The node is complete as this row, and with the token it begins another.
+pub(crate) fn begin(
+    alloc: Global,
+    frame: &mut Frame,
+    row: Row,
+    point: u16,
+    token: &Token,
+) -> Result<(), NoMemory>
+    ensures { OnOk result (frame_of frame.new ≡ began_of (frame_of frame.old) row (rest_at point) token.now) }
+{
+    let parts = mem::replace(&mut frame.parts, List::new(alloc));
+    let at = frame.at;
+    frame.parts = node_and_token(alloc, Node { row, at, parts }, token)?;
+    frame.point = Point::At(point);
+    frame.deepest = frame.deepest.saturating_add(counts(row));
+    Ok(())
+}
+
+/// One more part of a node, which is complete as this row.
+pub(crate) fn hold(frame: &mut Frame, part: Frame, row: Row) -> Result<(), NoMemory>
+    ensures { OnOk result (frame_of frame.new ≡ with_node_of (frame_of frame.old) (frame_of part) row) }
+{
+    let Frame {
+        at,
+        parts,
+        deepest,
+        ..
+    } = part;
+    frame.parts.push(Piece::Node(Node { row, at, parts }))?;
+    frame.point = behind(frame.point, row);
+    frame.deepest = frame.deepest.max(deepest.saturating_add(counts(row)));
+    Ok(())
+}

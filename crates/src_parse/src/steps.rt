@@ -1,0 +1,103 @@
+//! What a token does to the innermost node.
+ghost use Rattle.std.specs.Prelude.{◌≡◌, ◌∷◌, IfOk, option_map, Some, None, length};
+ghost use Rattle.src_tree.specs.Table.{rest_of, rest_at};
+ghost use Rattle.src_tree.specs.Reading.{only_if, opens as opens_of, joins as joins_of};
+ghost use Rattle.src_parse.specs.Counting.{act, close as close_of};
+ghost use Rattle.src_parse.specs.View.{frame_of, stack_of};
+
+use crate::frame::{Frame, begin, hold, inside, take};
+use mir_base::{List, NoMemory, Pos};
+use src_token::Token;
+use src_tree::{
+    Place, Point, Row, advance, allowed, due, entry, joined, made, may_begin, place_of, seen,
+};
+use std::alloc::Global;
+use std::mem;
+
+/// The place of a part that begins with the token, and where it is behind it.
+fn opens(head: bool, point: Point, token: &Token) -> Option<(Place, u16)>
+    ensures { option_map (λ e. (e.0, rest_at e.1)) result ≡ opens_of head (rest_of point) token.now }
+{
+    let part = due(point)?;
+    let place = place_of(head, part);
+    let (row, at) = entry(seen(place), token)?;
+    if may_begin(place, row) {
+        Some((place, at))
+    } else {
+        None
+    }
+}
+
+/// Where a node is that begins with a complete one of this row and the token.
+fn joins(place: Place, row: Row, token: &Token) -> Option<u16>
+    ensures { option_map rest_at result ≡ joins_of place row token.now }
+{
+    let begun = joined(seen(place), token)?;
+    if may_begin(place, begun.row) && allowed(begun.place, row) {
+        Some(begun.at)
+    } else {
+        None
+    }
+}
+
+/// What a token does to the innermost node, `top`; false where it does nothing. Nodes that are complete become parts
+/// of those around them, which are taken from the list.
+#[tactic(auto, using(crate::proofs::Turns::act_moves, crate::proofs::Turns::act_opens, crate::proofs::Turns::act_ends, crate::proofs::Turns::act_joins, crate::proofs::Turns::act_refuses, crate::proofs::Turns::act_outermost, crate::proofs::Turns::act_hands))]
+pub(crate) fn step(
+    alloc: Global,
+    below: &mut List<Frame>,
+    top: &mut Frame,
+    token: &Token,
+    at: Pos,
+) -> Result<bool, NoMemory>
+    ensures { IfOk result (λ went. act (stack_of below.old) (frame_of top.old) token.now at
+        ≡ only_if went (Some (frame_of top.new ∷ stack_of below.new))) }
+{
+    loop {
+        if let Some(point) = advance(top.point, token) {
+            take(alloc, top, point, token)?;
+            return Ok(true);
+        }
+        if let Some((place, point)) = opens(top.place.head, top.point, token) {
+            let part = inside(alloc, top, place, point, at, token)?;
+            below.push(mem::replace(top, part))?;
+            return Ok(true);
+        }
+        let Some(row) = made(top.point) else {
+            return Ok(false);
+        };
+        if let Some(point) = joins(top.place, row, token) {
+            begin(alloc, top, row, point, token)?;
+            return Ok(true);
+        }
+        if !allowed(top.place, row) {
+            return Ok(false);
+        }
+        let Some(around) = below.pop() else {
+            return Ok(false);
+        };
+        let part = mem::replace(top, around);
+        hold(top, part, row)?;
+    }
+}
+
+/// All nodes end where the tokens of a text do; false where one is not complete.
+#[tactic(auto, using(crate::proofs::Turns::close_not_made))]
+pub(crate) fn close(below: &mut List<Frame>, top: &mut Frame) -> Result<bool, NoMemory>
+    ensures { IfOk result (λ ended. close_of (stack_of below.old) (frame_of top.old)
+        ≡ only_if ended (Some (frame_of top.new))) }
+{
+    loop {
+        let Some(row) = made(top.point) else {
+            return Ok(false);
+        };
+        let Some(around) = below.pop() else {
+            return Ok(true);
+        };
+        if !allowed(top.place, row) {
+            return Ok(false);
+        }
+        let part = mem::replace(top, around);
+        hold(top, part, row)?;
+    }
+}

@@ -1,0 +1,65 @@
+use Rattle.std.proofs.Common.{rules, ◌≡◌, Some, None, ◌∷◌, ◌&&◌, [], List, length, map, sym, ap, ◌∙◌, refl}
+use Rattle.std.proofs.lemmas.List.{nil_from_length}
+use Rattle.src_token.specs.declared.token.Token.{Token}
+use Rattle.src_tree.specs.declared.node.Node.{Node}
+use Rattle.src_tree.specs.declared.node.Piece
+use Rattle.src_tree.specs.Checking.{levels, begun as begun_of, follows as follows_of}
+use Rattle.src_tree.specs.Grammar.{joined}
+use Rattle.src_tree.specs.Layout.{sub, tok}
+use Rattle.src_tree.specs.Table.{joined_of, rest_at}
+use Rattle.src_tree.specs.View.{layout_of, piece_of, parts_from, parts_in}
+use Rattle.src_tree.proofs.Pieces.{node_seen, token_seen}
+use Rattle.src_tree.proofs.Tests.{joined_on, not_joined}
+use Rattle.src_tree.proofs.levels.+levelled.Goals as goal
+
+one : (ps : List Piece.Piece) (g : Node) (rest : List Piece.Piece) → ps ≡ Piece.Node g ∷ rest → parts_in ps ≡ sub (layout_of g) (parts_in rest)
+one ps g rest e =
+    ap parts_in e ∙ ap (λ z. parts_from (z ∷ map piece_of rest)) (node_seen g)
+
+two : (ps : List Piece.Piece) (g : Node) (t : Token) (rest : List Piece.Piece) → ps ≡ Piece.Node g ∷ Piece.Token t ∷ rest → parts_in ps ≡ sub (layout_of g) (tok t (parts_in rest))
+two ps g t rest e =
+    one ps g (Piece.Token t ∷ rest) e ∙ ap (λ z. sub (layout_of g) (parts_from (z ∷ map piece_of rest))) (token_seen t)
+
+pub begun-returns-then-node_levelled : goal.begun-returns-then-node_levelled
+begun-returns-then-node_levelled t c =
+    let first = c.in-Some-Node-default.first in
+    let token = c.in-Some-Token-default-split_first.token in
+    let rest = c.in-Some-Token-default-split_first.rest.now in
+    let e : c.args.node.now.parts ≡ Piece.Node first ∷ Piece.Token token ∷ rest = search rules in
+    let j : Some (joined_of c.in-Some-joined.begun) ≡ joined c.args.seen token = search rules in
+    let n : c.node_levelled.result ≡ levels (Some c.in-Some-joined.begun.place) (layout_of first) = search rules in
+    let f : c.follows-then-node_levelled.result ≡ follows_of c.args.seen.head (Some (rest_at c.in-Some-joined.begun.at)) c.args.node.now.row (parts_in rest) = search rules in
+    ap (λ z. z && c.follows-then-node_levelled.result) (sym c.if-node_levelled.true)
+    ∙ joined_on c.args.seen c.args.node.now.row (layout_of first) token (parts_in rest) c.node_levelled.result c.follows-then-node_levelled.result c.in-Some-joined.begun j n f
+    ∙ ap (begun_of c.args.seen c.args.node.now.row) (sym (two c.args.node.now.parts first token rest e))
+
+pub begun-returns-else-node_levelled : goal.begun-returns-else-node_levelled
+begun-returns-else-node_levelled t c =
+    let first = c.in-Some-Node-default.first in
+    let token = c.in-Some-Token-default-split_first.token in
+    let rest = c.in-Some-Token-default-split_first.rest.now in
+    let e : c.args.node.now.parts ≡ Piece.Node first ∷ Piece.Token token ∷ rest = search rules in
+    let j : Some (joined_of c.in-Some-joined.begun) ≡ joined c.args.seen token = search rules in
+    let n : c.node_levelled.result ≡ levels (Some c.in-Some-joined.begun.place) (layout_of first) = search rules in
+    let b = follows_of c.args.seen.head (Some (rest_at c.in-Some-joined.begun.at)) c.args.node.now.row (parts_in rest) in
+    c.if-node_levelled.false ∙ ap (λ z. z && b) (sym c.if-node_levelled.false)
+    ∙ joined_on c.args.seen c.args.node.now.row (layout_of first) token (parts_in rest) c.node_levelled.result b c.in-Some-joined.begun j n refl
+    ∙ ap (begun_of c.args.seen c.args.node.now.row) (sym (two c.args.node.now.parts first token rest e))
+
+pub begun-returns-in-None-joined : goal.begun-returns-in-None-joined
+begun-returns-in-None-joined t c =
+    let first = c.in-Some-Node-default.first in
+    let token = c.in-Some-Token-default-split_first.token in
+    let rest = c.in-Some-Token-default-split_first.rest.now in
+    let e : c.args.node.now.parts ≡ Piece.Node first ∷ Piece.Token token ∷ rest = search rules in
+    let j : None ≡ joined c.args.seen token = search rules in
+    not_joined c.args.seen c.args.node.now.row (layout_of first) token (parts_in rest) j
+    ∙ ap (begun_of c.args.seen c.args.node.now.row) (sym (two c.args.node.now.parts first token rest e))
+
+pub begun-returns-in_default-2 : goal.begun-returns-in_default-2
+begun-returns-in_default-2 t c =
+    let first = c.in-Some-Node-default.first in
+    let zero_ : length c.in-Some-Node-default.rest.now ≡ 0 = search rules in
+    let none : c.in-Some-Node-default.rest.now ≡ [] = nil_from_length c.in-Some-Node-default.rest.now zero_ in
+    let e : c.args.node.now.parts ≡ Piece.Node first ∷ [] = search (rules, none) in
+    ap (begun_of c.args.seen c.args.node.now.row) (sym (one c.args.node.now.parts first [] e))

@@ -1,0 +1,171 @@
+//! Whether a tree is levelled: each node at a place where it may stand, with the parts that its row has there.
+ghost use Rattle.std.specs.Prelude.{◌≡◌, ◌↔◌, IsTrue, Some, None, option_map};
+ghost use Rattle.src_tree.specs.Checking.{row_number as row_number_is, is_row as is_row_of, levels, begun as begun_of, follows as follows_of, past as past_of};
+ghost use Rattle.src_tree.specs.Grammar.{items as items_rest};
+ghost use Rattle.src_tree.specs.Layout.{ItemsLevelled};
+ghost use Rattle.src_tree.specs.Table.{rest_of};
+ghost use Rattle.src_tree.specs.View.{layout_of, piece_of, parts_in, items_of};
+
+use crate::grammar::{allowed, place_of, seen};
+use crate::table::ITEMS;
+use crate::{
+    Node, Piece, Place, Point, Row, Seen, Tree, advance, behind, due, entry, joined, made,
+};
+
+/// The number of a row, by which rows are told apart.
+fn row_number(row: Row) -> u8
+    ensures { result ≡ row_number_is row }
+{
+    match row {
+        Row::File => 0,
+        Row::Struct => 1,
+        Row::Enum => 2,
+        Row::Trait => 3,
+        Row::Impl => 4,
+        Row::Fn => 5,
+        Row::Method => 6,
+        Row::Head => 7,
+        Row::Field => 8,
+        Row::Variant => 9,
+        Row::Ident => 10,
+        Row::NamedType => 11,
+        Row::GenericType => 12,
+        Row::DynType => 13,
+        Row::SelfType => 14,
+        Row::TupleType => 15,
+        Row::ArrayType => 16,
+        Row::NeverType => 17,
+        Row::RefType => 18,
+        Row::WildPattern => 19,
+        Row::BindPattern => 20,
+        Row::NumberPattern => 21,
+        Row::BoolPattern => 22,
+        Row::PathPattern => 23,
+        Row::CallPattern => 24,
+        Row::StructPattern => 25,
+        Row::TuplePattern => 26,
+        Row::ArrayPattern => 27,
+        Row::OrPattern => 28,
+        Row::FieldPattern => 29,
+        Row::Param => 30,
+        Row::SelfParam => 31,
+        Row::Let => 32,
+        Row::Empty => 33,
+        Row::Semi => 34,
+        Row::Block => 35,
+        Row::If => 36,
+        Row::Match => 37,
+        Row::Arm => 38,
+        Row::LastArm => 39,
+        Row::Loop => 40,
+        Row::While => 41,
+        Row::Return => 42,
+        Row::Break => 43,
+        Row::Continue => 44,
+        Row::LabelName => 45,
+        Row::Closure => 46,
+        Row::Panic => 47,
+        Row::Assign => 48,
+        Row::Or => 49,
+        Row::And => 50,
+        Row::Compare => 51,
+        Row::Sum => 52,
+        Row::Product => 53,
+        Row::Prefix => 54,
+        Row::FieldAccess => 55,
+        Row::MethodCall => 56,
+        Row::TupleField => 57,
+        Row::Call => 58,
+        Row::Index => 59,
+        Row::Number => 60,
+        Row::Truth => 61,
+        Row::SelfValue => 62,
+        Row::Path => 63,
+        Row::StructExpr => 64,
+        Row::FieldInit => 65,
+        Row::Round => 66,
+        Row::Square => 67,
+    }
+}
+
+fn is_row(row: Row, other: Row) -> bool
+    ensures { result ≡ is_row_of row other }
+{
+    row_number(row) == row_number(other)
+}
+
+#[cycle(levelled)]
+fn node_levelled(place: Place, node: &Node) -> bool
+    ensures { result ≡ levels (Some place) (layout_of node.now) }
+{
+    allowed(place, node.row) && begun(seen(place), node)
+}
+
+/// Whether the parts of a node make its row, where its parts see this of its place.
+#[cycle(levelled)]
+#[tactic(auto, using(crate::proofs::Tests::follows_none))]
+fn begun(seen: Seen, node: &Node) -> bool
+    ensures { result ≡ begun_of seen node.now.row (parts_in node.now.parts) }
+{
+    match node.parts.as_slice().split_first() {
+        Some((Piece::Token(token), rest)) => match entry(seen, token) {
+            Some((_, at)) => follows(seen.head, Point::At(at), node.row, rest),
+            None => false,
+        },
+        Some((Piece::Node(first), rest)) => match rest.split_first() {
+            Some((Piece::Token(token), rest)) => match joined(seen, token) {
+                Some(begun) => {
+                    node_levelled(begun.place, first)
+                        && follows(seen.head, Point::At(begun.at), node.row, rest)
+                }
+                None => false,
+            },
+            _ => false,
+        },
+        None => false,
+    }
+}
+
+/// Where a node is behind a part of it; `None` where the part is not due.
+#[cycle(levelled)]
+fn past(head: bool, point: Point, piece: &Piece) -> Option<Point>
+    ensures { option_map rest_of result ≡ past_of head (rest_of point) (piece_of piece.now) }
+{
+    match piece {
+        Piece::Token(token) => advance(point, token),
+        Piece::Node(node) => match due(point) {
+            Some(part) if node_levelled(place_of(head, part), node) => {
+                Some(behind(point, node.row))
+            }
+            _ => None,
+        },
+    }
+}
+
+/// Whether what is due from a point on, these parts are.
+#[cycle(levelled)]
+#[tactic(auto, using(crate::proofs::Tests::follows_none))]
+fn follows(head: bool, from: Point, row: Row, pieces: &[Piece]) -> bool
+    ensures { result ≡ follows_of head (Some (rest_of from)) row (parts_in pieces.now) }
+{
+    let mut point = from;
+    for piece in pieces {
+        match past(head, point, piece) {
+            Some(next) => point = next,
+            None => return false,
+        }
+    }
+    match made(point) {
+        Some(made) => is_row(made, row),
+        None => false,
+    }
+}
+
+/// Whether each part of a tree is one that its row has there, and each operand stands at its level. It takes no
+/// memory.
+#[tactic(auto, using(crate::proofs::Tests::levels_are, crate::proofs::Named::items_is))]
+pub fn levelled(tree: &Tree) -> bool
+    ensures { IsTrue result ↔ ItemsLevelled (items_of tree.now) }
+{
+    follows(false, Point::At(ITEMS), Row::File, tree.items.as_slice())
+}
