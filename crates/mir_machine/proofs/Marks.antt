@@ -1,5 +1,5 @@
 -- What a value put or taken at one place leaves gone.
-use Rattle.std.proofs.Common.{◌≡◌, ◌↔◌, ◌⊎◌, inl, inr, ℕ, Bool, true, false, cond, not, ◌||◌, ◌&&◌, List, [], ◌∷◌, ◌++◌, Option, Some, None, Decides, refl, ap, sym, subst, ◌∙◌, arith, length, length-append, ◌==◌, append-nil}
+use Rattle.std.proofs.Common.{◌≡◌, ◌↔◌, ◌⊎◌, inl, inr, ℕ, suc, Bool, true, false, cond, not, ◌||◌, ◌&&◌, List, [], ◌∷◌, ◌++◌, Option, Some, None, Decides, refl, ap, sym, subst, ◌∙◌, arith, length, length-append, ◌==◌, append-nil}
 use Rattle.std.proofs.lemmas.Bool.{true≢false, false≢true}
 use Rattle.std.specs.Cmp.{first_so, second_so}
 use Rattle.std.specs.List.{list_any, filter}
@@ -10,8 +10,9 @@ use Rattle.store_model.proofs.Values.Access.{none_or_some, value_at-below, value
 use Rattle.store_model.proofs.Values.Wholeness.{IsWhole-iff_no_gone, is_whole-iff_IsWhole}
 use Rattle.store_model.specs.declared.address.At.{At}
 use Rattle.store_model.specs.declared.address.At.TheVariants.{Part, Inside}
-use Rattle.store_model.specs.declared.value.Value.{Value}
-use Rattle.store_model.specs.Values.Datum.{Datum, datum_of, Gone, Number, Truth, UnitValue, Aggregate, Box, Address}
+use Rattle.store_model.specs.declared.value.Value.{Value, Value-F, fold-roll-Value}
+use Rattle.store_model.specs.declared.value.Value.TheVariants.{Gone as nothing, rolls-Gone}
+use Rattle.store_model.specs.Values.Datum.{Datum, datum_of, datum_of_layer, Gone, Number, Truth, UnitValue, Aggregate, Box, Address}
 use Rattle.store_model.specs.Values.Access.{part, with_part, value_at, replaced, AreApart}
 use Rattle.store_model.specs.Values.Wholeness.{IsWhole, is_whole}
 
@@ -286,3 +287,31 @@ pub stands_or_not : (read : Option Value) (root : Datum) (place : List At) → o
     (old : Datum) × (value_at place root ≡ Some old)
 stands_or_not None root place e h = absurd (false≢true h)
 stands_or_not (Some value) root place e h = (datum_of value, sym e)
+
+datum_of_nothing : datum_of nothing ≡ Gone
+datum_of_nothing = ap datum_of (sym rolls-Gone) ∙ fold-roll-Value Datum datum_of_layer Value-F.Gone
+
+root_alone : (path : List At) → IsMarked ([] ∷ []) path ↔ (value_at path Gone ≡ Some Gone)
+root_alone [] = (λ m. refl, λ h. inl refl)
+root_alone (step ∷ path) = (told step, tells step)
+  where
+    told : (step : At) → IsMarked ([] ∷ []) (step ∷ path) → value_at (step ∷ path) Gone ≡ Some Gone
+    told step (inl e) = absurd (cc)
+    told step (inr m) = absurd m
+    tells : (step : At) → value_at (step ∷ path) Gone ≡ Some Gone → IsMarked ([] ∷ []) (step ∷ path)
+    tells (Part n) h = absurd (cc)
+    tells Inside h = absurd (cc)
+
+-- of what is gone the whole is the one place that is
+pub all_gone : (places : List (List At)) → places ≡ [] ∷ [] → Marks (datum_of nothing) places
+all_gone places e = subst (λ root. Marks root places) (sym datum_of_nothing) (subst (Marks Gone) (sym e) root_alone)
+
+-- a value put in what is gone is lost, but for one in place of the whole
+pub put_in_gone : (place : List At) (value : Datum) → (length place == 0) ≡ false → replaced place value Gone ≡ Gone
+put_in_gone [] value h = absurd (true≢false h)
+put_in_gone (Part n ∷ place) value h = refl
+put_in_gone (Inside ∷ place) value h = refl
+
+pub put_whole : (place : List At) (value root : Datum) → (length place == 0) ≡ true → replaced place value root ≡ value
+put_whole [] value root h = refl
+put_whole (step ∷ place) value root h = absurd (let k : suc (length place) ≡ 0 = (Decides-eqb (suc (length place)) 0).0 h in omega arith)

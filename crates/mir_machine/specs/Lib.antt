@@ -1,1 +1,3 @@
+pub mod Activations
+pub mod Frames
 pub mod Marks

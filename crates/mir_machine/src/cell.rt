@@ -78,6 +78,18 @@ impl Cell {
         }
     }
 
+    /// A local in which nothing stands.
+    pub fn vacant(alloc: Global) -> Result<Cell, NoMemory>
+        ensures { IfOk result (λ cell. datum_of cell ≡ Gone) }
+    {
+        let mut gone = Vec::new(alloc);
+        gone.push(AtPath::new(alloc))?;
+        Ok(Cell {
+            value: Value::Gone,
+            gone,
+        })
+    }
+
     /// The value, any part of which may be gone.
     pub fn value(&self) -> &Value
         ensures { datum_of result.now ≡ datum_of self.now }

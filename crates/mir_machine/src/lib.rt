@@ -2,5 +2,9 @@
 #![tactic(auto)]
 
 mod cell;
+mod frame;
+mod store;
 
 pub use cell::Cell;
+pub use frame::{Entry, Frame};
+pub use store::Store;
