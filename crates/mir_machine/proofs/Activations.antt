@@ -11,7 +11,7 @@ use Rattle.store_model.specs.Concrete.State.{Activation, Cells, cell, with_cell,
 use Rattle.store_model.specs.declared.value.Value.{Value}
 use Rattle.store_model.specs.Values.Datum.{Datum, Gone, datum_of}
 
-abbrev Frames : Type 0
+abbrev pub Frames : Type 0
 Frames = List (ℕ × List Entry)
 
 same_number : (n : ℕ) → (n == n) ≡ true
@@ -138,3 +138,39 @@ pub entered : (frame : ℕ × List Entry) (body : ℕ) (yielded args : List Valu
 entered frame body yielded args b cells all =
     ap (λ n. record { body = n; cells = cells_of frame.1 }) b
     ∙ ap (λ c. record { body = body; cells = c }) (cells ∙ ap (λ l. arguments_from 1 (map datum_of l)) (sym (same_items yielded) ∙ all))
+
+past_end : {A : Type 0} (list : List A) (n : ℕ) → slice_get list n ≡ None → length list ≤ n
+past_end [] n e = omega arith
+past_end (x ∷ list) zero e = absurd (cc)
+past_end (x ∷ list) (suc n) e = let h = past_end list n e in omega arith
+
+-- the activation of a depth, by its frame
+pub depth_lookup : (frames : Frames) (depth : ℕ) → at_depth depth (on_top_of frames []) ≡ option_map activation_of (slice_get frames depth)
+depth_lookup frames depth = go (slice_get frames depth) refl
+  where
+    go : (o : Option (ℕ × List Entry)) → slice_get frames depth ≡ o → at_depth depth (on_top_of frames []) ≡ option_map activation_of o
+    go (Some frame) e = at_this_depth frames depth 0 frame e
+    go None e = let d = depth_of frames [] in let h = past_end frames depth e in too_deep (on_top_of frames []) depth (omega arith)
+
+-- the youngest activation is the last frame
+youngest : (first : ℕ × List Entry) (frames : Frames) (older : List Activation) (depth : ℕ) (frame : ℕ × List Entry) → slice_get (first ∷ frames) depth ≡ Some frame → depth ≡ length frames →
+    (rest : List Activation) × (on_top_of (first ∷ frames) older ≡ activation_of frame ∷ rest) × (length rest ≡ depth + length older)
+youngest first [] older zero frame e h = (older, ap (λ f. activation_of f ∷ older) (let same : first ≡ frame = cc in same), omega arith)
+youngest first [] older (suc depth) frame e h = absurd (let never : ⊥ = omega arith in never)
+youngest first (second ∷ frames) older zero frame e h = absurd (let never : ⊥ = omega arith in never)
+youngest first (second ∷ frames) older (suc depth) frame e h =
+    let found = youngest second frames (activation_of first ∷ older) depth frame e (omega arith) in
+    (found.0, found.1, (let n = found.2 in omega arith))
+
+pub youngest_frame : (frames : Frames) (depth : ℕ) (frame : ℕ × List Entry) → slice_get frames depth ≡ Some frame → suc depth ≡ length frames →
+    (rest : List Activation) × (on_top_of frames [] ≡ activation_of frame ∷ rest) × (length rest ≡ depth)
+youngest_frame [] depth frame e h = absurd (let never : ⊥ = omega arith in never)
+youngest_frame (first ∷ frames) depth frame e h =
+    let found = youngest first frames [] depth frame e (omega arith) in
+    (found.0, found.1, (let n = found.2 in omega arith))
+
+pub is_frame : (frames : Frames) (depth n : ℕ) → n ≡ length (on_top_of frames []) → n ≡ suc depth → slice_get frames depth ≡ None → ⊥
+is_frame frames depth n e h none = let d = depth_of frames [] in let p = past_end frames depth none in omega arith
+
+pub frame_count : (frames : Frames) (n : ℕ) → n ≡ length (on_top_of frames []) → n ≡ length frames
+frame_count frames n e = let d = depth_of frames [] in omega arith

@@ -157,3 +157,13 @@ value_of_entry key place entries value e = sym (ap (option_and_then (λ v. value
 pub cells_of_entry : (key : ℕ) (place : List At) (entries : List Entry) (value : Value) → entry_of key entries ≡ Some value →
     with_cell key (replaced place Gone (datum_of value)) (cells_of entries) ≡ cells_without key place entries
 cells_of_entry key place entries value e = sym (ap (λ o. option_map_or (λ v. with_cell key (replaced place Gone (datum_of v)) (cells_of entries)) o (cells_of entries)) e)
+
+-- what a local holds, by its entry
+pub cell_by_entry : (key : ℕ) (entries : List Entry) → cell key (cells_of entries) ≡ option_map_or datum_of (entry_of key entries) Gone
+cell_by_entry key [] = refl
+cell_by_entry key (entry ∷ entries) = go (key == entry.key) (cell_by_entry key entries)
+  where
+    go : (b : Bool) → cell key (cells_of entries) ≡ option_map_or datum_of (entry_of key entries) Gone →
+        (if b then datum_of entry.cell else cell key (cells_of entries)) ≡ option_map_or datum_of (if b then Some entry.cell else entry_of key entries) Gone
+    go true h = refl
+    go false h = h

@@ -1,4 +1,5 @@
 pub mod Activations
 pub mod Frames
+pub mod Locations
 pub mod Marks
 pub mod PathEq

@@ -1,3 +1,4 @@
 pub mod Activations
 pub mod Frames
 pub mod Marks
+pub mod Standing

@@ -3,8 +3,12 @@
 
 mod cell;
 mod frame;
+mod location;
 mod store;
+mod types;
 
 pub use cell::Cell;
 pub use frame::{Entry, Frame};
+pub use location::{Located, Reached};
 pub use store::Store;
+pub use types::Dynamic;
