@@ -1,12 +1,16 @@
 -- The activations of a store, which holds the oldest first, as the list of the youngest first.
-use Rattle.std.proofs.Common.{◌≡◌, ℕ, zero, suc, ◌==◌, ◌+◌, ◌<◌, ◌≤◌, Bool, true, false, List, [], ◌∷◌, ◌++◌, length, map, Option, Some, None, slice_get, slice_set, All, MatchOption, refl, ap, sym, subst, ◌∙◌, arith, length-append, if◌then◌else◌}
-use Rattle.std.specs.Option.{option_map, option_map_or}
+use Rattle.std.proofs.Common.{◌≡◌, ◌≢◌, ℕ, zero, suc, ◌==◌, ◌+◌, ◌<◌, ◌≤◌, Bool, true, false, List, [], ◌∷◌, ◌++◌, length, map, Option, Some, None, slice_get, slice_set, All, MatchOption, refl, ap, sym, subst, ◌∙◌, arith, length-append, if◌then◌else◌}
+use Rattle.std.specs.Option.{option_map, option_map_or, option_and_then}
 use Rattle.std.proofs.lemmas.Bool.{true≢false, false≢true}
 use Rattle.std.proofs.lemmas.Bool.Decides.{Decides-eqb}
 use Rattle.cfg_meaning.specs.Programs.{arguments_from}
 use Rattle.mir_machine.specs.Activations.{on_top_of, root_in}
 use Rattle.mir_machine.specs.declared.frame.Entry.{Entry}
-use Rattle.mir_machine.specs.Frames.{activation_of, cells_of}
+use Rattle.mir_machine.specs.Frames.{activation_of, cells_of, entry_of, value_in, cells_without}
+use Rattle.mir_machine.proofs.Frames.{cell_by_entry}
+use Rattle.store_model.specs.declared.address.At.{At}
+use Rattle.store_model.specs.declared.address.At.TheVariants.{Part, Inside}
+use Rattle.store_model.specs.Values.Access.{value_at, replaced}
 use Rattle.store_model.specs.Concrete.State.{Activation, Cells, cell, with_cell, at_depth, with_cell_at}
 use Rattle.store_model.specs.declared.value.Value.{Value}
 use Rattle.store_model.specs.Values.Datum.{Datum, Gone, datum_of}
@@ -174,3 +178,42 @@ is_frame frames depth n e h none = let d = depth_of frames [] in let p = past_en
 
 pub frame_count : (frames : Frames) (n : ℕ) → n ≡ length (on_top_of frames []) → n ≡ length frames
 frame_count frames n e = let d = depth_of frames [] in omega arith
+
+-- What stands in a local that is not gone was stored there.
+
+nothing_in_gone : (place : List At) (stood : Datum) → value_at place Gone ≡ Some stood → stood ≢ Gone → ⊥
+nothing_in_gone [] stood e h = h (let k : stood ≡ Gone = cc in k)
+nothing_in_gone (Part n ∷ place) stood e h = absurd (cc)
+nothing_in_gone (Inside ∷ place) stood e h = absurd (cc)
+
+stored_entry : (key : ℕ) (place : List At) (entries : List Entry) (stood : Datum) → value_at place (cell key (cells_of entries)) ≡ Some stood → stood ≢ Gone →
+    (value : Value) × (entry_of key entries ≡ Some value) × (cell key (cells_of entries) ≡ datum_of value)
+stored_entry key place entries stood e h = go (entry_of key entries) refl
+  where
+    go : (o : Option Value) → entry_of key entries ≡ o → (value : Value) × (entry_of key entries ≡ Some value) × (cell key (cells_of entries) ≡ datum_of value)
+    go (Some value) d = (value, d, cell_by_entry key entries ∙ ap (λ o. option_map_or datum_of o Gone) d)
+    go None d = absurd (nothing_in_gone place stood (sym (ap (value_at place) (cell_by_entry key entries ∙ ap (λ o. option_map_or datum_of o Gone) d)) ∙ e) h)
+
+module _ (frames : Frames) (depth key : ℕ) (place : List At) (stood : Datum) (stands : value_at place (root_in depth key (on_top_of frames [])) ≡ Some stood) (h : stood ≢ Gone) where
+  module _ (frame : ℕ × List Entry) (is : slice_get frames depth ≡ Some frame) where
+    stands_there : value_at place (cell key (cells_of frame.1)) ≡ Some stood
+    stands_there = sym (ap (value_at place) (root_is frames depth key frame is)) ∙ stands
+
+    pub taken_value : value_in key place frame.1 ≡ Some stood
+    taken_value =
+        let s = stored_entry key place frame.1 stood stands_there h in
+        ap (option_and_then (λ value. value_at place (datum_of value))) s.1 ∙ ap (value_at place) (sym s.2) ∙ stands_there
+
+    pub taken_cells : (changed : ℕ × List Entry) → changed.0 ≡ frame.0 → cells_of changed.1 ≡ cells_without key place frame.1 →
+        on_top_of (slice_set frames depth changed) [] ≡ with_cell_at depth key (replaced place Gone (root_in depth key (on_top_of frames []))) (on_top_of frames [])
+    taken_cells changed body cells =
+        let s = stored_entry key place frame.1 stood stands_there h in
+        changed_in frames depth key frame is (replaced place Gone) changed body
+        (cells ∙ ap (λ o. option_map_or (λ value. with_cell key (replaced place Gone (datum_of value)) (cells_of frame.1)) o (cells_of frame.1)) s.1
+        ∙ ap (λ d. with_cell key (replaced place Gone d) (cells_of frame.1)) (sym s.2))
+
+  pub stands_in_a_frame : length frames ≤ depth → ⊥
+  stands_in_a_frame past =
+      let d = depth_of frames [] in
+      let none : at_depth depth (on_top_of frames []) ≡ None = too_deep (on_top_of frames []) depth (omega arith) in
+      nothing_in_gone place stood (sym (ap (λ o. value_at place (option_map_or (λ a. cell key a.cells) o Gone)) none) ∙ stands) h

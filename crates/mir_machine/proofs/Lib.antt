@@ -3,3 +3,4 @@ pub mod Frames
 pub mod Locations
 pub mod Marks
 pub mod PathEq
+pub mod Stands

@@ -1,11 +1,11 @@
-ghost use Rattle.std.specs.Prelude.{◌≡◌, ℕ, [], ◌∷◌, length, map, All, IfOk, OnOk, MatchOption, Some, None, option_map, slice_get};
+ghost use Rattle.std.specs.Prelude.{◌≡◌, ◌≢◌, ℕ, [], ◌∷◌, length, map, All, IfOk, OnOk, MatchOption, Some, None, option_map, slice_get};
 ghost use Rattle.std.specs.Option.{option_copied};
 ghost use Rattle.cfg_meaning.specs.Programs.{arguments_from};
 ghost use Rattle.mir_machine.specs.Activations.{activations_of, root_in};
 ghost use Rattle.mir_machine.specs.Frames.{activation_of};
 ghost use Rattle.store_model.specs.Concrete.State.{with_cell_at};
-ghost use Rattle.store_model.specs.Values.Datum.{datum_of};
-ghost use Rattle.store_model.specs.Values.Access.{replaced};
+ghost use Rattle.store_model.specs.Values.Datum.{Datum, Gone, datum_of};
+ghost use Rattle.store_model.specs.Values.Access.{value_at, replaced};
 ghost use Rattle.store_model.specs.Values.Wholeness.{IsWhole};
 
 use crate::Frame;
@@ -87,5 +87,20 @@ impl Store {
             return self.frames.element_mut(depth).put(alloc, key, place, value);
         }
         Ok(())
+    }
+
+    /// Takes what stands at a place of a local of the activation of a depth, and leaves it gone. `None` comes exactly
+    /// where there is no such place or nothing was stored into the local, and then nothing changes. Memory is for the
+    /// mark.
+    pub fn take(&mut self, alloc: Global, depth: usize, key: u32, place: &[At]) -> Result<Option<Value>, NoMemory>
+        ensures taken { (stood : Datum) → value_at place.now (root_in depth key (activations_of self.old)) ≡ Some stood → stood ≢ Gone →
+            IfOk result (λ taken. option_map datum_of taken ≡ Some stood) }
+        ensures after { (stood : Datum) → value_at place.now (root_in depth key (activations_of self.old)) ≡ Some stood → stood ≢ Gone →
+            OnOk result (activations_of self.new ≡ with_cell_at depth key (replaced place.now Gone (root_in depth key (activations_of self.old))) (activations_of self.old)) }
+    {
+        if depth < self.frames.len() {
+            return self.frames.element_mut(depth).take(alloc, key, place);
+        }
+        Ok(None)
     }
 }
