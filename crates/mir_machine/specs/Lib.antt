@@ -2,3 +2,4 @@ pub mod Activations
 pub mod Frames
 pub mod Marks
 pub mod Standing
+pub mod Worlds

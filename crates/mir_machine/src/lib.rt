@@ -6,9 +6,12 @@ mod frame;
 mod location;
 mod store;
 mod types;
+mod whole;
+mod world;
 
 pub use cell::Cell;
 pub use frame::{Entry, Frame};
 pub use location::{Located, Reached};
 pub use store::Store;
 pub use types::Dynamic;
+pub use world::World;
