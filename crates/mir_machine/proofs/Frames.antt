@@ -1,6 +1,6 @@
 -- The entries of the locals of a body, and the index of their places.
-use Rattle.std.proofs.Common.{◌≡◌, ◌≢◌, ◌⊎◌, inl, inr, ℕ, zero, suc, ◌==◌, ◌<◌, ◌≤◌, Bool, true, false, List, [], ◌∷◌, ◌++◌, length, map, set, Option, Some, None, slice_get, slice_set, refl, ap, sym, subst, ◌∙◌, arith, if◌then◌else◌}
-use Rattle.std.proofs.lemmas.Bool.{true≢false, false≢true}
+use Rattle.std.proofs.Common.{◌≡◌, ◌≢◌, ℕ, zero, suc, ◌==◌, ◌<◌, Bool, true, false, List, [], ◌∷◌, ◌++◌, length, Option, Some, None, slice_get, slice_set, refl, ap, sym, subst, ◌∙◌, arith, if◌then◌else◌}
+use Rattle.std.proofs.lemmas.Bool.{true≢false}
 use Rattle.std.proofs.lemmas.Bool.Decides.{Decides-eqb}
 use Rattle.std.specs.Option.{option_map, option_map_or, option_and_then}
 use Rattle.store_model.specs.declared.address.At.{At}
@@ -8,7 +8,7 @@ use Rattle.store_model.specs.Values.Access.{value_at, replaced}
 use Rattle.mir_machine.specs.declared.frame.Entry.{Entry}
 use Rattle.mir_machine.specs.Frames.{place_of, place_from, place_in, entry_of, cells_of, value_in, cells_without}
 use Rattle.store_model.specs.declared.value.Value.{Value}
-use Rattle.store_model.specs.Concrete.State.{Cells, cell, with_cell}
+use Rattle.store_model.specs.Concrete.State.{cell, with_cell}
 use Rattle.store_model.specs.Values.Datum.{Datum, Gone, datum_of}
 
 abbrev holding : Entry → Value → Entry

@@ -1,6 +1,5 @@
 -- Where an address leads, by the frame of its activation.
 use Rattle.std.proofs.Common.{◌≡◌, ℕ, zero, suc, ◌≤◌, ℤ, pos, negsuc, true, List, [], ◌∷◌, length, map, Option, Some, None, slice_get, IfNone, refl, ap, sym, subst, ◌∙◌, arith}
-use Rattle.std.specs.Borrow.{Bor}
 use Rattle.std.proofs.lemmas.List.{length-map}
 use Rattle.mir_ty.specs.ItemTable.{ItemTable}
 use Rattle.store_model.specs.declared.value.Value.{Value}
@@ -11,12 +10,12 @@ use Rattle.store_model.specs.Values.Access.{part, part_at}
 use Rattle.store_model.specs.Values.Parts.{count}
 use Rattle.store_model.proofs.Values.Datum.{datum_of-Parts}
 use Rattle.store_model.proofs.Values.OnePart.{count-data_from}
-use Rattle.std.specs.Option.{option_map, option_and_then}
+use Rattle.std.specs.Option.{option_and_then}
 use Rattle.cfg_graph.specs.declared.graph.Graph.{Graph}
 use Rattle.cfg_meaning.specs.Programs.{setting_of}
 use Rattle.mir_machine.specs.Activations.{on_top_of}
 use Rattle.mir_machine.specs.Frames.{activation_of, cells_of}
-use Rattle.mir_machine.specs.Standing.{with_activations, standing, count_of_parts, number_of, reach_of_found, into_element_found, located_root_found, into_all_found, along_found}
+use Rattle.mir_machine.specs.Standing.{with_activations, count_of_parts, number_of, reach_of_found, into_element_found, located_root_found, into_all_found, along_found}
 use Rattle.mir_machine.specs.declared.frame.Entry.{Entry}
 use Rattle.mir_machine.proofs.Activations.{Frames, depth_lookup, youngest_frame}
 use Rattle.store_model.specs.declared.address.Addr.{Addr}

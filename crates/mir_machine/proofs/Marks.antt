@@ -1,12 +1,12 @@
 -- What a value put or taken at one place leaves gone.
-use Rattle.std.proofs.Common.{◌≡◌, ◌↔◌, ◌⊎◌, inl, inr, ℕ, suc, Bool, true, false, cond, not, ◌||◌, ◌&&◌, List, [], ◌∷◌, ◌++◌, Option, Some, None, Decides, refl, ap, sym, subst, ◌∙◌, arith, length, length-append, ◌==◌, append-nil}
+use Rattle.std.proofs.Common.{◌≡◌, ◌↔◌, ◌⊎◌, inl, inr, suc, Bool, true, false, cond, not, ◌||◌, ◌&&◌, List, [], ◌∷◌, ◌++◌, Option, Some, None, Decides, refl, ap, sym, subst, ◌∙◌, arith, length, length-append, ◌==◌, append-nil}
 use Rattle.std.proofs.lemmas.Bool.{true≢false, false≢true}
 use Rattle.std.specs.Cmp.{first_so, second_so}
 use Rattle.std.specs.List.{list_any, filter}
 use Rattle.std.specs.Option.{option_map, is_some}
 use Rattle.std.proofs.lemmas.Bool.Decides.{Decides-eqb}
 use Rattle.mir_machine.specs.Marks.{same_step, leads_into, is_outside, IsMarked, Marks}
-use Rattle.store_model.proofs.Values.Access.{none_or_some, value_at-below, value_at-append, replaced-nowhere, value_at-replaced, value_at-replaced_above, value_at-replaced_below, value_at-below_Gone, value_at-replaced_apart, part-Gone, paths_compare}
+use Rattle.store_model.proofs.Values.Access.{none_or_some, value_at-below, value_at-append, replaced-nowhere, value_at-replaced, value_at-replaced_above, value_at-replaced_below, value_at-below_Gone, value_at-replaced_apart, paths_compare}
 use Rattle.store_model.proofs.Values.Wholeness.{IsWhole-iff_no_gone, is_whole-iff_IsWhole}
 use Rattle.store_model.specs.declared.address.At.{At}
 use Rattle.store_model.specs.declared.address.At.TheVariants.{Part, Inside}
@@ -35,6 +35,7 @@ further other step path place rest = (told, tells)
         let same : other ≡ step = (same_step_Decides other step).0 (first_so (same_step other step) (leads_into path place) h) in
         let leads : LeadsInto path place = rest.0 (second_so (same_step other step) (leads_into path place) h) in
         (leads.0, (let e : path ≡ place ++ leads.0 = leads.1 in cc))
+
     tells : LeadsInto (other ∷ path) (step ∷ place) → (same_step other step && leads_into path place) ≡ true
     tells h =
         let e : other ∷ path ≡ step ∷ place ++ h.0 = h.1 in
@@ -82,8 +83,10 @@ same_outside place path new root out = go (paths_compare place path)
   where
     unchanged : value_at place root ≡ None → (value_at path (replaced place new root) ≡ Some Gone) ↔ (value_at path root ≡ Some Gone)
     unchanged none = rw (replaced-nowhere place new root none) (λ h. h, λ h. h)
+
     below_gone : (step : At) (below : List At) → place ≡ path ++ step ∷ below → value_at path root ≡ Some Gone → value_at place root ≡ None
     below_gone step below e h = ap (λ p. value_at p root) e ∙ value_at-below_Gone path below step root h
+
     above : (step : At) (below : List At) → place ≡ path ++ step ∷ below → (old : Datum) → value_at place root ≡ Some old → (c : Option Datum) → value_at path root ≡ c →
         value_at path (replaced place new root) ≡ Some Gone → value_at path root ≡ Some Gone
     above step below e old stands None d h =
@@ -92,6 +95,7 @@ same_outside place path new root out = go (paths_compare place path)
         let inner : value_at (step ∷ below) c ≡ Some old = sym (value_at-below path (step ∷ below) root c d) ∙ sym (ap (λ p. value_at p root) e) ∙ stands in
         let now : Some (replaced (step ∷ below) new c) ≡ Some Gone = sym (value_at-replaced_below path (step ∷ below) new root c d) ∙ sym (ap (λ p. value_at path (replaced p new root)) e) ∙ h in
         absurd (container_stands step below new c old inner (cc))
+
     go : ((below : List At) × (path ≡ place ++ below)) ⊎ (((below : List At) × (place ≡ path ++ below)) ⊎ AreApart place path) →
         (value_at path (replaced place new root) ≡ Some Gone) ↔ (value_at path root ≡ Some Gone)
     go (inl leads) = absurd (out leads)
@@ -235,6 +239,7 @@ marks_put root new places place whole marks path = (told, tells)
         go : (LeadsInto path place → ⊥) ⊎ ((true ≡ false) × (length path ≡ length place)) → value_at path (replaced place new root) ≡ Some Gone
         go (inl out) = (same_outside place path new root out).1 ((marks path).0 (marked_before (is_outside true place) places path m).0)
         go (inr never) = absurd (true≢false never.0)
+
     tells : value_at path (replaced place new root) ≡ Some Gone → IsMarked (filter (is_outside true place) places) path
     tells h = go (leads_or_not path place)
       where
@@ -256,21 +261,26 @@ marks_taken root old places place stands marks path = (told, tells)
       where
         before : IsMarked (places ++ place ∷ []) path
         before = (marked_before (is_outside false place) (places ++ place ∷ []) path m).0
+
         outside : is_outside false place path ≡ true
         outside = (marked_before (is_outside false place) (places ++ place ∷ []) path m).1
+
         at_place : place ≡ path → value_at path (replaced place Gone root) ≡ Some Gone
         at_place e = ap (λ p. value_at p (replaced place Gone root)) (sym e) ∙ value_at-replaced place Gone root old stands
+
         go : (LeadsInto path place → ⊥) ⊎ ((false ≡ false) × (length path ≡ length place)) → IsMarked places path ⊎ (place ≡ path) → LeadsInto path place ⊎ (LeadsInto path place → ⊥) →
             value_at path (replaced place Gone root) ≡ Some Gone
         go s (inr e) d = at_place e
         go (inl out) (inl m) d = (same_outside place path Gone root out).1 ((marks path).0 m)
         go (inr k) (inl m) (inr out) = (same_outside place path Gone root out).1 ((marks path).0 m)
         go (inr k) (inl m) (inl leads) = at_place (same_by_length path place leads k.1)
+
     tells : value_at path (replaced place Gone root) ≡ Some Gone → IsMarked (filter (is_outside false place) (places ++ place ∷ [])) path
     tells h = go (leads_or_not path place)
       where
         itself : is_outside false place place ≡ true
         itself = rw ((leads_Decides place place).1 ([], sym (append-nil place)), (Decides-eqb (length place) (length place)).1 refl) refl
+
         go : LeadsInto path place ⊎ (LeadsInto path place → ⊥) → IsMarked (filter (is_outside false place) (places ++ place ∷ [])) path
         go (inr out) =
             marked_kept (is_outside false place) (places ++ place ∷ []) path (outside_leads_not false place path out)
@@ -298,6 +308,7 @@ root_alone (step ∷ path) = (told step, tells step)
     told : (step : At) → IsMarked ([] ∷ []) (step ∷ path) → value_at (step ∷ path) Gone ≡ Some Gone
     told step (inl e) = absurd (cc)
     told step (inr m) = absurd m
+
     tells : (step : At) → value_at (step ∷ path) Gone ≡ Some Gone → IsMarked ([] ∷ []) (step ∷ path)
     tells (Part n) h = absurd (cc)
     tells Inside h = absurd (cc)

@@ -1,10 +1,10 @@
 -- `==` of steps is equality, so a path is compared as it is.
-use Rattle.std.proofs.Common.{◌≡◌, ◌++◌, Bool, true, false, List, Decides, refl, ap, sym, subst, ◌∙◌, drop, length}
+use Rattle.std.proofs.Common.{◌≡◌, Bool, true, false, List, Decides, refl, ap, sym, subst, drop, length}
 use Rattle.std.specs.List.{starts_with}
 use Rattle.std.proofs.lemmas.Bool.{false≢true}
 use Rattle.std.proofs.lemmas.Bool.Decides.{Decides-eqb}
 use Rattle.std.proofs.lemmas.Slice.Eq.{starts_is}
-use Rattle.mir_machine.proofs.Marks.{LeadsInto, leads_Decides}
+use Rattle.mir_machine.proofs.Marks.{leads_Decides}
 use Rattle.mir_machine.specs.Marks.{leads_into}
 use Rattle.store_model.specs.declared.address.At.{At}
 use Rattle.store_model.specs.declared.address.At.TheVariants.{Part, Inside}

@@ -1,12 +1,10 @@
 -- Where a place is depends on the activations alone.
-use Rattle.std.proofs.Common.{◌≡◌, ℕ, pos, negsuc, Bool, true, false, ◌==◌, List, [], ◌∷◌, ◌++◌, length, Option, Some, None, refl, ap, sym, subst, ◌∙◌}
-use Rattle.std.specs.Option.{option_map, option_map_or, option_and_then}
+use Rattle.std.proofs.Common.{◌≡◌, Bool, true, List, [], ◌∷◌, length, Option, Some, None, refl, ap, sym, ◌∙◌}
 use Rattle.cfg_graph.specs.declared.graph.Graph.{Graph}
 use Rattle.cfg_meaning.specs.Programs.{setting_of}
 use Rattle.mir_machine.specs.Standing.{with_activations, reach_of_found, located_root_found, named_by_found, by_reference_found, through_found, follow_found, follow_from_found, along_found}
 use Rattle.store_model.specs.declared.address.Addr.{Addr}
-use Rattle.store_model.specs.declared.address.At.TheVariants.{Part, Inside}
-use Rattle.store_model.specs.Concrete.Location.{Setting, Located, Reached, CutOff, Nowhere, concrete_ty, located_at, reach, on_reached}
+use Rattle.store_model.specs.Concrete.Location.{Setting, Located, CutOff, Nowhere, concrete_ty, located_at, reach, on_reached}
 use Rattle.store_model.specs.Concrete.State.{State, Activation, Cells, at_depth}
 use Rattle.store_model.specs.Places.Place.{Step, ToPart, ToField, ToContent, ToElement, Place}
 use Rattle.store_model.specs.Values.Datum.{Datum, Gone, Number, Truth, UnitValue, Aggregate, Box, Address}

@@ -1,12 +1,10 @@
 -- What is located somewhere stands there, and where a place is depends on the activations alone.
-use Rattle.std.proofs.Common.{◌≡◌, ℕ, pos, negsuc, Bool, true, false, ◌==◌, List, [], ◌∷◌, ◌++◌, length, Option, Some, None, refl, ap, sym, subst, ◌∙◌}
+use Rattle.std.proofs.Common.{◌≡◌, ℕ, pos, negsuc, Bool, true, false, ◌==◌, List, [], ◌∷◌, length, Option, Some, None, refl, ap, sym, subst, ◌∙◌}
 use Rattle.std.proofs.lemmas.Bool.Decides.{Decides-eqb}
-use Rattle.std.specs.Option.{option_map, option_map_or, option_and_then}
-use Rattle.cfg_graph.specs.declared.graph.Graph.{Graph}
-use Rattle.cfg_meaning.specs.Programs.{setting_of}
+use Rattle.std.specs.Option.{option_map_or, option_and_then}
 use Rattle.mir_machine.specs.Activations.{root_in}
 use Rattle.mir_machine.proofs.SameReach.{reach_is}
-use Rattle.mir_machine.specs.Standing.{with_activations, reach_of_found, reach_if_found, located_root_found, named_by_found, by_reference_found, into_all_found, through_found, into_element_found, into_field_found, follow_found, follow_from_found, along_found}
+use Rattle.mir_machine.specs.Standing.{reach_of_found, reach_if_found, located_root_found, named_by_found, by_reference_found, into_all_found, through_found, into_element_found, into_field_found, follow_found, follow_from_found, along_found}
 use Rattle.mir_ty.specs.declared.ty.TyId.{TyId}
 use Rattle.mir_ty.specs.ItemTable.{ItemTable}
 use Rattle.store_model.proofs.Values.Access.{value_at-append}

@@ -1,8 +1,8 @@
 -- Whether what is located somewhere is whole.
-use Rattle.std.proofs.Common.{◌≡◌, ℕ, Bool, true, false, List, [], ◌∷◌, Option, Some, None, slice_get, refl, ap, sym, subst, ◌∙◌}
+use Rattle.std.proofs.Common.{◌≡◌, ℕ, false, List, [], ◌∷◌, Some, None, slice_get, ap, sym, subst, ◌∙◌}
 use Rattle.std.specs.Option.{option_map, option_map_or}
 use Rattle.mir_machine.specs.Activations.{on_top_of, root_in}
-use Rattle.mir_machine.specs.Frames.{entry_of, cells_of, activation_of}
+use Rattle.mir_machine.specs.Frames.{entry_of, activation_of}
 use Rattle.mir_machine.specs.declared.frame.Entry.{Entry}
 use Rattle.mir_machine.proofs.Activations.{Frames, depth_lookup, root_is}
 use Rattle.mir_machine.proofs.Frames.{cell_by_entry}

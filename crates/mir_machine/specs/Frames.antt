@@ -1,5 +1,6 @@
 -- The locals of a body that runs, as the machine holds them.
-use Rattle.std.specs.Prelude.{ℕ, zero, suc, ◌==◌, List, [], ◌∷◌, map, Option, Some, None, option_map, option_and_then, slice_get, if◌then◌else◌}
+use Rattle.std.specs.Prelude.{ℕ, zero, suc, ◌==◌, List, [], ◌∷◌, map, Option, Some, None, option_map, option_and_then}
+use Rattle.std.specs.Prelude.{slice_get, if◌then◌else◌}
 use Rattle.std.specs.Option.{option_map_or}
 use Rattle.mir_machine.specs.declared.frame.Entry.{Entry}
 use Rattle.store_model.specs.declared.value.Value.{Value}
@@ -40,5 +41,6 @@ value_in key place entries = option_and_then (λ value. value_at place (datum_of
 -- what the locals hold after it was taken
 abbrev pub cells_without : ℕ → List At → List Entry → Cells
 cells_without key place entries =
-    option_map_or (λ value. with_cell key (replaced place Gone (datum_of value)) (cells_of entries)) (entry_of key entries)
+    option_map_or (λ value. with_cell key (replaced place Gone (datum_of value)) (cells_of entries))
+    (entry_of key entries)
     (cells_of entries)

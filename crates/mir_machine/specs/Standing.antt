@@ -1,5 +1,6 @@
 -- As what values are found, and where they stand, as the machine holds it.
-use Rattle.std.specs.Prelude.{ℕ, ◌==◌, ℤ, pos, Bool, true, false, List, [], ◌∷◌, Option, Some, None, option_map, option_and_then}
+use Rattle.std.specs.Prelude.{ℕ, ◌==◌, ℤ, pos, Bool, true, false, List, [], ◌∷◌, Option, Some, None, option_map}
+use Rattle.std.specs.Prelude.{option_and_then}
 use Rattle.std.specs.Borrow.{Bor}
 use Rattle.mir_machine.specs.declared.location.Located.{Located}
 use Rattle.mir_machine.specs.declared.location.Reached.{Reached}
@@ -10,7 +11,8 @@ use Rattle.mir_machine.specs.declared.types.Dynamic.{Dynamic}
 use Rattle.mir_ty.specs.declared.ty.TyId.{TyId}
 use Rattle.mir_ty.specs.ItemTable.{ItemTable, type_at}
 use Rattle.store_model.specs.Concrete.Location as location
-use Rattle.store_model.specs.Concrete.Location.{Setting, DynamicType, concrete_ty, is_of_type, into, located_at, on_reached}
+use Rattle.store_model.specs.Concrete.Location.{Setting, DynamicType, concrete_ty, is_of_type, into, located_at}
+use Rattle.store_model.specs.Concrete.Location.{on_reached}
 use Rattle.store_model.specs.declared.address.At.{At}
 use Rattle.store_model.specs.declared.address.At.TheVariants.{Part, Inside}
 use Rattle.store_model.specs.Places.Place.{Step, ToPart, ToField, ToContent, ToElement}
@@ -97,7 +99,8 @@ into_all_found items (step ∷ path) s = option_and_then (into_all_found items p
 module _ (setting : Setting) (w : State) (cells : Cells) where
   abbrev pub through_found : Datum → location.Located → location.Reached
   through_found (Address address) s =
-      by_reference_found setting.items (named_by_found (concrete_ty setting.items s.dynamic)) (located_at setting w address)
+      by_reference_found setting.items (named_by_found (concrete_ty setting.items s.dynamic))
+      (located_at setting w address)
   through_found (Box serial impl_no inside) s = reach_of_found (into setting.items Inside s)
   through_found value s = location.Nowhere
 

@@ -25,7 +25,6 @@ impl Model for Cell {
     ghost use Rattle.store_model.specs.declared.value.Value.{Value as Held};
     ghost use Rattle.store_model.specs.Values.Datum.{datum_of};
     ghost use Rattle.mir_machine.specs.Marks.{Marks};
-
     ghost use Rattle.store_model.specs.contracts.value.Value as held;
     ghost use Rattle.std.specs.Coded.{codes};
 

@@ -1,4 +1,5 @@
-ghost use Rattle.std.specs.Prelude.{◌≡◌, ℕ, suc, ◌<◌, ◌++◌, ◌∷◌, [], length, IfOk, OnOk, OnErr, MatchOption, Some, None, option_map, option_and_then, slice_get};
+ghost use Rattle.std.specs.Prelude.{◌≡◌, ℕ, suc, ◌<◌, ◌++◌, ◌∷◌, [], length, IfOk, OnOk, OnErr, MatchOption, Some};
+ghost use Rattle.std.specs.Prelude.{None, option_map, option_and_then, slice_get};
 ghost use Rattle.std.specs.Option.{option_copied};
 ghost use Rattle.mir_machine.specs.Frames.{place_in, place_of, entry_of, cells_of, value_in, cells_without};
 ghost use Rattle.store_model.specs.Concrete.State.{cell, with_cell};
@@ -134,11 +135,18 @@ impl Frame {
         Ok(())
     }
 
-    /// Puts a whole value at a place of a local, whatever stood there. Where there is no such place the value is let go.
-    pub fn put(&mut self, alloc: Global, key: u32, place: &[At], value: Value) -> Result<(), NoMemory>
+    /// Puts a whole value at a place of a local, whatever stood there. Where there is no such place it is let go.
+    pub fn put(
+        &mut self,
+        alloc: Global,
+        key: u32,
+        place: &[At],
+        value: Value,
+    ) -> Result<(), NoMemory>
         requires { IsWhole (datum_of value) }
         ensures body { self.new.0 ≡ self.old.0 }
-        ensures cells { OnOk result (cells_of self.new.1 ≡ with_cell key (replaced place.now (datum_of value) (cell key (cells_of self.old.1))) (cells_of self.old.1)) }
+        ensures cells { OnOk result (cells_of self.new.1 ≡ with_cell key (replaced place.now (datum_of value)
+            (cell key (cells_of self.old.1))) (cells_of self.old.1)) }
     {
         match place_of_local(&self.index, key) {
             Some(number) => {
@@ -152,8 +160,8 @@ impl Frame {
         }
     }
 
-    /// Takes what stands at a place of a local, and leaves it gone. `None` comes exactly where there is no such place or
-    /// nothing was stored into the local, and then nothing changes. Memory is for the mark.
+    /// Takes what stands at a place of a local, and leaves it gone. `None` comes exactly where there is no such place,
+    /// or nothing was stored into the local; then nothing changes. Memory is for the mark.
     pub fn take(&mut self, alloc: Global, key: u32, place: &[At]) -> Result<Option<Value>, NoMemory>
         ensures body { self.new.0 ≡ self.old.0 }
         ensures taken { IfOk result (λ taken. option_map datum_of taken ≡ value_in key place.now self.old.1) }

@@ -11,7 +11,8 @@ mod world;
 
 pub use cell::Cell;
 pub use frame::{Entry, Frame};
-pub use location::{Located, Reached};
+pub use location::{Located, Reached, located_at, reach};
 pub use store::Store;
 pub use types::Dynamic;
+pub use whole::whole_at;
 pub use world::World;

@@ -1,8 +1,12 @@
-ghost use Rattle.std.specs.Prelude.{◌≡◌, ℕ, pos, ◌≤◌, true, [], IfOk, IfSome, IfNone, Some, None, option_map, option_copied};
+ghost use Rattle.std.specs.Prelude.{◌≡◌, ℕ, pos, ◌≤◌, true, [], IfOk, IfSome, IfNone, Some, None, option_map};
+ghost use Rattle.std.specs.Prelude.{option_copied};
 ghost use Rattle.cfg_graph.specs.Places.{named, named_step};
 ghost use Rattle.cfg_meaning.specs.Programs.{setting_of};
 ghost use Rattle.mir_machine.specs.Frames.{cells_of};
-ghost use Rattle.mir_machine.specs.Standing.{standing, dynamic_of, located_of, reached_of, with_activations, located_root_found, reach_of_found, named_by_found, by_reference_found, through_found, into_field_found, into_element_found, count_of_parts, follow_from_found, is_nothing, number_of};
+ghost use Rattle.mir_machine.specs.Standing.{standing, dynamic_of, located_of, reached_of, with_activations};
+ghost use Rattle.mir_machine.specs.Standing.{located_root_found, reach_of_found, named_by_found, by_reference_found};
+ghost use Rattle.mir_machine.specs.Standing.{through_found, into_field_found, into_element_found, count_of_parts};
+ghost use Rattle.mir_machine.specs.Standing.{follow_from_found, is_nothing, number_of};
 ghost use Rattle.mir_machine.specs.Activations.{activations_of};
 ghost use Rattle.mir_ty.specs.ItemTable.{type_at};
 ghost use Rattle.store_model.specs.Concrete.Location as location;
@@ -82,8 +86,15 @@ fn local_value(frame: &Frame, key: u32) -> Option<&Value>
 }
 
 /// What a local of an activation holds.
-fn root<'a>(alloc: Global, graph: &Graph, frame: &'a Frame, depth: u32, key: u32) -> Option<Located<'a>>
-    ensures { option_map located_of result ≡ located_root_found depth key (cells_of frame.now.1) ((setting_of true graph.now).local_ty frame.now.0 key) }
+fn root<'a>(
+    alloc: Global,
+    graph: &Graph,
+    frame: &'a Frame,
+    depth: u32,
+    key: u32,
+) -> Option<Located<'a>>
+    ensures { option_map located_of result ≡ located_root_found depth key (cells_of frame.now.1)
+        ((setting_of true graph.now).local_ty frame.now.0 key) }
 {
     match local_ty(graph, frame.body(), key) {
         Some(id) => Some(Located {
@@ -100,8 +111,14 @@ fn root<'a>(alloc: Global, graph: &Graph, frame: &'a Frame, depth: u32, key: u32
 }
 
 /// What stands at an address, if it has not lost its place.
-pub fn located_at<'a>(alloc: Global, graph: &Graph, store: &'a Store, address: &Addr) -> Result<Option<Located<'a>>, NoMemory>
-    ensures { IfOk result (λ found. option_map located_of found ≡ location.located_at (setting_of true graph.now) (with_activations (activations_of store.now)) address.now) }
+pub fn located_at<'a>(
+    alloc: Global,
+    graph: &Graph,
+    store: &'a Store,
+    address: &Addr,
+) -> Result<Option<Located<'a>>, NoMemory>
+    ensures { IfOk result (λ found. option_map located_of found ≡
+        location.located_at (setting_of true graph.now) (with_activations (activations_of store.now)) address.now) }
 {
     let Some(frame) = store.frame(address.depth as usize) else {
         return Ok(None);
@@ -143,10 +160,11 @@ pub fn is_of_type(items: &Items, id: TyId, dynamic: Dynamic) -> bool
 {
     match dynamic {
         Dynamic::OfType(found) => id.0 == found.0,
-        Dynamic::OfObject(found, impl_no) => id.0 == found.0 || match adt_of_impl(items, impl_no) {
-            Some(adt) => is_adt(items, adt, id),
-            None => false,
-        },
+        Dynamic::OfObject(found, impl_no) => id.0 == found.0
+            || match adt_of_impl(items, impl_no) {
+                Some(adt) => is_adt(items, adt, id),
+                None => false,
+            },
     }
 }
 
@@ -184,28 +202,46 @@ fn by_reference<'a>(items: &Items, named: Option<TyId>, found: Option<Located<'a
 }
 
 /// The content of a box, or what a reference names.
-fn through<'a>(alloc: Global, graph: &Graph, store: &'a Store, s: Located<'a>) -> Result<Reached<'a>, NoMemory>
-    ensures { IfOk result (λ found. reached_of found ≡ through_found (setting_of true graph.now) (with_activations (activations_of store.now)) [] (standing s.entry.value) (located_of s.entry)) }
+fn through<'a>(
+    alloc: Global,
+    graph: &Graph,
+    store: &'a Store,
+    s: Located<'a>,
+) -> Result<Reached<'a>, NoMemory>
+    ensures { IfOk result (λ found. reached_of found ≡ through_found (setting_of true graph.now)
+        (with_activations (activations_of store.now)) [] (standing s.entry.value) (located_of s.entry)) }
 {
     match s.value {
         Some(Value::Address(address)) => {
             let named = named_by(&graph.items, s.dynamic);
-            Ok(by_reference(&graph.items, named, located_at(alloc, graph, store, address)?))
+            Ok(by_reference(
+                &graph.items,
+                named,
+                located_at(alloc, graph, store, address)?,
+            ))
         }
         Some(Value::Boxed { .. }) => Ok(reach_of(into(&graph.items, At::Inside, s)?)),
         _ => Ok(Reached::Nowhere),
     }
 }
 
-
 /// A part of a variant, where it is the one that stands there.
-fn into_field<'a>(items: &Items, variant: u32, part: u32, s: Located<'a>) -> Result<Reached<'a>, NoMemory>
-    ensures { IfOk result (λ found. reached_of found ≡ into_field_found items.now variant part (standing s.entry.value) (located_of s.entry)) }
+fn into_field<'a>(
+    items: &Items,
+    variant: u32,
+    part: u32,
+    s: Located<'a>,
+) -> Result<Reached<'a>, NoMemory>
+    ensures { IfOk result (λ found. reached_of found ≡ into_field_found items.now variant part (standing
+        s.entry.value) (located_of s.entry)) }
 {
     match s.value {
-        Some(Value::Parts {
-            variant: active, ..
-        }) if *active == variant => Ok(reach_of(into(items, At::Part(part), s)?)),
+        Some(
+            Value::Parts {
+                variant: active,
+                ..
+            },
+        ) if *active == variant => Ok(reach_of(into(items, At::Part(part), s)?)),
         _ => Ok(Reached::Nowhere),
     }
 }
@@ -254,8 +290,13 @@ fn number_in(value: Option<&Value>) -> Option<i128>
 }
 
 /// The element of an array under a number.
-fn into_element<'a>(items: &Items, index: Option<&Value>, s: Located<'a>) -> Result<Reached<'a>, NoMemory>
-    ensures { IfOk result (λ found. reached_of found ≡ into_element_found items.now (standing index.entry) (located_of s.entry)) }
+fn into_element<'a>(
+    items: &Items,
+    index: Option<&Value>,
+    s: Located<'a>,
+) -> Result<Reached<'a>, NoMemory>
+    ensures { IfOk result (λ found. reached_of found ≡ into_element_found items.now (standing index.entry)
+        (located_of s.entry)) }
 {
     let Some(number) = number_in(index) else {
         return Ok(Reached::Nowhere);
@@ -267,8 +308,17 @@ fn into_element<'a>(items: &Items, index: Option<&Value>, s: Located<'a>) -> Res
 }
 
 /// Where a step leads from what stands somewhere.
-fn follow<'a>(alloc: Global, graph: &Graph, store: &'a Store, frame: &Frame, step: Step, s: Located<'a>) -> Result<Reached<'a>, NoMemory>
-    ensures { IfOk result (λ found. reached_of found ≡ follow_from_found (setting_of true graph.now) (with_activations (activations_of store.now)) (cells_of frame.now.1) (named_step step) (standing s.entry.value) (located_of s.entry)) }
+fn follow<'a>(
+    alloc: Global,
+    graph: &Graph,
+    store: &'a Store,
+    frame: &Frame,
+    step: Step,
+    s: Located<'a>,
+) -> Result<Reached<'a>, NoMemory>
+    ensures { IfOk result (λ found. reached_of found ≡ follow_from_found (setting_of true graph.now)
+        (with_activations (activations_of store.now)) (cells_of frame.now.1) (named_step step)
+        (standing s.entry.value) (located_of s.entry)) }
 {
     if is_gone(&s) {
         return Ok(Reached::CutOff);
@@ -292,8 +342,14 @@ fn is_gone(s: &Located<'_>) -> bool
 }
 
 /// Where a place of the youngest activation is.
-pub fn reach<'a>(alloc: Global, graph: &Graph, store: &'a Store, place: &Place) -> Result<Reached<'a>, NoMemory>
-    ensures { IfOk result (λ found. reached_of found ≡ location.reach (setting_of true graph.now) (with_activations (activations_of store.now)) (named place.now)) }
+pub fn reach<'a>(
+    alloc: Global,
+    graph: &Graph,
+    store: &'a Store,
+    place: &Place,
+) -> Result<Reached<'a>, NoMemory>
+    ensures { IfOk result (λ found. reached_of found ≡ location.reach (setting_of true graph.now)
+        (with_activations (activations_of store.now)) (named place.now)) }
 {
     let Some(depth) = store.len().checked_sub(1) else {
         return Ok(Reached::Nowhere);

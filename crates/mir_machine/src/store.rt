@@ -1,4 +1,5 @@
-ghost use Rattle.std.specs.Prelude.{◌≡◌, ◌≢◌, ℕ, [], ◌∷◌, length, map, All, IfOk, OnOk, MatchOption, Some, None, option_map, slice_get};
+ghost use Rattle.std.specs.Prelude.{◌≡◌, ◌≢◌, ℕ, [], ◌∷◌, length, map, All, IfOk, OnOk, MatchOption, Some, None};
+ghost use Rattle.std.specs.Prelude.{option_map, slice_get};
 ghost use Rattle.std.specs.Option.{option_copied};
 ghost use Rattle.cfg_meaning.specs.Programs.{arguments_from};
 ghost use Rattle.mir_machine.specs.Activations.{activations_of, root_in};
@@ -25,7 +26,11 @@ pub struct Store {
 /// The locals of a body that is entered: the arguments are those from 1 on.
 fn frame_with(alloc: Global, body: u32, args: List<Value>) -> Result<Frame, NoMemory>
     requires { All (λ arg. IsWhole (datum_of arg)) args }
-    ensures { IfOk result (λ frame. activation_of frame ≡ record { body = body; cells = arguments_from 1 (map datum_of args) }) }
+    ensures { IfOk result (λ frame. activation_of frame ≡ record {
+      body = body;
+      cells = arguments_from 1 (map
+          datum_of args);
+    }) }
 {
     let mut frame = Frame::new(alloc, body);
     let mut key: u32 = 0;
@@ -63,7 +68,11 @@ impl Store {
     /// A body is entered with whole arguments, which become its locals from 1 on.
     pub fn enter(&mut self, alloc: Global, body: u32, args: List<Value>) -> Result<(), NoMemory>
         requires { All (λ arg. IsWhole (datum_of arg)) args }
-        ensures { OnOk result (activations_of self.new ≡ (record { body = body; cells = arguments_from 1 (map datum_of args) }) ∷ activations_of self.old) }
+        ensures { OnOk result (activations_of self.new ≡ (record {
+          body = body;
+          cells = arguments_from 1 (map
+              datum_of args);
+        }) ∷ activations_of self.old) }
     {
         self.frames.push(frame_with(alloc, body, args)?)
     }
@@ -78,10 +87,18 @@ impl Store {
 
     /// Puts a whole value at a place of a local of the activation of a depth, whatever stood there. Where there is no
     /// such activation nothing changes.
-    pub fn put(&mut self, alloc: Global, depth: usize, key: u32, place: &[At], value: Value) -> Result<(), NoMemory>
+    pub fn put(
+        &mut self,
+        alloc: Global,
+        depth: usize,
+        key: u32,
+        place: &[At],
+        value: Value,
+    ) -> Result<(), NoMemory>
         requires { IsWhole (datum_of value) }
         ensures { OnOk result (activations_of self.new ≡
-            with_cell_at depth key (replaced place.now (datum_of value) (root_in depth key (activations_of self.old))) (activations_of self.old)) }
+            with_cell_at depth key (replaced place.now (datum_of value) (root_in depth key (activations_of self.old)))
+            (activations_of self.old)) }
     {
         if depth < self.frames.len() {
             return self.frames.element_mut(depth).put(alloc, key, place, value);
@@ -92,11 +109,21 @@ impl Store {
     /// Takes what stands at a place of a local of the activation of a depth, and leaves it gone. `None` comes exactly
     /// where there is no such place or nothing was stored into the local, and then nothing changes. Memory is for the
     /// mark.
-    pub fn take(&mut self, alloc: Global, depth: usize, key: u32, place: &[At]) -> Result<Option<Value>, NoMemory>
-        ensures taken { (stood : Datum) → value_at place.now (root_in depth key (activations_of self.old)) ≡ Some stood → stood ≢ Gone →
+    pub fn take(
+        &mut self,
+        alloc: Global,
+        depth: usize,
+        key: u32,
+        place: &[At],
+    ) -> Result<Option<Value>, NoMemory>
+        ensures taken { (stood : Datum) → value_at place.now (root_in depth key (activations_of self.old)) ≡
+            Some stood → stood ≢ Gone →
             IfOk result (λ taken. option_map datum_of taken ≡ Some stood) }
-        ensures after { (stood : Datum) → value_at place.now (root_in depth key (activations_of self.old)) ≡ Some stood → stood ≢ Gone →
-            OnOk result (activations_of self.new ≡ with_cell_at depth key (replaced place.now Gone (root_in depth key (activations_of self.old))) (activations_of self.old)) }
+        ensures after { (stood : Datum) → value_at place.now (root_in depth key (activations_of self.old)) ≡
+            Some stood → stood ≢ Gone →
+            OnOk result (activations_of self.new ≡
+            with_cell_at depth key (replaced place.now Gone (root_in depth key (activations_of self.old)))
+            (activations_of self.old)) }
     {
         if depth < self.frames.len() {
             return self.frames.element_mut(depth).take(alloc, key, place);

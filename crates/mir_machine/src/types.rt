@@ -5,7 +5,8 @@ ghost use Rattle.mir_ty.specs.Parts.{parts_of, fields_of};
 ghost use Rattle.mir_ty.specs.ItemTable.{type_at};
 ghost use Rattle.store_model.specs.Places.TypeForms.{box_content};
 ghost use Rattle.mir_ty.specs.declared.ty.Ty.{Ty as a_type};
-ghost use Rattle.store_model.specs.Concrete.Location.{adt_of_impl as adt_by_impl, type_of_part as type_by_step, concrete_ty};
+ghost use Rattle.store_model.specs.Concrete.Location.{adt_of_impl as adt_by_impl, type_of_part as type_by_step};
+ghost use Rattle.store_model.specs.Concrete.Location.{concrete_ty};
 ghost use Rattle.store_model.specs.Values.Datum.{datum_of};
 
 use cfg_graph::Graph;
@@ -59,7 +60,8 @@ fn field_of_adt(items: &Items, adt: u32, variant: u32, part: u32) -> Option<TyId
 
 /// The type of a numbered part of what is found so.
 fn field_ty(items: &Items, dynamic: Dynamic, variant: u32, part: u32) -> Option<TyId>
-    ensures { result ≡ option_and_then (λ ty. slice_get (parts_of items.now ty variant) part) (concrete_ty items.now (dynamic_of dynamic)) }
+    ensures { result ≡ option_and_then (λ ty. slice_get (parts_of items.now ty variant) part)
+        (concrete_ty items.now (dynamic_of dynamic)) }
 {
     match dynamic {
         Dynamic::OfType(id) => items.field_ty(id, variant, part),
@@ -99,7 +101,9 @@ pub fn type_of_part(items: &Items, step: At, value: &Value, dynamic: Dynamic) ->
     ensures { option_map dynamic_of result ≡ type_by_step items.now step (datum_of value.now) (dynamic_of dynamic) }
 {
     match (step, value) {
-        (At::Part(part), Value::Parts { variant, .. }) => match field_ty(items, dynamic, *variant, part) {
+        (At::Part(part), Value::Parts { variant, .. }) => match field_ty(
+            items, dynamic, *variant, part,
+        ) {
             Some(id) => Some(Dynamic::OfType(id)),
             None => None,
         },

@@ -15,7 +15,8 @@ use std::alloc::Global;
 
 /// Whether what is located somewhere is whole, by what is known of its local.
 pub fn is_whole(store: &Store, s: &Located<'_>) -> bool
-    requires { value_at s.now.address.path (root_in s.now.address.depth s.now.address.key.0 (activations_of store.now)) ≡ Some (standing s.now.value) }
+    requires { value_at s.now.address.path (root_in s.now.address.depth s.now.address.key.0 (activations_of
+        store.now)) ≡ Some (standing s.now.value) }
     ensures { result ≡ is_whole_value (standing s.now.value) }
 {
     let Some(frame) = store.frame(s.address.depth as usize) else {
@@ -28,8 +29,15 @@ pub fn is_whole(store: &Store, s: &Located<'_>) -> bool
 }
 
 /// What stands at a place whose value is used: it has to be whole.
-pub fn whole_at<'a>(alloc: Global, graph: &Graph, store: &'a Store, place: &Place) -> Result<Option<Located<'a>>, NoMemory>
-    ensures { IfOk result (λ found. option_map located_of found ≡ stands_whole_at (setting_of true graph.now) (with_activations (activations_of store.now)) (site_of 0 place.now)) }
+pub fn whole_at<'a>(
+    alloc: Global,
+    graph: &Graph,
+    store: &'a Store,
+    place: &Place,
+) -> Result<Option<Located<'a>>, NoMemory>
+    ensures { IfOk result (λ found. option_map located_of found ≡
+        stands_whole_at (setting_of true graph.now) (with_activations (activations_of store.now))
+        (site_of 0 place.now)) }
 {
     let Reached::Reaches(s) = reach(alloc, graph, store, place)? else {
         return Ok(None);

@@ -1,6 +1,6 @@
-use Rattle.std.proofs.Common.{◌≡◌, IfOk, sym, subst, ◌∙◌}
-use Rattle.store_model.specs.Values.Datum.{datum_of, Gone}
-use Rattle.mir_machine.proofs.Marks.{put_in_gone, put_whole}
+use Rattle.std.proofs.Common.{◌≡◌, IfOk, sym, subst}
+use Rattle.store_model.specs.Values.Datum.{datum_of}
+use Rattle.mir_machine.proofs.Marks.{put_in_gone}
 use Rattle.mir_machine.proofs.frame.new_cell.Goals as goal
 
 pub returns : goal.returns

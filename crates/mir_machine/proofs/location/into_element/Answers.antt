@@ -1,6 +1,6 @@
-use Rattle.std.proofs.Common.{◌≡◌, ℕ, ◌≤◌, Some, None, pos, ap, sym, subst, arith, rules}
+use Rattle.std.proofs.Common.{◌≡◌, Some, arith, rules}
 use Rattle.std.proofs.lemmas.Grind.{common_steps}
-use Rattle.mir_machine.specs.Standing.{standing, number_of, count_of_parts, located_of}
+use Rattle.mir_machine.specs.Standing.{standing, number_of, located_of}
 use Rattle.mir_machine.proofs.Locations.{at_none, no_element}
 use Rattle.mir_machine.proofs.location.into_element.Goals as goal
 

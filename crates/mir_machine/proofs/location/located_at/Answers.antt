@@ -1,9 +1,7 @@
 use Rattle.std.proofs.Common.{◌≡◌, Some, None, ap, sym, ◌∙◌, arith}
 use Rattle.std.proofs.lemmas.Grind.{common_steps}
 use Rattle.std.specs.Prelude.{slice_get, option_map, option_and_then}
-use Rattle.cfg_meaning.specs.Programs.{setting_of}
-use Rattle.mir_machine.specs.Frames.{cells_of}
-use Rattle.mir_machine.specs.Standing.{located_of, located_root_found, into_all_found}
+use Rattle.mir_machine.specs.Standing.{located_of, into_all_found}
 use Rattle.mir_machine.proofs.Locations.{no_frame, by_frame}
 use Rattle.mir_machine.proofs.location.located_at.Goals as goal
 

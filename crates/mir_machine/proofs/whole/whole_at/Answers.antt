@@ -1,5 +1,4 @@
-use Rattle.std.proofs.Common.{◌≡◌, true, ap, sym, ◌∙◌, arith}
-use Rattle.std.proofs.lemmas.Grind.{common_steps}
+use Rattle.std.proofs.Common.{◌≡◌, true, ap, sym, ◌∙◌}
 use Rattle.cfg_graph.specs.Places.{named}
 use Rattle.cfg_meaning.specs.Programs.{setting_of}
 use Rattle.mir_machine.specs.Activations.{activations_of}

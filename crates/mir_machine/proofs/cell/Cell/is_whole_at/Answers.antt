@@ -1,4 +1,4 @@
-use Rattle.std.proofs.Common.{ap, sym, ◌∙◌, subst}
+use Rattle.std.proofs.Common.{ap, ◌∙◌}
 use Rattle.std.specs.Prelude.{not}
 use Rattle.store_model.specs.Values.Datum.{datum_of}
 use Rattle.store_model.specs.Values.Access.{value_at}

@@ -1,7 +1,7 @@
-use Rattle.std.proofs.Common.{◌≡◌, ◌++◌, ◌∷◌, [], Some, None, sym, ap, ◌∙◌, arith}
+use Rattle.std.proofs.Common.{◌≡◌, ◌++◌, ◌∷◌, [], None, sym, arith}
 use Rattle.std.specs.Option.{option_copied}
 use Rattle.std.proofs.lemmas.Grind.{common_steps}
-use Rattle.store_model.specs.Values.Datum.{Datum, datum_of}
+use Rattle.store_model.specs.Values.Datum.{datum_of}
 use Rattle.store_model.specs.Values.Access.{value_at}
 use Rattle.store_model.proofs.Values.Access.{replaced-nowhere}
 use Rattle.mir_machine.proofs.Marks.{stands_or_not, marks_taken}

@@ -1,4 +1,4 @@
-use Rattle.std.proofs.Common.{◌≡◌, List, [], ◌∷◌, arith}
+use Rattle.std.proofs.Common.{arith}
 use Rattle.std.proofs.lemmas.Grind.{common_steps}
 use Rattle.mir_machine.proofs.Marks.{all_gone}
 use Rattle.mir_machine.proofs.cell.Cell.vacant.Goals as goal

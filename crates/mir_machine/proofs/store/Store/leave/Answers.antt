@@ -1,6 +1,3 @@
-use Rattle.std.proofs.Common.{◌≡◌, ap, [], ◌∙◌, Option, Some, None, MatchOption, ◌++◌, ◌∷◌, List, ℕ}
-use Rattle.mir_machine.specs.Activations.{activations_of, on_top_of}
-use Rattle.mir_machine.specs.Frames.{activation_of}
 use Rattle.mir_machine.proofs.Activations.{popped}
 use Rattle.mir_machine.proofs.store.Store.leave.Goals as goal
 

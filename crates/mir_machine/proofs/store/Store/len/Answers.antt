@@ -1,5 +1,4 @@
-use Rattle.std.proofs.Common.{◌≡◌, ℕ, length, [], arith, sym, ◌∙◌}
-use Rattle.mir_machine.specs.Activations.{activations_of}
+use Rattle.std.proofs.Common.{[], arith}
 use Rattle.mir_machine.proofs.Activations.{depth_of}
 use Rattle.mir_machine.proofs.store.Store.len.Goals as goal
 

@@ -1,4 +1,4 @@
-use Rattle.std.proofs.Common.{◌≡◌, arith}
+use Rattle.std.proofs.Common.{arith}
 use Rattle.std.proofs.lemmas.Result.{on_ok_weaker}
 use Rattle.store_model.specs.Values.Access.{replaced}
 use Rattle.store_model.specs.Values.Datum.{datum_of}

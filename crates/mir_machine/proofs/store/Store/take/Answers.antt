@@ -1,4 +1,4 @@
-use Rattle.std.proofs.Common.{◌≡◌, Some, ◌∙◌, sym, arith}
+use Rattle.std.proofs.Common.{◌∙◌, arith}
 use Rattle.std.proofs.lemmas.Result.{on_ok_weaker, IfOk-weaker}
 use Rattle.mir_machine.proofs.Activations.{taken_value, taken_cells, stands_in_a_frame}
 use Rattle.mir_machine.proofs.store.Store.take.Goals as goal

@@ -1,11 +1,11 @@
-use Rattle.std.proofs.Common.{◌≡◌, true, Some, None, ap, sym, ◌∙◌, arith}
+use Rattle.std.proofs.Common.{◌≡◌, true, Some, arith}
 use Rattle.std.proofs.lemmas.Grind.{common_steps}
 use Rattle.cfg_meaning.specs.Actions.{site_of}
 use Rattle.cfg_meaning.specs.Programs.{setting_of}
 use Rattle.mir_machine.specs.Activations.{activations_of}
 use Rattle.mir_machine.specs.Standing.{located_of, with_activations}
 use Rattle.mir_machine.specs.Worlds.{state_of}
-use Rattle.mir_machine.proofs.Operands.{copied_none, copied_some}
+use Rattle.mir_machine.proofs.Operands.{copied_some}
 use Rattle.store_model.specs.Concrete.Effects.{whole_at}
 use Rattle.store_model.specs.Values.Datum.{datum_of}
 use Rattle.mir_machine.proofs.world.World.copied.Goals as goal

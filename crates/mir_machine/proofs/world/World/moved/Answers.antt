@@ -1,4 +1,4 @@
-use Rattle.std.proofs.Common.{◌≡◌, ◌≢◌, true, [], Some, None, ap, sym, ◌∙◌, arith}
+use Rattle.std.proofs.Common.{◌≡◌, ◌≢◌, true, [], Some, ap, sym, ◌∙◌, arith}
 use Rattle.std.proofs.lemmas.Grind.{common_steps}
 use Rattle.cfg_meaning.specs.Actions.{site_of}
 use Rattle.cfg_meaning.specs.Programs.{setting_of}
@@ -9,11 +9,11 @@ use Rattle.mir_machine.proofs.Operands.{if_ok_both, taken_whole, place_whole, wh
 use Rattle.store_model.specs.Concrete.Effects.{whole_at}
 use Rattle.store_model.specs.Values.Access.{value_at, replaced}
 use Rattle.store_model.specs.Concrete.State.{with_cell_at}
-use Rattle.store_model.specs.Values.Datum.{Datum, Gone, datum_of}
+use Rattle.store_model.specs.Values.Datum.{Gone}
 use Rattle.mir_machine.proofs.world.World.moved.Goals as goal
 
-pub returns : goal.returns
-returns c =
+pub returns-clause-taken : goal.returns-clause-taken
+returns-clause-taken c =
     let world = c.args.self.now in
     let s = located_of c.in-Some.s in
     let found : whole_at (setting_of true c.args.self.now.graph.now) (with_activations (activations_of c.args.self.now.store)) (site_of 0 c.args.place.now) ≡ Some (located_of c.in-Some.s) = grind (arith, common_steps) in
