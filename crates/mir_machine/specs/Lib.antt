@@ -1,0 +1,5 @@
+pub mod Activations
+pub mod Frames
+pub mod Marks
+pub mod Standing
+pub mod Worlds
