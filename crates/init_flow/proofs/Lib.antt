@@ -1,3 +1,4 @@
 pub mod Rows
 pub mod Solver
 pub mod Answer
+pub mod WayLemmas

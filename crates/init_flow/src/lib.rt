@@ -1,2 +1,12 @@
-//! Forward dataflow over rows of bits (the rustc development guide, "Dataflow Framework").
+//! Forward dataflow over rows of bits, to a fixed point (the rustc development guide, "Dataflow Framework"): what an
+//! analysis is, and a solver that gives of each block exactly the bits that some path of its body carries there.
 #![tactic(auto)]
+
+
+
+
+mod ways;
+
+
+
+pub use ways::{place_ty, target};
