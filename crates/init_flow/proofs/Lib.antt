@@ -2,3 +2,5 @@ pub mod Rows
 pub mod Solver
 pub mod Answer
 pub mod WayLemmas
+pub mod HeapLemmas
+pub mod Turn

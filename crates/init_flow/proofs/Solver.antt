@@ -7,7 +7,7 @@ use Rattle.std.proofs.Math.ListN.{get_or-eq_default}
 use Rattle.std.proofs.lemmas.List.Sums.{sum_by-set}
 use Rattle.bit_rows.specs.Words.{union}
 use Rattle.init_flow.specs.Carried.{Row}
-use Rattle.init_flow.specs.WorkList.{Problem, State, row_at, is_reached, waits, way_at, Onward, here, there, Made, one, both, Law, Good, Started, Grows, arrived}
+use Rattle.init_flow.specs.WorkList.{Problem, State, row_at, is_reached, waits, way_at, Onward, here, there, Made, one, both, Law, Good, Started, Grows, arrived, untouched}
 use Rattle.init_flow.proofs.Rows.{union-length, union-again, union-stays, union-none, in_between, union-bit, is_off, off, fewer, fewer-than}
 
 -- what can still come to the rows: bits that are off, and blocks that were not reached
@@ -31,7 +31,7 @@ module _ (f : Problem) where
     made-width _ _ (both n a b p q) =
         union-length a b (made-width n a p ∙ sym (made-width n b q)) ∙ made-width n a p
 
-    passed : (n k m : ℕ) (row : Row) → f.target n k ≡ Some m → k < 2 → Made f n row → Made f m (f.pass n k row)
+    pub passed : (n k m : ℕ) (row : Row) → f.target n k ≡ Some m → k < 2 → Made f n row → Made f m (f.pass n k row)
     passed _ k m _ leads small (one n row o) = one m (f.pass n k row) (further 0 f.start n row k m o leads small)
     passed _ k m _ leads small (both n a b p q) =
         subst (Made f m) (sym (law.distributes n k a b (made-width n a p) (made-width n b q)))
@@ -133,6 +133,11 @@ module _ (f : Problem) (law : Law f) where
               (rw (row_there) (union-stays row other (row_at s m) (long ∙ sym (good.widths m here)) (l ∙ sym (good.widths m here)) (subst (λ (z : ℕ). union other (row_at s z) ≡ row_at s z) e is)))
         | inr o ↦ rw (row_else n o) is ]
 
+    -- the row is in that of the block, which was reached
+    pub arrived-there : (is_reached (arrived s m row) m ≡ true) × (union row (row_at (arrived s m row) m) ≡ row_at (arrived s m row) m)
+    unfolding new
+    arrived-there = (reached_there, rw (row_there) (union-again row (row_at s m) (long ∙ sym (good.widths m here))))
+
     made_new : Made f m new
     unfolding new
     made_new = by (is_reached s m) refl
@@ -157,6 +162,7 @@ module _ (f : Problem) (law : Law f) where
             made = made_now;
             none = none_now;
             flows = flows_now;
+            within = within_now;
             held = held_now;
             known = known_now;
           }
@@ -196,6 +202,9 @@ module _ (f : Problem) (law : Law f) where
                       let was = sym (waits_else (way_at n k) (λ e. o (omega (e, small, arith))) (λ e. o (omega (e, small, arith)))) ∙ w in
                       let flow = good.flows n k c h l small leads (sym (reached_else n o) ∙ r) d was in
                       (still c flow.0, grown c (f.pass n k (row_at s n)) l (law.keeps n k (row_at s n) (good.widths n h)) flow.1)
+
+          within_now : (i : ℕ) → Contains next i → i < f.blocks * 2
+          within_now i c = elim (grows.only i c) [ inl old ↦ good.within i old | inr new ↦ elim new [ inl e ↦ omega (e, here, arith) | inr e ↦ omega (e, here, arith) ] ]
 
           held_now : (i : ℕ) → slice_index_or waiting i false ≡ true → Contains next i
           held_now i w =
@@ -247,6 +256,7 @@ module _ (f : Problem) (law : Law f) where
         made = good.made;
         none = good.none;
         flows = λ n k m h l small leads r other w. good.flows n k m h l small leads r (λ e. absurd (omega (e, h, small, arith))) (sym (get_or-set_other s.waiting i (way_at n k) false false other) ∙ w);
+        within = λ c h. good.within c (only c h);
         held = λ c w. elim (cases_eq c i)
           [ inl e ↦ absurd (false≢true (sym (get_or-set_same s.waiting i false false (omega (within, good.waiting_are, arith))) ∙ subst (λ (z : ℕ). slice_index_or (slice_set s.waiting i false) z false ≡ true) e w))
           | inr o ↦ elim (kept c (good.held c (sym (get_or-set_other s.waiting i c false false o) ∙ w))) [ inl e ↦ absurd (o e) | inr c ↦ c ] ];
@@ -266,15 +276,13 @@ module _ (f : Problem) (law : Law f) where
         made = good.made;
         none = good.none;
         flows = λ n k m h l small leads r other w. elim (cases_eq (way_at n k) but) [ inl e ↦ did n k m h l small leads r e | inr o ↦ good.flows n k m h l small leads r o w ];
+        within = good.within;
         held = good.held;
         known = good.known;
       }
 
   -- Before anything arrived.
-  abbrev pub untouched : State
-  untouched = record { rows = replicate f.blocks (replicate f.width false); reached = replicate f.blocks false; waiting = replicate (f.blocks * 2) false }
-
-  pub good-untouched : Is untouched [] (f.blocks * 2)
+  pub good-untouched : Is (untouched f.width f.blocks) [] (f.blocks * 2)
   good-untouched =
       record {
         rows_are = length-replicate f.blocks (replicate f.width false);
@@ -284,6 +292,7 @@ module _ (f : Problem) (law : Law f) where
         made = λ n h r. absurd (false≢true (sym (get_or-replicate f.blocks n false false h) ∙ r));
         none = λ n h r. get_or-replicate f.blocks n (replicate f.width false) [] h;
         flows = λ n k m h l small leads r other w. absurd (false≢true (sym (get_or-replicate f.blocks n false false h) ∙ r));
+        within = λ i c. absurd (omega (c.1, arith));
         held = λ i w. absurd (false≢true (sym (never i) ∙ w));
         known = λ n k small c. absurd (omega (c.1, arith));
       }

@@ -1,7 +1,9 @@
 -- The work list of a solver: the ways out of blocks whose row changed. What holds of it from turn to turn; no public
 -- contract speaks of it.
-use Rattle.std.specs.Prelude.{◌≡◌, ◌≢◌, ◌⊎◌, ℕ, ◌+◌, ◌*◌, ◌<◌, ◌≤◌, Bool, true, false, List, [], length, replicate, Option, Some, slice_index_or, slice_set, Contains}
+use Rattle.std.specs.Prelude.{◌≡◌, ◌≢◌, ◌⊎◌, ℕ, ◌+◌, ◌*◌, ◌<◌, ◌≤◌, Bool, true, false, List, [], map, length, replicate, Option, Some, slice_index_or, slice_set, Contains}
 use Rattle.bit_rows.specs.Words.{union}
+use Rattle.std.specs.BinaryHeap.{heap_items}
+use Rattle.init_flow.specs.declared.flow.Flow.{Flow}
 use Rattle.init_flow.specs.Carried.{Row}
 
 -- what a solver is to solve: how many blocks there are, how many bits a row has, the row that paths start with, where the
@@ -32,6 +34,39 @@ waits s i = slice_index_or s.waiting i false
 abbrev pub way_at : (block way : ℕ) → ℕ
 way_at n k = n * 2 + k
 
+-- which way, as a number
+abbrev pub bit : Bool → ℕ
+bit true = 1
+bit false = 0
+
+abbrev pub state_of : Flow → State
+state_of flow = record { rows = flow.rows; reached = flow.reached; waiting = flow.waiting }
+
+-- the ways in the heap
+abbrev pub ways_in : Flow → List ℕ
+ways_in flow = map (λ entry. way_at entry.1 (bit entry.2)) (heap_items flow.heap)
+
+-- before a block was reached
+abbrev pub untouched : (width blocks : ℕ) → State
+untouched width blocks =
+    record { rows = replicate blocks (replicate width false); reached = replicate blocks false; waiting = replicate (blocks * 2) false }
+
+-- a way that waits, as it did or not
+pub record Waits (old new : Flow) (i : ℕ) : Type 0 where
+  pub state : state_of new ≡ record (state_of old) { waiting = slice_set old.waiting i true }
+  pub kept : (c : ℕ) → Contains (ways_in old) c → Contains (ways_in new) c
+  pub only : (c : ℕ) → Contains (ways_in new) c → Contains (ways_in old) c ⊎ (c ≡ i)
+  pub there : (waits (state_of old) i ≡ true) ⊎ Contains (ways_in new) i
+  pub longer : length (ways_in new) ≤ length (ways_in old) + 1
+
+-- a way that is taken up
+pub record Taken (old new : Flow) (i : ℕ) : Type 0 where
+  pub state : state_of new ≡ record (state_of old) { waiting = slice_set old.waiting i false }
+  pub was : Contains (ways_in old) i
+  pub kept : (c : ℕ) → Contains (ways_in old) c → (c ≡ i) ⊎ Contains (ways_in new) c
+  pub only : (c : ℕ) → Contains (ways_in new) c → Contains (ways_in old) c
+  pub shorter : length (ways_in new) + 1 ≡ length (ways_in old)
+
 module _ (f : Problem) where
   pub data Onward : ℕ → Row → ℕ → Row → Type 0 where
     here : (n : ℕ) (row : Row) → Onward n row n row
@@ -58,19 +93,13 @@ module _ (f : Problem) where
     pub none : (n : ℕ) → n < f.blocks → is_reached s n ≡ false → row_at s n ≡ replicate f.width false
     pub flows : (n k m : ℕ) → n < f.blocks → m < f.blocks → k < 2 → f.target n k ≡ Some m → is_reached s n ≡ true → way_at n k ≢ but → waits s (way_at n k) ≡ false
         → (is_reached s m ≡ true) × (union (f.pass n k (row_at s n)) (row_at s m) ≡ row_at s m)
+    pub within : (i : ℕ) → Contains heap i → i < f.blocks * 2
     pub held : (i : ℕ) → waits s i ≡ true → Contains heap i
     pub known : (n k : ℕ) → k < 2 → Contains heap (way_at n k) → (n < f.blocks) × (is_reached s n ≡ true)
 
   -- block 0 was reached, with the row that paths start with
   abbrev pub Started : State → Type 0
   Started s = 0 < f.blocks → (is_reached s 0 ≡ true) × (union f.start (row_at s 0) ≡ row_at s 0)
-
--- a list that has what another had, and these two besides
-pub record Grows (old new : List ℕ) (i j : ℕ) : Type 0 where
-  pub kept : (c : ℕ) → Contains old c → Contains new c
-  pub first : Contains new i
-  pub second : Contains new j
-  pub only : (c : ℕ) → Contains new c → Contains old c ⊎ ((c ≡ i) ⊎ (c ≡ j))
 
 -- a row that comes to a block, which is new there: both ways of the block wait then
 abbrev pub arrived : State → ℕ → Row → State
@@ -81,3 +110,29 @@ arrived s m row =
       waiting = slice_set (slice_set s.waiting (way_at m 0) true) (way_at m 1) true;
     }
 
+-- a row that came to a block: where it is in the row of the block and the block was reached, nothing changed; else both
+-- ways wait
+pub record Changes (old new : Flow) (m : ℕ) (row : Row) : Type 0 where
+  pub state : state_of new ≡ arrived (state_of old) m row
+  pub kept : (c : ℕ) → Contains (ways_in old) c → Contains (ways_in new) c
+  pub first : (waits (state_of old) (way_at m 0) ≡ true) ⊎ Contains (ways_in new) (way_at m 0)
+  pub second : (waits (state_of old) (way_at m 1) ≡ true) ⊎ Contains (ways_in new) (way_at m 1)
+  pub only : (c : ℕ) → Contains (ways_in new) c → Contains (ways_in old) c ⊎ ((c ≡ way_at m 0) ⊎ (c ≡ way_at m 1))
+  pub news : (union row (row_at (state_of old) m) ≢ row_at (state_of old) m) ⊎ (is_reached (state_of old) m ≡ false)
+  pub longer : length (ways_in new) ≤ length (ways_in old) + 2
+
+pub record Stays (old new : Flow) (m : ℕ) (row : Row) : Type 0 where
+  pub state : state_of new ≡ state_of old
+  pub heap : ways_in new ≡ ways_in old
+  pub reached : is_reached (state_of old) m ≡ true
+  pub within : union row (row_at (state_of old) m) ≡ row_at (state_of old) m
+
+abbrev pub Arrives : (old new : Flow) → ℕ → Row → Type 0
+Arrives old new m row = Changes old new m row ⊎ Stays old new m row
+
+-- a list that has what another had, and these two besides
+pub record Grows (old new : List ℕ) (i j : ℕ) : Type 0 where
+  pub kept : (c : ℕ) → Contains old c → Contains new c
+  pub first : Contains new i
+  pub second : Contains new j
+  pub only : (c : ℕ) → Contains new c → Contains old c ⊎ ((c ≡ i) ⊎ (c ≡ j))

@@ -2,11 +2,9 @@
 //! analysis is, and a solver that gives of each block exactly the bits that some path of its body carries there.
 #![tactic(auto)]
 
-
-
-
+mod analysis;
+mod flow;
 mod ways;
 
-
-
+pub use analysis::Analysis;
 pub use ways::{place_ty, target};
