@@ -9,7 +9,7 @@ use Rattle.bit_rows.specs.Words.{union}
 use Rattle.init_flow.specs.Carried.{Row, leads_to, last_of, rows_along, IsCarried, CarriesBit, AreCarried}
 use Rattle.init_flow.proofs.Rows.{union-length, union-bit}
 use Rattle.init_flow.specs.WorkList.{Problem, State, row_at, is_reached, Onward, here, there, Made, one, both, Law, Good, Started}
-use Rattle.init_flow.proofs.Solver.{onward-width, made-width, carried}
+use Rattle.init_flow.proofs.Invariant.{onward-width, made-width, carried}
 
 either_true : (a b : Bool) → (a || b) ≡ true → (a ≡ true) ⊎ (b ≡ true)
 either_true true b h = inl refl

@@ -1,5 +1,5 @@
 pub mod Rows
-pub mod Solver
+pub mod Invariant
 pub mod Answer
 pub mod WayLemmas
 pub mod HeapLemmas

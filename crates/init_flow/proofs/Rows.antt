@@ -3,6 +3,7 @@ use Rattle.std.proofs.Common.{◌≡◌, ◌≢◌, ℕ, zero, suc, ◌+◌, ◌
 use Rattle.std.specs.Prelude.{slice_index_or}
 use Rattle.std.proofs.lemmas.Bool.{false≢true}
 use Rattle.init_flow.specs.Carried.{Row}
+use Rattle.init_flow.specs.WorkList.{is_off, off}
 use Rattle.bit_rows.specs.Words.{union}
 
 pub union-length : (a b : Row) → length a ≡ length b → length (union a b) ≡ length a
@@ -79,22 +80,12 @@ union-bit (x ∷ xs) [] i e = absurd (omega (e, arith))
 union-bit (x ∷ xs) (y ∷ ys) zero e = refl
 union-bit (x ∷ xs) (y ∷ ys) (suc i) e = union-bit xs ys i (omega (e, arith))
 
--- how many bits are off
-abbrev pub is_off : Bool → ℕ
-is_off true = 0
-is_off false = 1
-
-pub off : Row → ℕ
-off [] = 0
-off (x ∷ xs) = is_off x + off xs
-
 fewer-bit : (x y : Bool) → is_off (x || y) ≤ is_off y
 
 fewer-bit true y = omega arith
 fewer-bit false y = omega arith
 
 pub fewer : (a b : Row) → length a ≡ length b → off (union a b) ≤ off b
-unfolding off
 fewer [] [] e = omega arith
 fewer [] (y ∷ ys) e = absurd (omega (e, arith))
 fewer (x ∷ xs) [] e = absurd (omega (e, arith))
@@ -102,7 +93,6 @@ fewer (x ∷ xs) (y ∷ ys) e = let one = fewer-bit x y in let rest = fewer xs y
 
 -- a union that is another row has fewer bits off
 pub fewer-than : (a b : Row) → length a ≡ length b → union a b ≢ b → off (union a b) < off b
-unfolding off
 fewer-than [] [] e other = absurd (other refl)
 fewer-than [] (y ∷ ys) e other = absurd (omega (e, arith))
 fewer-than (x ∷ xs) [] e other = absurd (omega (e, arith))

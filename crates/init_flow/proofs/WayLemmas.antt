@@ -1,13 +1,14 @@
 -- The ways that are on paths are the ways out of which each is on paths.
 use Rattle.std.proofs.Common.{◌≡◌, ◌≢◌, inl, inr, arith, ℕ, zero, suc, ◌==◌, ◌<◌, Bool, true, false, not, ◌||◌, List, [], ◌∷◌, if◌then◌else◌, Option, Some, None, length, slice_get, option_and_then, refl, ap, sym, ◌∙◌}
 use Rattle.std.specs.Option.{option_map_or}
-use Rattle.std.proofs.lemmas.Option.{slice_get_past}
+use Rattle.std.proofs.lemmas.Option.{slice_get_past, slice_get_within}
 use Rattle.std.proofs.lemmas.Bool.Decides.{eqb_tells}
 use Rattle.mir_ty.specs.declared.ty.TyId.{TyId}
 use Rattle.mir_ty.specs.ItemTable.{ItemTable, type_at}
 use Rattle.store_model.specs.Places.Place.{Step, step_ty, ty_along}
 use Rattle.mir_ty.specs.Facts.{needs_drop}
 use Rattle.store_model.specs.Places.TypeForms.{is_never}
+use Rattle.cfg_graph.specs.declared.graph.Block.{Block}
 use Rattle.cfg_graph.specs.declared.graph.Body.{Body}
 use Rattle.cfg_graph.specs.declared.place.Place.{Place}
 use Rattle.cfg_graph.specs.declared.terminator.Term.{Term}
@@ -15,7 +16,7 @@ use Rattle.cfg_graph.specs.declared.terminator.Unwind.{Unwind}
 use Rattle.cfg_graph.specs.Edges.{Exit, ToBlock, LeavesBody, ways_out, unwind_exit}
 use Rattle.cfg_graph.specs.Moves.Paths.{ways}
 use Rattle.cfg_graph.specs.Places.{place_id, ty_of_place}
-use Rattle.init_flow.specs.Ways.{number_of, block_of, target_among, way_target, exit_at, on_paths}
+use Rattle.init_flow.specs.Ways.{number_of, block_of, target_among, way_target, target, exit_at, on_paths}
 
 not-eqb : (a b : ℕ) → a ≢ b → (a == b) ≡ false
 not-eqb a b other = elim (eqb_tells a b) [ inl same ↦ absurd (other same.1) | inr apart ↦ apart.0 ]
@@ -104,3 +105,11 @@ pub further : (items : ItemTable) (step : Step) (steps : List Step) (at : Option
     → option_and_then (ty_along items (step ∷ steps)) at ≡ option_and_then (ty_along items steps) (option_and_then (step_ty items step) (option_and_then (type_at items) at))
 further items step steps None = refl
 further items step steps (Some id) = refl
+
+-- a block with a way exists
+pub has_block : (items : ItemTable) (body : Body) (n k m : ℕ) → target items body n k ≡ Some m → n < length body.blocks
+has_block items body n k m to = by (slice_get body.blocks n) refl to
+  where
+    by : (o : Option Block) → slice_get body.blocks n ≡ o → option_and_then (λ found. way_target items body found.term k) o ≡ Some m → n < length body.blocks
+    by None is to = absurd (cc)
+    by (Some found) is to = slice_get_within body.blocks n found is

@@ -1,9 +1,12 @@
 -- The work list of a solver: the ways out of blocks whose row changed. What holds of it from turn to turn; no public
 -- contract speaks of it.
-use Rattle.std.specs.Prelude.{◌≡◌, ◌≢◌, ◌⊎◌, ℕ, ◌+◌, ◌*◌, ◌<◌, ◌≤◌, Bool, true, false, List, [], map, length, replicate, Option, Some, slice_index_or, slice_set, Contains}
+use Rattle.std.specs.Prelude.{◌≡◌, ◌≢◌, ◌⊎◌, ℕ, ◌+◌, ◌*◌, ◌<◌, ◌≤◌, Bool, true, false, List, [], ◌∷◌, map, length, replicate, Option, Some, slice_index_or, slice_set, Contains, sum_by}
 use Rattle.bit_rows.specs.Words.{union}
 use Rattle.std.specs.BinaryHeap.{heap_items}
 use Rattle.init_flow.specs.declared.flow.Flow.{Flow}
+use Rattle.mir_ty.specs.ItemTable.{ItemTable}
+use Rattle.cfg_graph.specs.declared.graph.Body.{Body}
+use Rattle.init_flow.specs.Ways.{target}
 use Rattle.init_flow.specs.Carried.{Row}
 
 -- what a solver is to solve: how many blocks there are, how many bits a row has, the row that paths start with, where the
@@ -66,6 +69,23 @@ pub record Taken (old new : Flow) (i : ℕ) : Type 0 where
   pub kept : (c : ℕ) → Contains (ways_in old) c → (c ≡ i) ⊎ Contains (ways_in new) c
   pub only : (c : ℕ) → Contains (ways_in new) c → Contains (ways_in old) c
   pub shorter : length (ways_in new) + 1 ≡ length (ways_in old)
+
+-- how many bits are off
+abbrev pub is_off : Bool → ℕ
+is_off true = 0
+is_off false = 1
+
+abbrev pub off : Row → ℕ
+off [] = 0
+off (x ∷ xs) = is_off x + off xs
+
+-- what can still come to the rows: bits that are off, and blocks that were not reached
+abbrev pub unsettled : State → ℕ
+unsettled s = sum_by off s.rows + sum_by is_off s.reached
+
+-- the measure of what is left to do
+abbrev pub left : Flow → ℕ
+left flow = unsettled (state_of flow) * 3 + length (ways_in flow)
 
 module _ (f : Problem) where
   pub data Onward : ℕ → Row → ℕ → Row → Type 0 where
@@ -136,3 +156,14 @@ pub record Grows (old new : List ℕ) (i j : ℕ) : Type 0 where
   pub first : Contains new i
   pub second : Contains new j
   pub only : (c : ℕ) → Contains new c → Contains old c ⊎ ((c ≡ i) ⊎ (c ≡ j))
+
+-- what a turn keeps: what holds of the work list, with less left to do than before the way was taken up
+pub record Turns (f : Problem) (old new : Flow) : Type 0 where
+  pub good : Good f (state_of new) (ways_in new) (f.blocks * 2)
+  pub less : left new ≤ left old
+  pub started : Started f (state_of old) → Started f (state_of new)
+
+-- the problem of an analysis: its width, the row it starts with and what it makes of rows, and a body
+abbrev pub problem : ℕ → Row → (Body → ℕ → ℕ → Row → Row) → ItemTable → Body → Problem
+problem width first passed items body =
+    record { blocks = length body.blocks; width = width; start = first; target = target items body; pass = passed body }

@@ -74,7 +74,7 @@ impl Flow {
     pub fn take(&mut self) -> Option<(u32, bool)>
         requires { (i : ℕ) → Contains (ways_in self.old) i → i < length self.old.waiting }
         ensures some { IfSome result (λ way. Taken self.old self.new (way_at way.0 (bit way.1))) }
-        ensures none { IfNone result (ways_in self.new ≡ []) }
+        ensures none { IfNone result (ways_in self.old ≡ []) }
         ensures same { IfNone result (state_of self.new ≡ state_of self.old) }
     {
         let (_, block, way) = self.heap.pop()?;
@@ -98,6 +98,14 @@ impl Flow {
         self.reached.set(block as usize, true);
         self.wait(rank, block, false)?;
         self.wait(rank, block, true)
+    }
+
+    /// The row of a block.
+    pub fn row_of(&self, block: usize) -> &BitRow
+        requires { block < length self.now.rows }
+        ensures { result.now ≡ row_at (state_of self.now) block }
+    {
+        &self.rows.as_slice()[block]
     }
 
     fn was_reached(&self, block: usize) -> bool

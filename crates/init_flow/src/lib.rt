@@ -4,7 +4,9 @@
 
 mod analysis;
 mod flow;
+mod solver;
 mod ways;
 
 pub use analysis::Analysis;
+pub use solver::{Solution, solve};
 pub use ways::{place_ty, target};

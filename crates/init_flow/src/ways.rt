@@ -1,13 +1,13 @@
 //! The types of places, and the ways out of blocks that are on paths.
-ghost use Rattle.std.specs.Prelude.{◌≡◌, option_and_then, map, not, false};
+ghost use Rattle.std.specs.Prelude.{◌≡◌, ◌<◌, option_and_then, map, not, false, length, IfSome};
 ghost use Rattle.store_model.specs.Places.TypeForms.{is_never};
 ghost use Rattle.mir_ty.specs.ItemTable.{type_at};
 ghost use Rattle.store_model.specs.Places.Place.{step_ty as step_type, ty_along as type_along, is_enum as enum_type, content_of, element_of};
 ghost use Rattle.cfg_graph.specs.Places.{place_id, ty_of_place, named_step};
 ghost use Rattle.std.specs.Option.{option_map_or};
 ghost use Rattle.mir_ty.specs.Facts.{needs_drop};
-ghost use Rattle.cfg_graph.specs.Edges.{unwind_exit};
-ghost use Rattle.init_flow.specs.Ways.{target as target_of, way_target, exit_at, block_of, on_paths};
+ghost use Rattle.cfg_graph.specs.Edges.{unwind_exit, ways_out};
+ghost use Rattle.init_flow.specs.Ways.{target as target_of, way_target, exit_at, block_of, on_paths, way_count};
 
 use cfg_graph::{Body, Place, Step, Term, Unwind};
 use mir_ty::{Items, Ty, TyId};
@@ -88,7 +88,8 @@ fn unwind_block(unwind: &Unwind) -> Option<u32>
 
 /// The block to which the way with a number leads, out of those of a terminator.
 fn exit(term: &Term, way: u32) -> Option<u32>
-    ensures { result ≡ exit_at term.now way }
+    ensures to { result ≡ exit_at term.now way }
+    ensures exists { IfSome result (λ to. way < length (ways_out term.now)) }
 {
     match (term, way) {
         (Term::Goto(to), 0) => Some(*to),
@@ -152,7 +153,8 @@ fn is_on_paths(items: &Items, body: &Body, term: &Term, way: u32) -> bool
 
 /// The block to which the way with a number leads, out of those of a terminator that are on paths.
 fn way_of(items: &Items, body: &Body, term: &Term, way: u32) -> Option<u32>
-    ensures { result ≡ way_target items.now body.now term.now way }
+    ensures to { result ≡ way_target items.now body.now term.now way }
+    ensures exists { IfSome result (λ to. way < length (ways_out term.now)) }
 {
     if is_on_paths(items, body, term, way) {
         exit(term, way)
@@ -166,7 +168,8 @@ fn way_of(items: &Items, body: &Body, term: &Term, way: u32) -> Option<u32>
 /// panic. The way on from a call of a body that never returns is on no path, nor is the panic of a drop of what needs
 /// no dropping.
 pub fn target(items: &Items, body: &Body, block: u32, way: u32) -> Option<u32>
-    ensures { result ≡ target_of items.now body.now block way }
+    ensures to { result ≡ target_of items.now body.now block way }
+    ensures exists { IfSome result (λ to. way < way_count body.now block) }
 {
     let found = body.blocks.get(block as usize)?;
     way_of(items, body, &found.term, way)

@@ -7,12 +7,8 @@ use Rattle.std.proofs.Math.ListN.{get_or-eq_default}
 use Rattle.std.proofs.lemmas.List.Sums.{sum_by-set}
 use Rattle.bit_rows.specs.Words.{union}
 use Rattle.init_flow.specs.Carried.{Row}
-use Rattle.init_flow.specs.WorkList.{Problem, State, row_at, is_reached, waits, way_at, Onward, here, there, Made, one, both, Law, Good, Started, Grows, arrived, untouched}
-use Rattle.init_flow.proofs.Rows.{union-length, union-again, union-stays, union-none, in_between, union-bit, is_off, off, fewer, fewer-than}
-
--- what can still come to the rows: bits that are off, and blocks that were not reached
-pub unsettled : State → ℕ
-unsettled s = sum_by off s.rows + sum_by is_off s.reached
+use Rattle.init_flow.specs.WorkList.{Problem, State, row_at, is_reached, waits, way_at, Onward, here, there, Made, one, both, Law, Good, Started, Grows, arrived, untouched, is_off, off, unsettled}
+use Rattle.init_flow.proofs.Rows.{union-length, union-again, union-stays, union-none, in_between, union-bit, fewer, fewer-than}
 
 module _ (f : Problem) where
   pub further : (n : ℕ) (row : Row) (last : ℕ) (end : Row) (k m : ℕ) → Onward f n row last end → f.target last k ≡ Some m → k < 2
@@ -228,7 +224,6 @@ module _ (f : Problem) (law : Law f) where
 
       -- there is less to come, where the row is another or the block was not reached
       pub left-arrived : (union row (row_at s m) ≢ row_at s m) ⊎ (is_reached s m ≡ false) → unsettled (arrived s m row) < unsettled s
-      unfolding unsettled
       left-arrived news = elim news [ inl another ↦ (let fewer = fewer-than row (row_at s m) (long ∙ sym (good.widths m here)) another in omega (fewer, bits, blocks_left (is_reached s m) refl, arith)) | inr unreached ↦ (let fewer = fewer row (row_at s m) (long ∙ sym (good.widths m here)) in omega (fewer, bits, one_block_less unreached, arith)) ]
         where
           bits : sum_by off (slice_set s.rows m (union row (row_at s m))) + off (row_at s m) ≡ sum_by off s.rows + off (union row (row_at s m))
