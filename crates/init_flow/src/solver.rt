@@ -1,0 +1,121 @@
+ghost use Rattle.std.specs.Prelude.{◌≡◌, ◌<◌, ◌*◌, ℕ, [], length, slice_get, slice_index_or, IfOk, OnOk, true};
+ghost use Rattle.std.specs.Option.{option_copied};
+ghost use Rattle.init_flow.specs.Ways.{target as target_of};
+ghost use Rattle.init_flow.specs.Carried.{AreCarried};
+ghost use Rattle.init_flow.specs.WorkList.{Good, Started, Turns, problem, state_of, ways_in, way_at, bit, untouched, is_reached};
+
+use crate::analysis::Analysis;
+use crate::flow::Flow;
+use crate::ways::target;
+use bit_rows::BitRow;
+use cfg_graph::{Body, rank};
+use mir_base::{List, NoMemory};
+use mir_ty::Items;
+use std::alloc::Global;
+use std::marker::Model;
+
+/// What an analysis knows at the start of each block.
+#[derive(Debug, Drop)]
+pub struct Solution {
+    rows: List<BitRow>,
+}
+
+impl Model for Solution {
+    ghost use Rattle.std.specs.Prelude.{List as Listed, Bool};
+
+    ghost Value = { Listed (Listed Bool) };
+
+    ghost view = { λ solution. solution.rows };
+}
+
+impl Solution {
+    /// The row at the start of a block; `None` exactly where there is no such block.
+    pub fn at(&self, block: u32) -> Option<&BitRow>
+        ensures { option_copied result ≡ slice_get self.now block }
+    {
+        self.rows.get(block as usize)
+    }
+}
+
+fn copy_of(alloc: Global, bits: u32, row: &BitRow) -> Result<BitRow, NoMemory>
+    requires { length row.now ≡ bits }
+    ensures { IfOk result (λ copy. copy ≡ row.now) }
+{
+    let mut copy = BitRow::new(alloc, bits)?;
+    row.or_into(&mut copy);
+    Ok(copy)
+}
+
+/// Reaches block 0 with the row that an analysis starts with.
+fn begin<A: Analysis>(
+    alloc: Global,
+    analysis: &A,
+    items: &Items,
+    body: &Body,
+    flow: &mut Flow,
+) -> Result<(), NoMemory>
+    requires state { state_of flow.old ≡ untouched (A.width analysis.now) (length body.now.blocks) }
+    requires heap { ways_in flow.old ≡ [] }
+    ensures good { OnOk result (Good (problem (A.width analysis.now) (A.first analysis.now) (A.passed analysis.now) items.now body.now) (state_of flow.new) (ways_in flow.new) (length body.now.blocks * 2)) }
+    ensures started { OnOk result (Started (problem (A.width analysis.now) (A.first analysis.now) (A.passed analysis.now) items.now body.now) (state_of flow.new)) }
+{
+    if body.blocks.is_empty() {
+        return Ok(());
+    }
+    let mut row = BitRow::new(alloc, analysis.bits())?;
+    analysis.start(&mut row);
+    flow.arrive(rank(body, 0).unwrap_or(0), 0, &row)
+}
+
+/// Takes what a block has along a way to the next block.
+fn turn<A: Analysis>(
+    alloc: Global,
+    analysis: &A,
+    items: &Items,
+    body: &Body,
+    flow: &mut Flow,
+    block: u32,
+    way: bool,
+) -> Result<(), NoMemory>
+    requires is_for { A.IsFor analysis.now body.now }
+    requires good { Good (problem (A.width analysis.now) (A.first analysis.now) (A.passed analysis.now) items.now body.now) (state_of flow.old) (ways_in flow.old) (way_at block (bit way)) }
+    requires block { block < length body.now.blocks }
+    requires reached { is_reached (state_of flow.old) block ≡ true }
+    ensures { OnOk result (Turns (problem (A.width analysis.now) (A.first analysis.now) (A.passed analysis.now) items.now body.now) flow.old flow.new) }
+{
+    let Some(to) = target(items, body, block, way as u32) else {
+        return Ok(());
+    };
+    if to as usize >= flow.rows.len() {
+        return Ok(());
+    }
+    let mut row = copy_of(alloc, analysis.bits(), flow.row_of(block as usize))?;
+    analysis.pass(body, block, way as u32, &mut row);
+    flow.arrive(rank(body, to).unwrap_or(0), to, &row)
+}
+
+/// The rows that an analysis has at the start of each block of a body, at its fixed point: exactly the bits that some
+/// path from block 0 carries there.
+///
+/// Each way out of a block is passed once and again only after the row of its block changed; a block of a greater rank
+/// goes first, so a body without loops is gone over once. Time is in proportion to these passes, each with the words of
+/// a row, and a logarithm of the number of blocks; memory to the blocks times the words of a row.
+pub fn solve<A: Analysis>(
+    alloc: Global,
+    analysis: &A,
+    items: &Items,
+    body: &Body,
+) -> Result<Solution, NoMemory>
+    requires { A.IsFor analysis.now body.now }
+    ensures blocks { IfOk result (λ rows. length rows ≡ length body.now.blocks) }
+    ensures widths { IfOk result (λ rows. (block : ℕ) → block < length body.now.blocks → length (slice_index_or rows block []) ≡ A.width analysis.now) }
+    ensures carried { IfOk result (λ rows. AreCarried (length body.now.blocks) (target_of items.now body.now) (A.passed analysis.now body.now) (A.first analysis.now) rows) }
+{
+    let bits = analysis.bits();
+    let mut flow = Flow::new(alloc, bits, body.blocks.len())?;
+    begin(alloc, analysis, items, body, &mut flow)?;
+    while let Some((block, way)) = flow.take() {
+        turn(alloc, analysis, items, body, &mut flow, block, way)?;
+    }
+    Ok(Solution { rows: flow.rows })
+}
