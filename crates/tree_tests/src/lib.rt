@@ -1,0 +1,6 @@
+//! Tests of the typed tree, of what no contract says: that calls succeed when memory is there, and that a node is found
+//! by its number.
+#![tactic(auto)]
+
+#[cfg(test)]
+mod trees;
