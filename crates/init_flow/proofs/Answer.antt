@@ -1,13 +1,12 @@
 -- At the end of the work list the rows are those that paths carry.
-use Rattle.std.proofs.Common.{◌≡◌, ◌≢◌, ◌↔◌, ◌⊎◌, inl, inr, ℕ, zero, suc, ◌+◌, ◌*◌, ◌<◌, ◌≤◌, Bool, true, false, ◌||◌, if◌then◌else◌, List, [], ◌∷◌, ◌++◌, length, replicate, Option, Some, None, refl, sym, ap, subst, ◌∙◌, arith}
+use Rattle.std.proofs.Common.{◌≡◌, ◌⊎◌, inl, inr, ℕ, zero, suc, ◌*◌, ◌<◌, Bool, true, false, ◌||◌, if◌then◌else◌, List, [], ◌∷◌, replicate, Option, Some, None, refl, sym, ap, subst, ◌∙◌, arith}
 use Rattle.std.specs.Prelude.{◌==◌, slice_index_or, Contains}
 use Rattle.std.proofs.lemmas.Bool.{false≢true, cases_lt, eqb-true, eq-eqb}
 use Rattle.std.proofs.lemmas.List.{get_or-replicate, length-replicate}
 use Rattle.std.proofs.lemmas.List.Elements.{Contains-append_left, Contains-append_right, Contains-append_cases}
 use Rattle.std.proofs.Math.ListN.{get_or-eq_default}
-use Rattle.bit_rows.specs.Words.{union}
-use Rattle.init_flow.specs.Carried.{Row, leads_to, last_of, rows_along, IsCarried, CarriesBit, AreCarried}
-use Rattle.init_flow.proofs.Rows.{union-length, union-bit}
+use Rattle.init_flow.specs.Carried.{Row, leads_to, last_of, rows_along, CarriesBit, AreCarried}
+use Rattle.init_flow.proofs.Rows.{union-bit}
 use Rattle.init_flow.specs.WorkList.{Problem, State, row_at, is_reached, Onward, here, there, Made, one, both, Law, Good, Started}
 use Rattle.init_flow.proofs.Invariant.{onward-width, made-width, carried}
 

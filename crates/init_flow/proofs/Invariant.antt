@@ -1,6 +1,6 @@
 -- What holds of the work list, turn after turn, and that what paths carry is in the rows at its end.
-use Rattle.std.proofs.Common.{◌≡◌, ◌≢◌, ◌⊎◌, inl, inr, ℕ, zero, suc, ◌+◌, ◌*◌, ◌<◌, ◌≤◌, Bool, true, false, ◌||◌, List, [], ◌∷◌, length, replicate, Option, Some, None, refl, sym, ap, subst, ◌∙◌, arith}
-use Rattle.std.specs.Prelude.{◌==◌, slice_index_or, slice_set, Contains, sum_by}
+use Rattle.std.proofs.Common.{◌≡◌, ◌≢◌, ◌⊎◌, inl, inr, ℕ, zero, suc, ◌+◌, ◌*◌, ◌<◌, ◌≤◌, Bool, true, false, List, [], length, replicate, Some, refl, sym, ap, subst, ◌∙◌, arith}
+use Rattle.std.specs.Prelude.{slice_index_or, slice_set, Contains, sum_by}
 use Rattle.std.proofs.lemmas.Bool.{false≢true, cases_eq, cases_lt}
 use Rattle.std.proofs.lemmas.List.{get_or-set_same, get_or-set_other, get_or-replicate, length-replicate, length-set}
 use Rattle.std.proofs.Math.ListN.{get_or-eq_default}
@@ -8,7 +8,7 @@ use Rattle.std.proofs.lemmas.List.Sums.{sum_by-set}
 use Rattle.bit_rows.specs.Words.{union}
 use Rattle.init_flow.specs.Carried.{Row}
 use Rattle.init_flow.specs.WorkList.{Problem, State, row_at, is_reached, waits, way_at, Onward, here, there, Made, one, both, Law, Good, Started, Grows, arrived, untouched, is_off, off, unsettled}
-use Rattle.init_flow.proofs.Rows.{union-length, union-again, union-stays, union-none, in_between, union-bit, fewer, fewer-than}
+use Rattle.init_flow.proofs.Rows.{union-length, union-again, union-stays, union-none, in_between, fewer, fewer-than}
 
 module _ (f : Problem) where
   pub further : (n : ℕ) (row : Row) (last : ℕ) (end : Row) (k m : ℕ) → Onward f n row last end → f.target last k ≡ Some m → k < 2
@@ -124,10 +124,11 @@ module _ (f : Problem) (law : Law f) where
         → union other (slice_index_or (slice_set s.rows m new) n []) ≡ slice_index_or (slice_set s.rows m new) n []
     unfolding new
     grown n other below l is =
-        elim (cases_eq n m)
-        [ inl e ↦ subst (λ (z : ℕ). union other (slice_index_or (slice_set s.rows m new) z []) ≡ slice_index_or (slice_set s.rows m new) z []) (sym e)
+        elim (cases_eq n m) [
+          | inl e ↦ subst (λ (z : ℕ). union other (slice_index_or (slice_set s.rows m new) z []) ≡ slice_index_or (slice_set s.rows m new) z []) (sym e)
               (rw (row_there) (union-stays row other (row_at s m) (long ∙ sym (good.widths m here)) (l ∙ sym (good.widths m here)) (subst (λ (z : ℕ). union other (row_at s z) ≡ row_at s z) e is)))
-        | inr o ↦ rw (row_else n o) is ]
+          | inr o ↦ rw (row_else n o) is
+        ]
 
     -- the row is in that of the block, which was reached
     pub arrived-there : (is_reached (arrived s m row) m ≡ true) × (union row (row_at (arrived s m row) m) ≡ row_at (arrived s m row) m)
@@ -168,22 +169,25 @@ module _ (f : Problem) (law : Law f) where
 
           made_now : (n : ℕ) → n < f.blocks → slice_index_or (slice_set s.reached m true) n false ≡ true → Made f n (slice_index_or (slice_set s.rows m new) n [])
           made_now n h r =
-              elim (cases_eq n m)
-              [ inl e ↦ subst (λ (z : ℕ). Made f z (slice_index_or (slice_set s.rows m new) z [])) (sym e) (subst (Made f m) (sym row_there) made_new)
-              | inr o ↦ subst (Made f n) (sym (row_else n o)) (good.made n h (sym (reached_else n o) ∙ r)) ]
+              elim (cases_eq n m) [
+                | inl e ↦ subst (λ (z : ℕ). Made f z (slice_index_or (slice_set s.rows m new) z [])) (sym e) (subst (Made f m) (sym row_there) made_new)
+                | inr o ↦ subst (Made f n) (sym (row_else n o)) (good.made n h (sym (reached_else n o) ∙ r))
+              ]
 
           none_now : (n : ℕ) → n < f.blocks → slice_index_or (slice_set s.reached m true) n false ≡ false → slice_index_or (slice_set s.rows m new) n [] ≡ replicate f.width false
           none_now n h r =
-              elim (cases_eq n m)
-              [ inl e ↦ absurd (false≢true (sym r ∙ subst (λ (z : ℕ). slice_index_or (slice_set s.reached m true) z false ≡ true) (sym e) reached_there))
-              | inr o ↦ row_else n o ∙ good.none n h (sym (reached_else n o) ∙ r) ]
+              elim (cases_eq n m) [
+                | inl e ↦ absurd (false≢true (sym r ∙ subst (λ (z : ℕ). slice_index_or (slice_set s.reached m true) z false ≡ true) (sym e) reached_there))
+                | inr o ↦ row_else n o ∙ good.none n h (sym (reached_else n o) ∙ r)
+              ]
 
           flows_now : (n k c : ℕ) → n < f.blocks → c < f.blocks → k < 2 → f.target n k ≡ Some c → slice_index_or (slice_set s.reached m true) n false ≡ true → way_at n k ≢ f.blocks * 2 → slice_index_or waiting (way_at n k) false ≡ false
               → (slice_index_or (slice_set s.reached m true) c false ≡ true) × (union (f.pass n k (slice_index_or (slice_set s.rows m new) n [])) (slice_index_or (slice_set s.rows m new) c []) ≡ slice_index_or (slice_set s.rows m new) c [])
           flows_now n k c h l small leads r other w =
-              elim (cases_eq n m)
-              [ inl e ↦ absurd (false≢true (sym w ∙ subst (λ (z : ℕ). slice_index_or waiting (way_at z k) false ≡ true) (sym e) (waits_there k small)))
-              | inr o ↦ rw (row_else n o) (elsewhere o) ]
+              elim (cases_eq n m) [
+                | inl e ↦ absurd (false≢true (sym w ∙ subst (λ (z : ℕ). slice_index_or waiting (way_at z k) false ≡ true) (sym e) (waits_there k small)))
+                | inr o ↦ rw (row_else n o) (elsewhere o)
+              ]
             where
               elsewhere : n ≢ m → (slice_index_or (slice_set s.reached m true) c false ≡ true) × (union (f.pass n k (row_at s n)) (slice_index_or (slice_set s.rows m new) c []) ≡ slice_index_or (slice_set s.rows m new) c [])
               elsewhere o = elim (cases_eq (way_at n k) but) [ inl e ↦ left_out e | inr d ↦ as_before d ]
@@ -193,6 +197,7 @@ module _ (f : Problem) (law : Law f) where
                       let at = hole n k c h small leads e in
                       subst (λ (z : ℕ). (slice_index_or (slice_set s.reached m true) z false ≡ true) × (union (f.pass n k (row_at s n)) (slice_index_or (slice_set s.rows m new) z []) ≡ slice_index_or (slice_set s.rows m new) z [])) (sym at.0)
                       (reached_there, rw (row_there, sym at.1) (union-again row (row_at s m) (long ∙ sym (good.widths m here))))
+
                   as_before : way_at n k ≢ but → (slice_index_or (slice_set s.reached m true) c false ≡ true) × (union (f.pass n k (row_at s n)) (slice_index_or (slice_set s.rows m new) c []) ≡ slice_index_or (slice_set s.rows m new) c [])
                   as_before d =
                       let was = sym (waits_else (way_at n k) (λ e. o (omega (e, small, arith))) (λ e. o (omega (e, small, arith)))) ∙ w in
@@ -204,15 +209,17 @@ module _ (f : Problem) (law : Law f) where
 
           held_now : (i : ℕ) → slice_index_or waiting i false ≡ true → Contains next i
           held_now i w =
-              elim (cases_eq i (way_at m 0))
-              [ inl e ↦ subst (Contains next) (sym e) grows.first
-              | inr o1 ↦ elim (cases_eq i (way_at m 1)) [ inl e ↦ subst (Contains next) (sym e) grows.second | inr o2 ↦ grows.kept i (good.held i (sym (waits_else i o1 o2) ∙ w)) ] ]
+              elim (cases_eq i (way_at m 0)) [
+                | inl e ↦ subst (Contains next) (sym e) grows.first
+                | inr o1 ↦ elim (cases_eq i (way_at m 1)) [ inl e ↦ subst (Contains next) (sym e) grows.second | inr o2 ↦ grows.kept i (good.held i (sym (waits_else i o1 o2) ∙ w)) ]
+              ]
 
           known_now : (n k : ℕ) → k < 2 → Contains next (way_at n k) → (n < f.blocks) × (slice_index_or (slice_set s.reached m true) n false ≡ true)
           known_now n k small c =
-              elim (grows.only (way_at n k) c)
-              [ inl old ↦ (let was = good.known n k small old in (was.0, still n was.1))
-              | inr new ↦ at_m (elim new [ inl e ↦ omega (e, small, arith) | inr e ↦ omega (e, small, arith) ]) ]
+              elim (grows.only (way_at n k) c) [
+                | inl old ↦ (let was = good.known n k small old in (was.0, still n was.1))
+                | inr new ↦ at_m (elim new [ inl e ↦ omega (e, small, arith) | inr e ↦ omega (e, small, arith) ])
+              ]
             where
               at_m : n ≡ m → (n < f.blocks) × (slice_index_or (slice_set s.reached m true) n false ≡ true)
               at_m e = subst (λ (z : ℕ). (z < f.blocks) × (slice_index_or (slice_set s.reached m true) z false ≡ true)) (sym e) (here, reached_there)
@@ -252,9 +259,10 @@ module _ (f : Problem) (law : Law f) where
         none = good.none;
         flows = λ n k m h l small leads r other w. good.flows n k m h l small leads r (λ e. absurd (omega (e, h, small, arith))) (sym (get_or-set_other s.waiting i (way_at n k) false false other) ∙ w);
         within = λ c h. good.within c (only c h);
-        held = λ c w. elim (cases_eq c i)
-          [ inl e ↦ absurd (false≢true (sym (get_or-set_same s.waiting i false false (omega (within, good.waiting_are, arith))) ∙ subst (λ (z : ℕ). slice_index_or (slice_set s.waiting i false) z false ≡ true) e w))
-          | inr o ↦ elim (kept c (good.held c (sym (get_or-set_other s.waiting i c false false o) ∙ w))) [ inl e ↦ absurd (o e) | inr c ↦ c ] ];
+        held = λ c w. elim (cases_eq c i) [
+          | inl e ↦ absurd (false≢true (sym (get_or-set_same s.waiting i false false (omega (within, good.waiting_are, arith))) ∙ subst (λ (z : ℕ). slice_index_or (slice_set s.waiting i false) z false ≡ true) e w))
+          | inr o ↦ elim (kept c (good.held c (sym (get_or-set_other s.waiting i c false false o) ∙ w))) [ inl e ↦ absurd (o e) | inr c ↦ c ]
+        ];
         known = λ n k small c. good.known n k small (only (way_at n k) c);
       }
 

@@ -1,5 +1,5 @@
 -- The union of rows.
-use Rattle.std.proofs.Common.{◌≡◌, ◌≢◌, ℕ, zero, suc, ◌+◌, ◌<◌, ◌≤◌, Bool, true, false, ◌||◌, List, [], ◌∷◌, length, replicate, refl, sym, ap, ◌∙◌, arith}
+use Rattle.std.proofs.Common.{◌≡◌, ◌≢◌, ℕ, zero, suc, ◌<◌, ◌≤◌, Bool, true, false, ◌||◌, [], ◌∷◌, length, replicate, refl, sym, ap, arith}
 use Rattle.std.specs.Prelude.{slice_index_or}
 use Rattle.std.proofs.lemmas.Bool.{false≢true}
 use Rattle.init_flow.specs.Carried.{Row}
@@ -81,7 +81,6 @@ union-bit (x ∷ xs) (y ∷ ys) zero e = refl
 union-bit (x ∷ xs) (y ∷ ys) (suc i) e = union-bit xs ys i (omega (e, arith))
 
 fewer-bit : (x y : Bool) → is_off (x || y) ≤ is_off y
-
 fewer-bit true y = omega arith
 fewer-bit false y = omega arith
 

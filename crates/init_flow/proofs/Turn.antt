@@ -1,12 +1,12 @@
 -- One turn of the solver: what the work list is after a row came to a block.
-use Rattle.std.proofs.Common.{◌≡◌, ◌≢◌, ◌⊎◌, inl, inr, ℕ, zero, suc, ◌+◌, ◌*◌, ◌<◌, ◌≤◌, Bool, true, false, List, [], ◌∷◌, Option, Some, None, length, refl, sym, ap, subst, ◌∙◌, arith, rules}
+use Rattle.std.proofs.Common.{◌≡◌, ◌≢◌, ◌⊎◌, inl, inr, ℕ, ◌*◌, ◌<◌, ◌≤◌, Bool, true, false, List, [], ◌∷◌, Option, Some, None, length, refl, sym, ap, subst, ◌∙◌, arith}
 use Rattle.std.specs.Prelude.{Contains, slice_index_or, slice_set, OnOk}
 use Rattle.std.proofs.Common.{Result, Ok, Err}
 use Rattle.std.proofs.lemmas.List.{get_or-set_other}
 use Rattle.bit_rows.specs.Words.{union}
 use Rattle.init_flow.specs.Carried.{Row}
 use Rattle.init_flow.specs.declared.flow.Flow.{Flow}
-use Rattle.init_flow.specs.WorkList.{Problem, State, state_of, ways_in, row_at, is_reached, waits, way_at, arrived, Waits, Taken, Changes, Stays, Arrives, Good, Law, Made, one, here, Started, untouched, Grows, Turns, bit, unsettled, left}
+use Rattle.init_flow.specs.WorkList.{Problem, State, state_of, ways_in, row_at, is_reached, waits, way_at, arrived, Waits, Taken, Changes, Arrives, Good, Law, Made, one, here, Started, untouched, Grows, Turns, bit, unsettled, left}
 use Rattle.init_flow.proofs.Invariant.{good-arrived, started-arrived, left-arrived, arrived-there, good-done, good-taken, good-untouched, passed}
 
 abbrev waiting_too : ℕ → State → State
@@ -52,12 +52,13 @@ module _ (f : Problem) (law : Law f) where
       → ((n k c : ℕ) → n < f.blocks → k < 2 → f.target n k ≡ Some c → way_at n k ≡ but → (c ≡ m) × (row ≡ f.pass n k (row_at (state_of old) n)))
       → Arrives old new m row
       → Good f (state_of new) (ways_in new) (f.blocks * 2) × (left new ≤ left old) × (Started f (state_of old) → Started f (state_of new)) × (is_reached (state_of new) m ≡ true) × (union row (row_at (state_of new) m) ≡ row_at (state_of new) m)
-  arrives old new but m row good inside long makes hole (inl changed) =
-      (subst (λ (s : State). Good f s (ways_in new) (f.blocks * 2)) (sym changed.state) (good-arrived f law (state_of old) (ways_in old) but good m inside row long makes (ways_in new) grows hole),
-      lessened,
-      λ started. subst (Started f) (sym changed.state) (started-arrived f law (state_of old) (ways_in old) but good m inside row long makes (ways_in new) grows hole started),
-      ap (λ (s : State). is_reached s m) changed.state ∙ there.0,
-      subst (λ (s : State). union row (row_at s m) ≡ row_at s m) (sym changed.state) there.1)
+  arrives old new but m row good inside long makes hole (inl changed) = (
+    subst (λ (s : State). Good f s (ways_in new) (f.blocks * 2)) (sym changed.state) (good-arrived f law (state_of old) (ways_in old) but good m inside row long makes (ways_in new) grows hole),
+    lessened,
+    λ started. subst (Started f) (sym changed.state) (started-arrived f law (state_of old) (ways_in old) but good m inside row long makes (ways_in new) grows hole started),
+    ap (λ (s : State). is_reached s m) changed.state ∙ there.0,
+    subst (λ (s : State). union row (row_at s m) ≡ row_at s m) (sym changed.state) there.1,
+  )
     where
       there : (is_reached (arrived (state_of old) m row) m ≡ true) × (union row (row_at (arrived (state_of old) m row) m) ≡ row_at (arrived (state_of old) m row) m)
       there = arrived-there f law (state_of old) (ways_in old) but good m inside row long makes
@@ -76,12 +77,13 @@ module _ (f : Problem) (law : Law f) where
           let less = left-arrived f law (state_of old) (ways_in old) but good m inside row long makes (ways_in new) grows hole changed.news in
           let same : unsettled (state_of new) ≡ unsettled (arrived (state_of old) m row) = ap unsettled changed.state in
           omega (less, same, changed.longer, arith)
-  arrives old new but m row good inside long makes hole (inr stays) =
-      (subst (λ (s : State). Good f s (ways_in new) (f.blocks * 2)) (sym stays.state) (subst (λ (h : List ℕ). Good f (state_of old) h (f.blocks * 2)) (sym stays.heap) closed),
-      (let same : unsettled (state_of new) ≡ unsettled (state_of old) = ap unsettled stays.state in let heaps = ap length stays.heap in omega (same, heaps, arith)),
-      λ started. subst (Started f) (sym stays.state) started,
-      ap (λ (s : State). is_reached s m) stays.state ∙ stays.reached,
-      subst (λ (s : State). union row (row_at s m) ≡ row_at s m) (sym stays.state) stays.within)
+  arrives old new but m row good inside long makes hole (inr stays) = (
+    subst (λ (s : State). Good f s (ways_in new) (f.blocks * 2)) (sym stays.state) (subst (λ (h : List ℕ). Good f (state_of old) h (f.blocks * 2)) (sym stays.heap) closed),
+    (let same : unsettled (state_of new) ≡ unsettled (state_of old) = ap unsettled stays.state in let heaps = ap length stays.heap in omega (same, heaps, arith)),
+    λ started. subst (Started f) (sym stays.state) started,
+    ap (λ (s : State). is_reached s m) stays.state ∙ stays.reached,
+    subst (λ (s : State). union row (row_at s m) ≡ row_at s m) (sym stays.state) stays.within,
+  )
     where
       closed : Good f (state_of old) (ways_in old) (f.blocks * 2)
       closed = good-done f law (state_of old) (ways_in old) but good (λ n k c h l small leads r e. let at = hole n k c h small leads e in
@@ -107,9 +109,9 @@ module _ (f : Problem) (law : Law f) where
       record {
         good = good-done f law (state_of flow) (ways_in flow) (way_at block (bit way)) good
             (λ n k c h l small to r e.
-                let same_block : n ≡ block = (let b = bit-small way in omega (e, small, b, arith)) in
-                let same_way : k ≡ bit way = (let b = bit-small way in omega (e, small, b, arith)) in
-                absurd (leads c (ap (λ (z : ℕ). f.target z (bit way)) (sym same_block) ∙ ap (f.target n) (sym same_way) ∙ to) l));
+            let same_block : n ≡ block = (let b = bit-small way in omega (e, small, b, arith)) in
+            let same_way : k ≡ bit way = (let b = bit-small way in omega (e, small, b, arith)) in
+            absurd (leads c (ap (λ (z : ℕ). f.target z (bit way)) (sym same_block) ∙ ap (f.target n) (sym same_way) ∙ to) l));
         less = omega arith;
         started = λ s. s;
       }
@@ -122,10 +124,11 @@ module _ (f : Problem) (law : Law f) where
       let long = ap length is ∙ law.keeps block (bit way) (row_at (state_of old) block) (good.widths block inside) in
       let makes = subst (Made f m) (sym is) (passed f law block (bit way) m (row_at (state_of old) block) to (bit-small way) (good.made block inside reached)) in
       let all = arrives f law old new (way_at block (bit way)) m row good there long makes (λ n k c h small leads e.
-          let same_block : n ≡ block = (let b = bit-small way in omega (e, small, b, arith)) in
-          let same_way : k ≡ bit way = (let b = bit-small way in omega (e, small, b, arith)) in
-          (some_one c m (sym leads ∙ ap (λ (z : ℕ). f.target z k) same_block ∙ ap (f.target block) same_way ∙ to),
-          is ∙ ap (λ (z : ℕ). f.pass z (bit way) (row_at (state_of old) z)) (sym same_block) ∙ ap (λ (z : ℕ). f.pass n z (row_at (state_of old) n)) (sym same_way))) arrived in
+      let same_block : n ≡ block = (let b = bit-small way in omega (e, small, b, arith)) in
+      let same_way : k ≡ bit way = (let b = bit-small way in omega (e, small, b, arith)) in (
+        some_one c m (sym leads ∙ ap (λ (z : ℕ). f.target z k) same_block ∙ ap (f.target block) same_way ∙ to),
+        is ∙ ap (λ (z : ℕ). f.pass z (bit way) (row_at (state_of old) z)) (sym same_block) ∙ ap (λ (z : ℕ). f.pass n z (row_at (state_of old) n)) (sym same_way),
+      )) arrived in
       record { good = all.0; less = all.1; started = all.2 }
 
 pub nonempty : {X : Type 0} → (xs : List X) → (xs ≡ [] → ⊥) → 0 < length xs
@@ -153,10 +156,11 @@ module _ (f : Problem) (law : Law f) where
   pub took : (old new : Flow) (block : ℕ) (way : Bool) → Good f (state_of old) (ways_in old) (f.blocks * 2) → Taken old new (way_at block (bit way))
       → Good f (state_of new) (ways_in new) (way_at block (bit way)) × (block < f.blocks) × (is_reached (state_of new) block ≡ true) × (left new < left old) × (Started f (state_of old) → Started f (state_of new))
   took old new block way good taken =
-      let at = good.known block (bit way) (bit-small way) taken.was in
-      (subst (λ (s : State). Good f s (ways_in new) (way_at block (bit way))) (sym taken.state)
-          (good-taken f law (state_of old) (ways_in old) (ways_in new) (way_at block (bit way)) good (good.within (way_at block (bit way)) taken.was) taken.kept taken.only),
-      at.0,
-      ap (λ (s : State). is_reached s block) taken.state ∙ at.1,
-      (let same : unsettled (state_of new) ≡ unsettled (state_of old) = ap unsettled taken.state in omega (same, taken.shorter, arith)),
-      λ started. subst (Started f) (sym taken.state) started)
+      let at = good.known block (bit way) (bit-small way) taken.was in (
+        subst (λ (s : State). Good f s (ways_in new) (way_at block (bit way))) (sym taken.state)
+            (good-taken f law (state_of old) (ways_in old) (ways_in new) (way_at block (bit way)) good (good.within (way_at block (bit way)) taken.was) taken.kept taken.only),
+        at.0,
+        ap (λ (s : State). is_reached s block) taken.state ∙ at.1,
+        (let same : unsettled (state_of new) ≡ unsettled (state_of old) = ap unsettled taken.state in omega (same, taken.shorter, arith)),
+        λ started. subst (Started f) (sym taken.state) started,
+      )

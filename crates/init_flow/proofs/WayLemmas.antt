@@ -10,13 +10,11 @@ use Rattle.mir_ty.specs.Facts.{needs_drop}
 use Rattle.store_model.specs.Places.TypeForms.{is_never}
 use Rattle.cfg_graph.specs.declared.graph.Block.{Block}
 use Rattle.cfg_graph.specs.declared.graph.Body.{Body}
-use Rattle.cfg_graph.specs.declared.place.Place.{Place}
 use Rattle.cfg_graph.specs.declared.terminator.Term.{Term}
 use Rattle.cfg_graph.specs.declared.terminator.Unwind.{Unwind}
-use Rattle.cfg_graph.specs.Edges.{Exit, ToBlock, LeavesBody, ways_out, unwind_exit}
-use Rattle.cfg_graph.specs.Moves.Paths.{ways}
+use Rattle.cfg_graph.specs.Edges.{Exit, ToBlock, unwind_exit}
 use Rattle.cfg_graph.specs.Places.{place_id, ty_of_place}
-use Rattle.init_flow.specs.Ways.{number_of, block_of, target_among, way_target, target, exit_at, on_paths}
+use Rattle.init_flow.specs.Ways.{block_of, target_among, way_target, target, exit_at, on_paths}
 
 not-eqb : (a b : ℕ) → a ≢ b → (a == b) ≡ false
 not-eqb a b other = elim (eqb_tells a b) [ inl same ↦ absurd (other same.1) | inr apart ↦ apart.0 ]

@@ -32,7 +32,8 @@ module _ (target : (block way : ℕ) → Option ℕ) (pass : (block way : ℕ) �
   CarriesBit start block bit = (row : Row) × IsCarried start block row × (slice_index_or row bit false ≡ true)
 
 -- exactly the bits that some path carries to a block
-abbrev pub AreCarried : (blocks : ℕ) (target : ℕ → ℕ → Option ℕ) (pass : ℕ → ℕ → Row → Row) (start : Row) → List Row → Type 0
+abbrev pub AreCarried :
+    (blocks : ℕ) (target : ℕ → ℕ → Option ℕ) (pass : ℕ → ℕ → Row → Row) (start : Row) → List Row → Type 0
 AreCarried blocks target pass start rows =
     (block bit : ℕ) → block < blocks →
     (slice_index_or (slice_index_or rows block []) bit false ≡ true) ↔ CarriesBit target pass start block bit

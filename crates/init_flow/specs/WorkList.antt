@@ -9,8 +9,8 @@ use Rattle.cfg_graph.specs.declared.graph.Body.{Body}
 use Rattle.init_flow.specs.Ways.{target}
 use Rattle.init_flow.specs.Carried.{Row}
 
--- what a solver is to solve: how many blocks there are, how many bits a row has, the row that paths start with, where the
--- ways of each block lead, and what they make of a row
+-- what a solver is to solve: how many blocks there are, how many bits a row has, the row that paths start with, where
+-- the ways of each block lead, and what they make of a row
 pub record Problem : Type 0 where
   pub blocks : ℕ
   pub width : ℕ
@@ -52,7 +52,11 @@ ways_in flow = map (λ entry. way_at entry.1 (bit entry.2)) (heap_items flow.hea
 -- before a block was reached
 abbrev pub untouched : (width blocks : ℕ) → State
 untouched width blocks =
-    record { rows = replicate blocks (replicate width false); reached = replicate blocks false; waiting = replicate (blocks * 2) false }
+    record {
+      rows = replicate blocks (replicate width false);
+      reached = replicate blocks false;
+      waiting = replicate (blocks * 2) false;
+    }
 
 -- a way that waits, as it did or not
 pub record Waits (old new : Flow) (i : ℕ) : Type 0 where
@@ -90,7 +94,9 @@ left flow = unsettled (state_of flow) * 3 + length (ways_in flow)
 module _ (f : Problem) where
   pub data Onward : ℕ → Row → ℕ → Row → Type 0 where
     here : (n : ℕ) (row : Row) → Onward n row n row
-    there : (n k m : ℕ) (row : Row) (last : ℕ) (end : Row) → f.target n k ≡ Some m → k < 2 → Onward m (f.pass n k row) last end → Onward n row last end
+    there :
+        (n k m : ℕ) (row : Row) (last : ℕ) (end : Row) →
+        f.target n k ≡ Some m → k < 2 → Onward m (f.pass n k row) last end → Onward n row last end
 
   -- a union of rows that paths carry to a block, of one at least
   pub data Made : ℕ → Row → Type 0 where
@@ -101,7 +107,9 @@ module _ (f : Problem) where
   pub record Law : Type 0 where
     pub begins : length f.start ≡ f.width
     pub keeps : (n k : ℕ) (row : Row) → length row ≡ f.width → length (f.pass n k row) ≡ f.width
-    pub distributes : (n k : ℕ) (a b : Row) → length a ≡ f.width → length b ≡ f.width → f.pass n k (union a b) ≡ union (f.pass n k a) (f.pass n k b)
+    pub distributes :
+        (n k : ℕ) (a b : Row) → length a ≡ f.width → length b ≡ f.width →
+        f.pass n k (union a b) ≡ union (f.pass n k a) (f.pass n k b)
 
   -- Of all ways but one, of which the number is given, those that do not wait have done what they do.
   pub record Good (s : State) (heap : List ℕ) (but : ℕ) : Type 0 where
@@ -111,8 +119,10 @@ module _ (f : Problem) where
     pub widths : (n : ℕ) → n < f.blocks → length (row_at s n) ≡ f.width
     pub made : (n : ℕ) → n < f.blocks → is_reached s n ≡ true → Made n (row_at s n)
     pub none : (n : ℕ) → n < f.blocks → is_reached s n ≡ false → row_at s n ≡ replicate f.width false
-    pub flows : (n k m : ℕ) → n < f.blocks → m < f.blocks → k < 2 → f.target n k ≡ Some m → is_reached s n ≡ true → way_at n k ≢ but → waits s (way_at n k) ≡ false
-        → (is_reached s m ≡ true) × (union (f.pass n k (row_at s n)) (row_at s m) ≡ row_at s m)
+    pub flows :
+        (n k m : ℕ) → n < f.blocks → m < f.blocks → k < 2 → f.target n k ≡ Some m →
+        is_reached s n ≡ true → way_at n k ≢ but → waits s (way_at n k) ≡ false →
+        (is_reached s m ≡ true) × (union (f.pass n k (row_at s n)) (row_at s m) ≡ row_at s m)
     pub within : (i : ℕ) → Contains heap i → i < f.blocks * 2
     pub held : (i : ℕ) → waits s i ≡ true → Contains heap i
     pub known : (n k : ℕ) → k < 2 → Contains heap (way_at n k) → (n < f.blocks) × (is_reached s n ≡ true)

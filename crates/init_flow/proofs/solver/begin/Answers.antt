@@ -1,4 +1,4 @@
-use Rattle.std.proofs.Common.{◌≡◌, ◌<◌, ◌+◌, ◌*◌, ℕ, ap, sym, ◌∙◌, length, rules, arith, IfOk}
+use Rattle.std.proofs.Common.{rules}
 use Rattle.init_flow.specs.WorkList.{Problem, Law, problem}
 use Rattle.init_flow.proofs.Turn.{begins, nonempty, on_ok}
 use Rattle.init_flow.proofs.solver.begin.Goals as goal

@@ -1,6 +1,6 @@
-use Rattle.std.proofs.Common.{◌≡◌, ◌<◌, ◌+◌, ◌*◌, ℕ, Option, Some, ap, sym, ◌∙◌, length, rules, arith}
+use Rattle.std.proofs.Common.{◌≡◌, ℕ, ap, sym, ◌∙◌, arith}
 use Rattle.init_flow.specs.Ways.{target}
-use Rattle.init_flow.specs.WorkList.{Problem, Law, problem, bit, Turns, state_of, row_at}
+use Rattle.init_flow.specs.WorkList.{Problem, Law, problem, bit}
 use Rattle.init_flow.proofs.HeapLemmas.{byte-bit}
 use Rattle.init_flow.proofs.Turn.{nowhere, turned, on_ok, no_some, some_one}
 use Rattle.init_flow.proofs.solver.turn.Goals as goal
@@ -14,7 +14,7 @@ returns-in_default g c =
       distributes = λ n k a b l m. g.met.A.Analysis.distributes c.args.analysis.now c.args.body.now n k a b l m;
     } in
     let to : target c.args.items.now c.args.body.now c.args.block (bit c.args.way) ≡ c.target.result =
-        ap (target c.args.items.now c.args.body.now c.args.block) (sym (byte-bit c.args.way)) ∙ sym c.target.ensures.to in
+    ap (target c.args.items.now c.args.body.now c.args.block) (sym (byte-bit c.args.way)) ∙ sym c.target.ensures.to in
     nowhere f law c.args.flow.now c.args.block c.args.way c.requires.good (λ x e l. no_some x (target c.args.items.now c.args.body.now c.args.block (bit c.args.way)) (to ∙ c.in_default.is) e)
 
 pub returns-then-to-len : goal.returns-then-to-len
@@ -26,7 +26,7 @@ returns-then-to-len g c =
       distributes = λ n k a b l m. g.met.A.Analysis.distributes c.args.analysis.now c.args.body.now n k a b l m;
     } in
     let to : target c.args.items.now c.args.body.now c.args.block (bit c.args.way) ≡ c.target.result =
-        ap (target c.args.items.now c.args.body.now c.args.block) (sym (byte-bit c.args.way)) ∙ sym c.target.ensures.to in
+    ap (target c.args.items.now c.args.body.now c.args.block) (sym (byte-bit c.args.way)) ∙ sym c.target.ensures.to in
     nowhere f law c.args.flow.now c.args.block c.args.way c.requires.good
     (λ x e l. let same : x ≡ c.in-Some.to = some_one x c.in-Some.to (sym e ∙ to ∙ c.in-Some.is) in let past = c.if-to-len.true in let count = c.len.ensures in let rows = c.requires.good.rows_are in absurd (omega (same, past, count, rows, l, arith)))
 
@@ -39,7 +39,7 @@ returns g c =
       distributes = λ n k a b l m. g.met.A.Analysis.distributes c.args.analysis.now c.args.body.now n k a b l m;
     } in
     let to : target c.args.items.now c.args.body.now c.args.block (bit c.args.way) ≡ c.target.result =
-        ap (target c.args.items.now c.args.body.now c.args.block) (sym (byte-bit c.args.way)) ∙ sym c.target.ensures.to in
+    ap (target c.args.items.now c.args.body.now c.args.block) (sym (byte-bit c.args.way)) ∙ sym c.target.ensures.to in
     on_ok (turned f law c.args.flow.now c.arrive.new.self c.args.block c.in-Some.to c.args.way c.pass.new.row c.requires.good c.requires.block c.requires.reached (to ∙ c.in-Some.is)
     (let within = c.if-to-len.false in let count = c.len.ensures in let rows = c.requires.good.rows_are in omega (within, count, rows, arith))
     (c.pass.ensures ∙ ap (λ (n : ℕ). g.A.Analysis.passed c.args.analysis.now c.args.body.now c.args.block n c.in_ok-row.row) (byte-bit c.args.way) ∙ ap (g.A.Analysis.passed c.args.analysis.now c.args.body.now c.args.block (bit c.args.way)) (c.in_ok-row.ensures ∙ c.row_of.ensures))) c.arrive.result c.arrive.ensures

@@ -1,4 +1,4 @@
-use Rattle.std.proofs.Common.{◌≡◌, ◌+◌, ◌*◌, ap, sym, subst, ◌<◌, ◌∙◌, ℕ, List, Bool, false, slice_set, length}
+use Rattle.std.proofs.Common.{◌+◌, ◌*◌, ap, sym, subst, ◌<◌, ◌∙◌, ℕ, List, Bool, false, slice_set, length}
 use Rattle.init_flow.proofs.HeapLemmas.{Entry, byte-bit, popped-was, popped-kept, popped-only, popped-shorter}
 use Rattle.std.specs.BinaryHeap.{heap_items}
 use Rattle.init_flow.proofs.flow.Flow.take.Goals as goal

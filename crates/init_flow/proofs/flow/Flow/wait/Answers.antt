@@ -1,4 +1,4 @@
-use Rattle.std.proofs.Common.{◌≡◌, ◌+◌, ◌*◌, ap, subst, ◌<◌, ◌∙◌, ℕ, List, Bool, true, slice_set, length, inl, inr, rules, arith}
+use Rattle.std.proofs.Common.{◌+◌, ◌*◌, ap, ◌∙◌, ℕ, List, Bool, true, slice_set, inr}
 use Rattle.init_flow.proofs.HeapLemmas.{Entry, byte-bit, pushed-kept, pushed-only, pushed-there, pushed-longer}
 use Rattle.std.specs.BinaryHeap.{heap_items}
 use Rattle.init_flow.proofs.flow.Flow.wait.Goals as goal
