@@ -8,12 +8,14 @@ use Rattle.src_tree.specs.Layout.{node, parts_of, depth, parts_depth}
 use Rattle.src_tree.specs.Reading.{and_then, only_if, with_sub, frame, close_all, whole, start}
 use Rattle.src_tree.proofs.Complete.{Tree, Held, Stack, run, complete}
 use Rattle.src_parse.specs.Reads.{IsItems}
-use Rattle.src_parse.proofs.Depth.{total, need}
+use Rattle.src_parse.proofs.Depth.{total, total_up, need}
 use Rattle.src_parse.proofs.Sound.{Good, start_good, handed_on}
 use Rattle.src_parse.proofs.Finish.{run_append}
 use Rattle.src_parse.proofs.Answer.{started, sound}
 use Rattle.src_parse.proofs.Lower.{Fitted, up_hand, fitted_on, needs_run, Later}
-use Rattle.src_parse.proofs.Within.{finish_within}
+use Rattle.src_parse.proofs.Within.{finish_within, handed_depth}
+use Rattle.src_parse.proofs.Alive.{at_once}
+use Rattle.src_parse.proofs.Shallow.{fits, fits_made}
 
 -- where all nodes end, the tree is as deep as the state needs
 abbrev Deep : Stack → Option Tree → Type 0
@@ -52,6 +54,44 @@ closes_deep (frame c0 q0 a0 d0 ∷ S) c q d g f = ended (made q) refl (λ r. clo
 whole_deep : (s : Stack) → Good s → Fitted s → Deep s (whole s)
 whole_deep [] g f = absurd g
 whole_deep (frame c q at d ∷ S) g f = closes_deep S c q d g f
+
+-- and no deeper
+abbrev pub NoDeeper : Stack → Option Tree → Type 0
+NoDeeper s None = Unit {0}
+NoDeeper s (Some g) = depth g ≤ need s
+
+closes_within : (S : Stack) (c : Place) (q : Rest) (d : Held) → Good (frame c q tt d ∷ S) → Fitted (frame c q tt d ∷ S) → NoDeeper (frame c q tt d ∷ S) (close_all S c q tt d)
+closes_within [] c q d g f = go (made q) refl
+  where
+    go : (o : Option Row) → made q ≡ o → NoDeeper (frame c q tt d ∷ []) (option_map (λ r. node tt r d) o)
+    go None m = tt
+    go (Some r) m =
+        let file : Row.File ≡ r = (let e : Some Row.File ≡ Some r = ap (λ z. made z) (sym g.1) ∙ m in cc) in
+        subst (λ z. counts z + parts_depth d ≤ total c q (parts_depth d)) file (let u = total_up c q (parts_depth d) in omega arith)
+closes_within (frame c0 q0 a0 d0 ∷ S) c q d g f = ended (made q) refl (λ r. closes_within S c0 (behind q0 r) (with_sub d0 (node tt r d)))
+  where
+    lower : (s from : Stack) (o : Option Tree) → need s ≤ need from → NoDeeper s o → NoDeeper from o
+    lower s from None e h = tt
+    lower s from (Some x) e h = omega arith
+
+    handing : (r : Row) → made q ≡ Some r
+        → (Good (frame c0 (behind q0 r) tt (with_sub d0 (node tt r d)) ∷ S) → Fitted (frame c0 (behind q0 r) tt (with_sub d0 (node tt r d)) ∷ S) → NoDeeper (frame c0 (behind q0 r) tt (with_sub d0 (node tt r d)) ∷ S) (close_all S c0 (behind q0 r) tt (with_sub d0 (node tt r d))))
+        → (a : Bool) → allowed c r ≡ a → NoDeeper (frame c q tt d ∷ frame c0 q0 a0 d0 ∷ S) (only_if a (close_all S c0 (behind q0 r) tt (with_sub d0 (node tt r d))))
+    handing r m ih false e = tt
+    handing r m ih true e =
+        lower (frame c0 (behind q0 r) tt (with_sub d0 (node tt r d)) ∷ S) (frame c q tt d ∷ frame c0 q0 a0 d0 ∷ S) (close_all S c0 (behind q0 r) tt (with_sub d0 (node tt r d)))
+        (handed_depth c0 q0 d0 S g.1.0 r (node tt r d) (total c q (parts_depth d)) g.1.1 g.4 f.1 (fits_made c q r (parts_depth d) (at_once (fits c) q f.0) m))
+        (ih (handed_on c q d c0 q0 d0 S r m e g) (fitted_on c0 q0 d0 (with_sub d0 (node tt r d)) S g.1.0 r g.1.1 f.1))
+
+    ended : (o : Option Row) → made q ≡ o
+        → ((r : Row) → Good (frame c0 (behind q0 r) tt (with_sub d0 (node tt r d)) ∷ S) → Fitted (frame c0 (behind q0 r) tt (with_sub d0 (node tt r d)) ∷ S) → NoDeeper (frame c0 (behind q0 r) tt (with_sub d0 (node tt r d)) ∷ S) (close_all S c0 (behind q0 r) tt (with_sub d0 (node tt r d))))
+        → NoDeeper (frame c q tt d ∷ frame c0 q0 a0 d0 ∷ S) (and_then o (λ r. only_if (allowed c r) (close_all S c0 (behind q0 r) tt (with_sub d0 (node tt r d)))))
+    ended None m ih = tt
+    ended (Some r) m ih = handing r m (ih r) (allowed c r) refl
+
+pub whole_within : (s : Stack) → Good s → Fitted s → NoDeeper s (whole s)
+whole_within [] g f = absurd g
+whole_within (frame c q at d ∷ S) g f = closes_within S c q d g f
 
 pub reached : (ts : List Token) (s : Stack) → started ts ≡ Some s → Good s × Fitted s
 reached ts s a = let l : Later (start tt) (Some s) = subst (Later (start tt)) a (needs_run ts (start tt) start_good tt) in (l.0, l.1)

@@ -1,5 +1,5 @@
 -- From each point of a row there is a way to its end that is as little deep as can be.
-use Rattle.std.proofs.Common.{◌≡◌, ℕ, ◌+◌, ◌≤◌, max, min, nat_le, Bool, true, false, ◌&&◌, ◌||◌, not, Option, Some, None, refl, arith, if◌then◌else◌}
+use Rattle.std.proofs.Common.{subst, ◌≡◌, ℕ, ◌+◌, ◌≤◌, max, min, nat_le, Bool, true, false, ◌&&◌, ◌||◌, not, Option, Some, None, refl, arith, if◌then◌else◌}
 use Rattle.std.proofs.lemmas.Bool.{and_parts, leb-true}
 use Rattle.src_token.specs.declared.token.Token.{Token}
 use Rattle.src_token.specs.declared.mark.Mark.{Mark}
@@ -7,14 +7,14 @@ use Rattle.src_tree.specs.declared.row.Row.{Row}
 use Rattle.src_tree.specs.declared.place.Place.{Place}
 use Rattle.src_tree.specs.declared.place.Start.{Start}
 use Rattle.src_tree.specs.declared.kind.Kind.{Kind}
-use Rattle.src_tree.specs.Grammar.{Rest, ends, token, either, part, maybe, list, more, many, items, alternatives, statements, arms, arm_body, after_break, is, allowed, place_of, counts, move}
+use Rattle.src_tree.specs.Grammar.{made, Rest, ends, token, either, part, maybe, list, more, many, items, alternatives, statements, arms, arm_body, after_break, is, allowed, place_of, counts, move}
 use Rattle.src_tree.specs.Layout.{end, tok, sub, depth, parts_depth, Follows}
-use Rattle.src_tree.proofs.Follow.{is_known}
+use Rattle.src_tree.proofs.Follow.{all_ends, is_known}
 use Rattle.src_tree.proofs.Complete.{Held}
 use Rattle.src_parse.specs.declared.bound.Bound.{Bound}
 use Rattle.src_parse.specs.Bounds.{least_place, value, ended_by, lesser, bound, most}
 use Rattle.src_parse.proofs.Alive.{sample, is_sample, leaf, leaf_places, leaf_from, all_leaves, leaf_block, way_arms, joinable, ender}
-use Rattle.src_parse.proofs.Depth.{settle_by, settle, settle_mono, possible, poss, total, pick, fit}
+use Rattle.src_parse.proofs.Depth.{total_heavy, settle_by, settle, settle_mono, possible, poss, total, pick, fit}
 
 abbrev pub at_most : Bound → Bound → Bool
 at_most x y = nat_le x.floor y.floor && nat_le x.around y.around
@@ -145,8 +145,13 @@ shallow c (arms o) = true
 shallow c arm_body = true
 shallow c after_break = true
 
+-- where it may end, the row that it then is counts the least
+abbrev even_by : Option Row → Rest → Bool
+even_by None q = true
+even_by (Some r) q = all_ends (λ x. nat_le (counts r) (counts x)) q
+
 abbrev pub fits : Place → Rest → Bool
-fits c q = fit c q && (formed c q && (shallow c q && at_most (bound c q) most))
+fits c q = fit c q && (formed c q && (shallow c q && (at_most (bound c q) most && even_by (made q) q)))
 
 pub fits_fit : (c : Place) (q : Rest) → fits c q ≡ true → fit c q ≡ true
 fits_fit c q h = (and_parts (fit c q) _ h).0
@@ -158,7 +163,12 @@ pub fits_shallow : (c : Place) (q : Rest) → fits c q ≡ true → shallow c q 
 fits_shallow c q h = (and_parts (shallow c q) _ (and_parts (formed c q) _ (and_parts (fit c q) _ h).1).1).0
 
 pub fits_most : (c : Place) (q : Rest) → fits c q ≡ true → ((bound c q).floor ≤ 3) × ((bound c q).around ≤ 2)
-fits_most c q h = at_most_is (bound c q) most (and_parts (shallow c q) _ (and_parts (formed c q) _ (and_parts (fit c q) _ h).1).1).1
+fits_most c q h = at_most_is (bound c q) most (and_parts (at_most (bound c q) most) _ (and_parts (shallow c q) _ (and_parts (formed c q) _ (and_parts (fit c q) _ h).1).1).1).0
+
+pub fits_made : (c : Place) (q : Rest) (r : Row) (d : ℕ) → fits c q ≡ true → made q ≡ Some r → counts r + d ≤ total c q d
+fits_made c q r d h m =
+    let e = (and_parts (at_most (bound c q) most) _ (and_parts (shallow c q) _ (and_parts (formed c q) _ (and_parts (fit c q) _ h).1).1).1).1 in
+    total_heavy c q d (counts r) (subst (λ o. even_by o q ≡ true) m e)
 
 by_test : (h : Bool) (r : Row) (ps : Held) (b : Bool) (q : Rest) (o : Option Rest) → b ≡ true → Follows h (Some q) r ps → Follows h (if b then Some q else o) r ps
 by_test h r ps true q o e f = f

@@ -8,7 +8,7 @@ use Rattle.src_token.specs.declared.token.Spanned.{Spanned}
 use Rattle.src_tree.specs.declared.node.Tree as tree
 use Rattle.src_tree.specs.declared.row.Row.{Row}
 use Rattle.src_tree.specs.Grammar.{allowed, made}
-use Rattle.src_tree.specs.Layout.{node, parts_of, parts_depth, spell_parts, ItemsLevelled}
+use Rattle.src_tree.specs.Layout.{node, parts_depth, spell_parts, ItemsLevelled}
 use Rattle.src_tree.specs.Laws.{unplaced_parts}
 use Rattle.src_tree.specs.Reading.{and_then, only_if, whole}
 use Rattle.src_tree.specs.View.{items_of}
@@ -21,7 +21,7 @@ use Rattle.src_parse.specs.Answers.{tokens_in, places_in, PartsPlaced, IsTree, B
 use Rattle.src_parse.specs.Counting.{Counted, start, need_of, passes, with_node, act, step, read, close}
 use Rattle.src_parse.proofs.Depth.{need}
 use Rattle.src_parse.proofs.Answer.{started, begins, no_more, sound}
-use Rattle.src_parse.proofs.Limit.{reached, at_least, no_deeper}
+use Rattle.src_parse.proofs.Limit.{reached, at_least, no_deeper, NoDeeper, whole_within}
 use Rattle.src_parse.proofs.Bare.{erase, read_bare, close_bare, depth_unplaced_parts, items_placed}
 use Rattle.src_parse.proofs.Numbers.{cap, needed, Holds, need_counted, need_is, act_holds, node_holds, stays_within, goes_past}
 use Rattle.src_parse.proofs.Spots.{InPlace, left, At, act_at, close_at, EndPlaced}
@@ -126,26 +126,6 @@ deep_is ss e i s f S f2 S2 g r n a d =
 
 -- The end.
 
-abbrev EndHolds : Option Counted → Type 0
-EndHolds None = Unit {0}
-EndHolds (Some h) = h.deepest ≡ cap (parts_depth h.parts)
-
-close_holds : (S : List Counted) (f : Counted) → Holds (f ∷ S) → EndHolds (close S f)
-close_holds [] f h = go (made f.rest)
-  where
-    go : (m : Option Row) → EndHolds (option_map (λ r. f) m)
-    go None = tt
-    go (Some r) = h.0
-close_holds (g ∷ S) f h = go (made f.rest) (λ r. close_holds S (with_node g f r))
-  where
-    only : (r : Row) → (Holds (with_node g f r ∷ S) → EndHolds (close S (with_node g f r))) → (a : Bool) → EndHolds (only_if a (close S (with_node g f r)))
-    only r ih true = ih (node_holds g f S r h)
-    only r ih false = tt
-
-    go : (m : Option Row) → ((r : Row) → Holds (with_node g f r ∷ S) → EndHolds (close S (with_node g f r))) → EndHolds (and_then m (λ r. only_if (allowed f.place r) (close S (with_node g f r))))
-    go None ih = tt
-    go (Some r) ih = only r (ih r) (allowed f.place r)
-
 abbrev EndMade : Option Counted → Type 0
 EndMade None = Unit {0}
 EndMade (Some h) = (r : Row) × (made h.rest ≡ Some r)
@@ -166,14 +146,18 @@ close_made (g ∷ S) f = go (made f.rest) (λ r. close_made S (with_node g f r))
     go None ih = tt
     go (Some r) ih = only r (ih r) (allowed f.place r)
 
-pub tree_is : (ss : List Spanned) (e : Pos) (f : Counted) (S : List Counted) (h : Counted) (t : tree.Tree) → from_start ss e ≡ Some (f ∷ S) → close S f ≡ Some h → h.deepest ≤ limit → items_of t ≡ h.parts → t.end ≡ e → IsTree ss e t
+pub tree_is : (ss : List Spanned) (e : Pos) (f : Counted) (S : List Counted) (h : Counted) (t : tree.Tree) → from_start ss e ≡ Some (f ∷ S) → close S f ≡ Some h → need_of f ≤ limit → items_of t ≡ h.parts → t.end ≡ e → IsTree ss e t
 tree_is ss e f S h t r c d i x =
     let k = kept ss e (f ∷ S) r in
-    let n = subst EndHolds c (close_holds S f k.0) in
+    let n = need_read ss e f S r in
     let p = subst (λ o. EndPlaced o (places_in ss)) c (close_at S f (places_in ss) [] k.1) in
     let (row, m) = subst EndMade c (close_made S f) in
     let w : and_then (started (tokens_in ss)) (λ s. whole s) ≡ Some (node tt row (unplaced_parts h.parts)) =
     ap (λ o. and_then o (λ s. whole s)) (plain_state ss e (Some (f ∷ S)) r) ∙ close_bare S f ∙ ap (λ o. and_then o (λ h. option_map (λ r. node tt r (unplaced_parts h.parts)) (made h.rest))) c ∙ ap (λ o. option_map (λ r. node tt r (unplaced_parts h.parts)) o) m in
+    let w2 : whole (erase (f ∷ S)) ≡ Some (node tt row (unplaced_parts h.parts)) = ap (λ o. and_then o (λ s. whole s)) (sym (plain_state ss e (Some (f ∷ S)) r)) ∙ w in
+    let g = reached (tokens_in ss) (erase (f ∷ S)) (plain_state ss e (Some (f ∷ S)) r) in
+    let no_deep : NoDeeper (erase (f ∷ S)) (Some (node tt row (unplaced_parts h.parts))) = subst (NoDeeper (erase (f ∷ S))) w2 (whole_within (erase (f ∷ S)) g.0 g.1) in
+    let u = depth_unplaced_parts h.parts in
     let so = sound (tokens_in ss) (node tt row (unplaced_parts h.parts)) w in record {
       levelled = subst (λ z. ItemsLevelled z) (sym i) (items_placed h.parts so.1);
       within = subst (λ z. parts_depth z ≤ limit) (sym i) (omega arith);
@@ -212,16 +196,3 @@ pub end_none : (ss : List Spanned) (e : Pos) (f : Counted) (S : List Counted) �
 end_none ss e f S r n c =
     end_bad ss e f S r n
     (λ g is w. let x : None ≡ Some (node tt Row.File g) = ap (λ o. and_then o (λ h. option_map (λ r. node tt r (unplaced_parts h.parts)) (made h.rest))) (sym c) ∙ end_of ss e f S g r is in absurd (cc))
-
-pub end_deep : (ss : List Spanned) (e : Pos) (f : Counted) (S : List Counted) (h : Counted) → from_start ss e ≡ Some (f ∷ S) → need_of f ≤ limit → close S f ≡ Some h → limit < h.deepest → IsRefused ss e (Syntax (length ss) e)
-end_deep ss e f S h r n c d =
-    end_bad ss e f S r n
-    (λ g is w. (
-    let (row, m) = subst EndMade c (close_made S f) in
-    let k = subst EndHolds c (close_holds S f (kept ss e (f ∷ S) r).0) in
-    let x : Some (node tt row (unplaced_parts h.parts)) ≡ Some (node tt Row.File g) = ap (λ o. option_map (λ r. node tt r (unplaced_parts h.parts)) o) (sym m) ∙ ap (λ o. and_then o (λ h. option_map (λ r. node tt r (unplaced_parts h.parts)) (made h.rest))) (sym c) ∙ end_of ss e f S g r is in
-    let y : node tt row (unplaced_parts h.parts) ≡ node tt Row.File g = cc in
-    let u = depth_unplaced_parts h.parts in
-    let v = ap (λ z. parts_depth (parts_of z)) y in
-    omega arith
-    ))

@@ -37,7 +37,7 @@ and_depth (tok t rest) ps = and_depth rest ps
 and_depth (sub g rest) ps = let h = and_depth rest ps in omega arith
 
 -- a node of this depth is handed on
-handed_depth : (c0 : Place) (q0 : Rest) (d0 : Held) (S : Stack) (p : Part) (r : Row) (g : Tree) (n : ℕ) → due q0 ≡ Some p → Good (frame c0 q0 tt d0 ∷ S) → Fitted (frame c0 q0 tt d0 ∷ S) → depth g ≤ n
+pub handed_depth : (c0 : Place) (q0 : Rest) (d0 : Held) (S : Stack) (p : Part) (r : Row) (g : Tree) (n : ℕ) → due q0 ≡ Some p → Good (frame c0 q0 tt d0 ∷ S) → Fitted (frame c0 q0 tt d0 ∷ S) → depth g ≤ n
     → need (frame c0 (behind q0 r) tt (with_sub d0 g) ∷ S) ≤ below (frame c0 q0 tt d0 ∷ S) n
 handed_depth c0 q0 d0 S p r g n e gd f h =
     let k = fit_of c0 q0 d0 S gd f in

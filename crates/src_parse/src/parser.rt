@@ -37,10 +37,6 @@ pub fn parse(alloc: Global, tokens: &[Spanned], end: Pos) -> Result<Tree, ParseE
     if !close(&mut below, &mut top)? {
         return Err(ParseError::Syntax { at, pos: end });
     }
-    // The last item has been counted with its last token; this tests it once more.
-    if top.deepest > LIMIT {
-        return Err(ParseError::Syntax { at, pos: end });
-    }
     Ok(Tree {
         items: top.parts,
         end,

@@ -1,11 +1,11 @@
-use Rattle.std.proofs.Common.{rules, ◌≡◌, ◌<◌, ◌≤◌, ◌+◌, suc, Some, None, ◌∷◌, length, take, slice_get, refl, sym, ap, ◌∙◌, subst, arith}
+use Rattle.std.proofs.Common.{rules, ◌≡◌, ◌<◌, ◌+◌, suc, Some, None, ◌∷◌, length, take, slice_get, refl, sym, ap, ◌∙◌, subst, arith}
 use Rattle.std.proofs.lemmas.Option.{slice_get-get_or}
 use Rattle.src_parse.specs.declared.error.ParseError.TheVariants.{Syntax, TooDeep}
 use Rattle.src_parse.specs.Answers.{IsRefused}
 use Rattle.src_parse.specs.Bounds.{limit}
 use Rattle.src_parse.specs.Counting.{act, close, need_of}
 use Rattle.src_parse.specs.View.{frame_of, stack_of}
-use Rattle.src_parse.proofs.Verdict.{from_start, next_state, syntax_is, deep_is, tree_is, end_none, end_deep, take_all, within_limit}
+use Rattle.src_parse.proofs.Verdict.{from_start, next_state, syntax_is, deep_is, tree_is, end_none, take_all, within_limit}
 use Rattle.src_parse.proofs.Numbers.{goes_past}
 use Rattle.src_parse.proofs.parser.parse.Goals as goal
 
@@ -67,20 +67,6 @@ returns-then-not-branch-2-clause-refused c =
     let n : close S f ≡ None = search rules in
     subst (λ z. IsRefused ts c.args.end (Syntax z c.args.end)) (sym whole ∙ sym v.2) (end_none ts c.args.end f S r (within_limit ts c.args.end f S r v.1) n)
 
-pub returns-then-top-gt-LIMIT-clause-refused : goal.returns-then-top-gt-LIMIT-clause-refused
-returns-then-top-gt-LIMIT-clause-refused c =
-    let ts = c.args.tokens.now in
-    let i = c.loop-spanned.spanned-index in
-    let f = frame_of c.loop-spanned.top in
-    let S = stack_of c.loop-spanned.below in
-    let h = frame_of c.close.new.top in
-    let v = c.loop-spanned.invariant in
-    let whole : i ≡ length ts = search rules in
-    let r : from_start ts c.args.end ≡ Some (f ∷ S) = ap (λ z. from_start z c.args.end) (sym (take_all ts) ∙ ap (λ n. take n ts) (sym whole)) ∙ v.0 in
-    let n : close S f ≡ Some h = search rules in
-    let d : limit < h.deepest = search rules in
-    subst (λ z. IsRefused ts c.args.end (Syntax z c.args.end)) (sym whole ∙ sym v.2) (end_deep ts c.args.end f S h r (within_limit ts c.args.end f S r v.1) n d)
-
 pub returns-clause-tree : goal.returns-clause-tree
 returns-clause-tree c =
     let ts = c.args.tokens.now in
@@ -92,5 +78,4 @@ returns-clause-tree c =
     let whole : i ≡ length ts = search rules in
     let r : from_start ts c.args.end ≡ Some (f ∷ S) = ap (λ z. from_start z c.args.end) (sym (take_all ts) ∙ ap (λ n. take n ts) (sym whole)) ∙ v.0 in
     let n : close S f ≡ Some h = search rules in
-    let d : h.deepest ≤ limit = search rules in
-    tree_is ts c.args.end f S h (record { items = c.close.new.top.parts; end = c.args.end }) r n d refl refl
+    tree_is ts c.args.end f S h (record { items = c.close.new.top.parts; end = c.args.end }) r n (within_limit ts c.args.end f S r v.1) refl refl
