@@ -1,10 +1,12 @@
 -- A body that is lowered holds the code of its source, is ranked, and has no edge to block 0. So a program that is lowered runs as its
 -- source does.
-use Rattle.std.proofs.Common.{◌≡◌, ◌⊎◌, ◌&&◌, inl, inr, ℕ, zero, suc, ◌<◌, ◌≤◌, ◌==◌, Bool, true, false, List, [], ◌∷◌, ◌++◌, length, map, Option, Some, None, slice_get, unwrap_or, cond, not, nat_lt, ◌+◌, Contains, length-append, add-one, refl, sym, ap, ◌∙◌, subst, arith}
+use Rattle.std.proofs.Common.{◌≡◌, ◌⊎◌, ◌&&◌, ◌||◌, inl, inr, ℕ, zero, suc, ◌<◌, ◌≤◌, ◌==◌, Bool, true, false, List, [], ◌∷◌, ◌++◌, length, map, Option, Some, None, slice_get, unwrap_or, cond, not, nat_lt, ◌+◌, length-append, add-one, refl, sym, ap, ◌∙◌, subst, arith}
+use Rattle.std.proofs.Math.Dec.{eqb-zero-suc}
 use Rattle.std.proofs.lemmas.Bool.Decides.{eqb_tells}
 use Rattle.std.proofs.lemmas.Option.{none-some, same_Some, slice_get_within}
 use Rattle.std.specs.Option.{option_map_or}
-use Rattle.std.specs.List.{list_all, position, prefix_len}
+use Rattle.std.specs.Prelude.{nat_eq}
+use Rattle.std.specs.List.{list_all, list_any, position, prefix_len}
 use Rattle.std.proofs.lemmas.Bool.{lt-ltb}
 use Rattle.mir_ty.proofs.ListLemmas.{slice_get-Contains}
 use Rattle.cfg_graph.specs.declared.graph.Block.{Block}
@@ -12,6 +14,8 @@ use Rattle.cfg_graph.specs.declared.graph.Body.{Body}
 use Rattle.cfg_graph.specs.declared.graph.Kind.{Kind}
 use Rattle.cfg_graph.specs.declared.terminator.Term.{Term}
 use Rattle.cfg_graph.specs.Edges.{IsRanked, is_cleanup, is_cleanup_kind, is_turn, onward, targets, unwind_targets}
+use Rattle.cfg_graph.specs.declared.statement.Stmt.{Stmt}
+use Rattle.cfg_graph.specs.Ready.{begins_once, frees_nothing}
 use Rattle.cfg_graph.specs.WellFormed.Cleanup.{keeps_to_cleanup}
 use Rattle.mir_ty.specs.ItemTable.{ItemTable}
 use Rattle.typed_tree.specs.Tree.{BodyTree, ProgramTree}
@@ -23,7 +27,7 @@ use Rattle.cfg_code.specs.Code.{BodyAt, FunctionAt}
 use Rattle.cfg_code.specs.Laws.{target_of, HoldsBody, HoldsProgram}
 use Rattle.cfg_code.specs.Spots.{Target, body_ways, StepAt, stays, goes, Joins}
 use Rattle.cfg_build.specs.Build.{Frame, Rest, Made, Building, ending, made, reserved, Lowers}
-use Rattle.cfg_build.specs.Laws.{NamesItsLoops, AllNameTheirLoops, LoweredRunsAsItsSource, LoweredWalksAsItRunsFreely, LoweredIsRanked, LoweredKeepsToCleanup}
+use Rattle.cfg_build.specs.Laws.{NamesItsLoops, AllNameTheirLoops, LoweredRunsAsItsSource, LoweredWalksAsItRunsFreely, LoweredIsRanked, LoweredKeepsToCleanup, LoweredIsPrepared}
 use Rattle.cfg_build.specs.Lower as lower
 use Rattle.cfg_build.specs.Lower.{frame, entire_function, start, built, blocks_of, nodes_of, body_of, node_in, node_of, graph_of}
 use Rattle.cfg_build.proofs.Forms.{function_at, function_lowers}
@@ -184,11 +188,6 @@ module _ (items : ItemTable) (tree : BodyTree) (named : NamesItsLoops tree) wher
       by_made None e h = subst (Well n) h (tt, λ l plain. omega arith)
       by_made (Some m) e h = subst (Well n) h (made_well n m e)
 
-  no_first : (n : ℕ) (block : Block) → slice_get (body_of items tree).blocks n ≡ Some block → Contains (targets block.term) 0 → ⊥
-  no_first n block e c =
-      let g = given_in block.rank (targets block.term) 0 (block_well n block e).0 c.0 (slice_get-Contains (targets block.term) 0 c) in
-      let g0 = g.0 in omega arith
-
   is_ranked : IsRanked (body_of items tree)
   is_ranked n m from to e c d plain =
       let g = given_in from.rank (targets from.term) m (block_well n from e).0 c.0 (slice_get-Contains (targets from.term) m c) in
@@ -274,20 +273,64 @@ module _ (items : ItemTable) (tree : BodyTree) (named : NamesItsLoops tree) wher
 
   start_tidy : rules.Tidy t begun
   start_tidy = rules.closed_tidy t Kind.Plain (ending Term.Return (answer_key tree)) (reserved (record { blocks = []; chains = [] }))
-      (rules.reserved_tidy t (record { blocks = []; chains = [] }) (record { blocks = λ n m e. absurd (none-some (Some m) e); chains = λ es n e. absurd (none-some n e) })) (tt, tt, refl)
+      (rules.reserved_tidy t (record { blocks = []; chains = [] }) (record { blocks = λ n m e. absurd (none-some (Some m) e); chains = λ es n e. absurd (none-some n e) })) ((tt, tt, refl), tt)
 
   return_plain : rules.KindAt t false 1
   return_plain = (returning.block, return_at.0, refl)
 
   code_tidy : rules.TidyAfter t r
-  code_tidy = lowered.tidies (body_ways 1) S last begun (return_plain, subst (λ jumps. rules.AllWays (rules.PlainWay t) (body_ways 1) jumps) (sym (no_jumps F tree named)) tt) later_code start_tidy ((return_plain, tt), tt, refl)
+  code_tidy = lowered.tidies (body_ways 1) S last begun (return_plain, subst (λ jumps. rules.AllWays (rules.PlainWay t) (body_ways 1) jumps) (sym (no_jumps F tree named)) tt) later_code start_tidy (((return_plain, tt), tt, refl), tt)
 
-  ends_well : (n : ℕ) (block : Block) → slice_get (body_of items tree).blocks n ≡ Some block → rules.EndsWell t (is_cleanup block) block.term
-  ends_well n block e = let h = from_mapped _ z.blocks n block e in by_made h.0 h.1 h.2
+  block_tidy : (n : ℕ) (block : Block) → slice_get (body_of items tree).blocks n ≡ Some block → rules.BlockWell t block
+  block_tidy n block e = let h = from_mapped _ z.blocks n block e in by_made h.0 h.1 h.2
     where
-      by_made : (o : Option Made) → slice_get z.blocks n ≡ Some o → (unwrap_or o lower.unmade).block ≡ block → rules.EndsWell t (is_cleanup block) block.term
-      by_made None e h = subst (λ block. rules.EndsWell t (is_cleanup block) block.term) h (tt, tt, refl)
-      by_made (Some m) e h = subst (λ block. rules.EndsWell t (is_cleanup block) block.term) h ((rules.filled_tidy t Kind.Plain 0 r.0 r.1 code_tidy.0 code_tidy.1).blocks n m e)
+      by_made : (o : Option Made) → slice_get z.blocks n ≡ Some o → (unwrap_or o lower.unmade).block ≡ block → rules.BlockWell t block
+      by_made None e h = subst (rules.BlockWell t) h ((tt, tt, refl), tt)
+      by_made (Some m) e h = subst (rules.BlockWell t) h ((rules.filled_tidy t Kind.Plain 0 r.0 r.1 code_tidy.0 code_tidy.1).blocks n m e)
+
+  -- ---- what elaboration asks of all bodies
+  abbrev with_blocks : List Block → Body
+  with_blocks blocks = record { params = 0; locals = []; blocks = blocks }
+
+  frees_none : (stmts : List Stmt) → rules.FreesNone t stmts → frees_nothing (with_blocks (record { kind = Kind.Plain; rank = 0; stmts = stmts; term = Term.Return } ∷ [])) ≡ true
+  frees_none [] h = refl
+  frees_none (Stmt.Put to from ∷ stmts) h = frees_none stmts h.1
+  frees_none (Stmt.Compare to op left right ∷ stmts) h = frees_none stmts h.1
+  frees_none (Stmt.Not to operand ∷ stmts) h = frees_none stmts h.1
+  frees_none (Stmt.Tuple to parts ∷ stmts) h = frees_none stmts h.1
+  frees_none (Stmt.Array to parts ∷ stmts) h = frees_none stmts h.1
+  frees_none (Stmt.Make to adt variant parts ∷ stmts) h = frees_none stmts h.1
+  frees_none (Stmt.Close to closure parts ∷ stmts) h = frees_none stmts h.1
+  frees_none (Stmt.NewBox to operand ∷ stmts) h = frees_none stmts h.1
+  frees_none (Stmt.Unsize to trait_no from ∷ stmts) h = frees_none stmts h.1
+  frees_none (Stmt.Borrow to unique of ∷ stmts) h = frees_none stmts h.1
+  frees_none (Stmt.Touch place ∷ stmts) h = frees_none stmts h.1
+  frees_none (Stmt.Print operand ∷ stmts) h = frees_none stmts h.1
+  frees_none (Stmt.Forget operand ∷ stmts) h = frees_none stmts h.1
+  frees_none (Stmt.Free place ∷ stmts) h = absurd h.0
+
+  first_true : (a b : Bool) → a && b ≡ true → a ≡ true
+  first_true true b e = refl
+  first_true false b e = e
+
+  blocks_free_none : (blocks : List Block) → ((n : ℕ) (block : Block) → slice_get blocks n ≡ Some block → rules.FreesNone t block.stmts) → frees_nothing (with_blocks blocks) ≡ true
+  blocks_free_none [] h = refl
+  blocks_free_none (block ∷ blocks) h = both _ _ (first_true _ _ (frees_none block.stmts (h 0 block refl))) (blocks_free_none blocks (λ n block e. h (suc n) block e))
+
+  not_first : (n : ℕ) (ms : List ℕ) → AllGiven n ms → list_any (nat_eq 0) ms ≡ false
+  not_first n [] h = refl
+  not_first n (zero ∷ ms) h = absurd (let i = h.0.0 in let never : ⊥ = omega arith in never)
+  not_first n (suc m ∷ ms) h = ap (λ x. x || list_any (nat_eq 0) ms) (eqb-zero-suc m) ∙ not_first n ms h.1
+
+  blocks_begin_once : (blocks : List Block) → ((n : ℕ) (block : Block) → slice_get blocks n ≡ Some block → AllGiven block.rank (targets block.term)) → begins_once (with_blocks blocks) ≡ true
+  blocks_begin_once [] h = refl
+  blocks_begin_once (block ∷ blocks) h = both _ _ (ap not (not_first block.rank (targets block.term) (h 0 block refl))) (blocks_begin_once blocks (λ n block e. h (suc n) block e))
+
+  frees : frees_nothing (body_of items tree) ≡ true
+  frees = blocks_free_none (body_of items tree).blocks (λ n block e. (block_tidy n block e).1)
+
+  begins : begins_once (body_of items tree) ≡ true
+  begins = blocks_begin_once (body_of items tree).blocks (λ n block e. (block_well n block e).0)
 
   holds : HoldsBody items tree (body_of items tree) (node_of items tree)
   holds = record { ranked = is_ranked; params = refl; locals = refl; holds_code = holds_code }
@@ -320,9 +363,12 @@ pub lowered_walks_as_it_runs_freely : LoweredWalksAsItRunsFreely
 lowered_walks_as_it_runs_freely items tree named list = walks_as_it_runs_freely items tree (body_of items tree) (node_of items tree) (holds items tree named) list
 
 pub lowered_is_ranked : LoweredIsRanked
-lowered_is_ranked items tree named = (is_ranked items tree named, no_first items tree named)
+lowered_is_ranked items tree named = is_ranked items tree named
 
 pub lowered_keeps_to_cleanup : LoweredKeepsToCleanup
 lowered_keeps_to_cleanup items tree named n block e =
-    let h = keeps items tree named block (ends_well items tree named n block e) in
+    let h = keeps items tree named block (block_tidy items tree named n block e).0 in
     (h.0, λ m c. stands_in items tree named (targets block.term) h.1 c.0 m (slice_get-Contains (targets block.term) m c))
+
+pub lowered_is_prepared : LoweredIsPrepared
+lowered_is_prepared items tree named = (frees items tree named, begins items tree named)

@@ -125,7 +125,7 @@ module _ (t : Target) where
         (a.has_end ≡ true → (S' ≡ S) × ((m : Pos) → built.Stands t k m → Leads t m b')) → spot (r, 0) c S b S' b')
     pub ranks : (c : Ways) (S : Scopes) (r : ℕ) (k : Rest) (s : Building) → JumpWays (BlockGiven (length s.blocks)) c a.jumps → Ranked s → LeadsOn k s → Given (length s.blocks) r →
         Ranked (a.build c S r k s).1 × LeadsOn (a.build c S r k s).0 (a.build c S r k s).1
-    pub tidies : (c : Ways) (S : Scopes) (r : ℕ) (k : Rest) (s : Building) → JumpWays (built.PlainWay t) c a.jumps → built.Later t (a.build c S r k s).1 → built.Tidy t s → built.LeadsWell t k.term →
+    pub tidies : (c : Ways) (S : Scopes) (r : ℕ) (k : Rest) (s : Building) → JumpWays (built.PlainWay t) c a.jumps → built.Later t (a.build c S r k s).1 → built.Tidy t s → built.RestWell t k →
         built.KindAt t false r → built.TidyAfter t (a.build c S r k s)
 
   abbrev pub LowersE : Evaluates → EvaluatesAt → Type 0
@@ -380,13 +380,13 @@ module _ (t : Target) where
       guard_ranks false c S r k s wa wp h l g = la.ranks c S k s wa h l
 
       guard_tidies : (x : Bool) (c : Ways) (S : Scopes) (r : ℕ) (k : Rest) (s : Building) → JumpWays (built.PlainWay t) c asked.jumps → JumpWays (built.PlainWay t) c (jumps_if x P.jumps) →
-          built.Later t (guard_code x c S r k s).1 → built.Tidy t s → built.LeadsWell t k.term → built.KindAt t false r → built.TidyAfter t (guard_code x c S r k s)
+          built.Later t (guard_code x c S r k s).1 → built.Tidy t s → built.RestWell t k → built.KindAt t false r → built.TidyAfter t (guard_code x c S r k s)
       guard_tidies true c S r k s wa wp later h l g =
           let l1 = built.later_before t (done c S k s) _ (la.grows c S (test_code c S r k s).0 (done c S k s)) later in
           let l0 = built.later_before t (P.build c S k s).1 (done c S k s) (closed_grows Kind.Plain (P.build c S k s).0 (P.build c S k s).1) l1 in
           let p = lp.tidies c S k s wp l0 h l in
           la.tidies c S (test_code c S r k s).0 (done c S k s) wa later (built.closed_tidy t Kind.Plain (P.build c S k s).0 (P.build c S k s).1 p.0 p.1)
-          ((g, (built.kind_stands t Kind.Plain (P.build c S k s).0 (P.build c S k s).1 l1, tt)), tt, refl)
+          (((g, (built.kind_stands t Kind.Plain (P.build c S k s).0 (P.build c S k s).1 l1, tt)), tt, refl), tt)
       guard_tidies false c S r k s wa wp later h l g = la.tidies c S k s wa later h l
 
     guarded_lowers : (around : Around) (bounds : List Bound) (g : LowerIfAny) (d : CodeIfAny) → IfAnyLowers g d →
@@ -501,8 +501,8 @@ module _ (t : Target) where
         (closed_ranked Kind.Plain b.0 b.1 rest.0 rest.1) (given_more (length s.blocks) (length made.blocks) (let i = g.longer in omega arith) (targets k.term) l) (rest.0.begun, omega arith)
 
     arms_tidy : (ms : List NodeLower) (ds : List NodeCode) → AllLower ms ds → (c : Ways) (S : Scopes) (k : Rest) (s : Building) → JumpWays (built.PlainWay t) c (lower.arm_jumps f ms matched around to) →
-        built.Later t (lower.arms_from f number ms matched around to c S k s).1 → built.Tidy t s → built.LeadsWell t k.term → built.TidyAfter t (lower.arms_from f number ms matched around to c S k s)
-    arms_tidy _ _ none_lower c S k s w later h l = let u = built.unwind_tidy t (panic_drops t S) s h later in (u.0, (tt, u.1, refl))
+        built.Later t (lower.arms_from f number ms matched around to c S k s).1 → built.Tidy t s → built.RestWell t k → built.TidyAfter t (lower.arms_from f number ms matched around to c S k s)
+    arms_tidy _ _ none_lower c S k s w later h l = let u = built.unwind_tidy t (panic_drops t S) s h later in (u.0, ((tt, u.1, refl), tt))
     arms_tidy _ _ (one_lowers _ _ ms ds (lowers_as hd sh e r a P Q A sn se sr sa) all) c S k s w later h l =
         let b = lower.arms_from f number ms matched around to c S k s in
         let made = closed Kind.Plain b.0 b.1 in

@@ -227,31 +227,49 @@ module _ (t : Target) where
   CleansUp Term.Resume = Unit {0}
   CleansUp _ = ⊥
 
+  abbrev pub NoFree : Stmt → Type 0
+  NoFree (Stmt.Free place) = ⊥
+  NoFree _ = Unit {0}
+
   abbrev pub EndsWell : Bool → Term → Type 0
   EndsWell true term = CleansUp term
   EndsWell false term = LeadsWell term
 
+  -- nothing is freed by a statement of its own
+  abbrev pub FreesNone : List Stmt → Type 0
+  FreesNone [] = Unit {0}
+  FreesNone (stmt ∷ stmts) = NoFree stmt × FreesNone stmts
+
+  abbrev pub BlockWell : Block → Type 0
+  BlockWell block = EndsWell (is_cleanup block) block.term × FreesNone block.stmts
+
+  abbrev pub RestEnds : Bool → Rest → Type 0
+  RestEnds x k = EndsWell x k.term × FreesNone (map (λ l. l.stmt) k.lines)
+
+  abbrev pub RestWell : Rest → Type 0
+  RestWell k = RestEnds false k
+
   pub record Tidy (s : Building) : Type 0 where
-    pub blocks : (n : ℕ) (m : Made) → slice_get s.blocks n ≡ Some (Some m) → EndsWell (is_cleanup m.block) m.block.term
+    pub blocks : (n : ℕ) (m : Made) → slice_get s.blocks n ≡ Some (Some m) → BlockWell m.block
     pub chains : (es : List Entry) (n : ℕ) → chain_among es s.chains ≡ Some n → KindAt true n
 
   -- all that is made is tidy, and so is what comes next
   abbrev pub TidyAfter : Rest × Building → Type 0
-  TidyAfter r = Tidy r.1 × LeadsWell r.0.term
+  TidyAfter r = Tidy r.1 × RestWell r.0
 
   pub kind_stands : (kind : Kind) (k : Rest) (s : Building) → Later (closed kind k s) → KindAt (is_cleanup_kind kind) (length s.blocks)
   kind_stands kind k s later =
       ((made kind (length s.blocks) k).block, (later (length s.blocks) (made kind (length s.blocks) k) (closed_at kind k s)).0, refl)
 
-  pub closed_tidy : (kind : Kind) (k : Rest) (s : Building) → Tidy s → EndsWell (is_cleanup_kind kind) k.term → Tidy (closed kind k s)
+  pub closed_tidy : (kind : Kind) (k : Rest) (s : Building) → Tidy s → RestEnds (is_cleanup_kind kind) k → Tidy (closed kind k s)
   closed_tidy kind k s h l = record {
     blocks = λ n m e. by_place n m (push_cases s.blocks (Some (made kind (length s.blocks) k)) n (Some m) e);
     chains = h.chains;
   }
     where
-      by_place : (n : ℕ) (m : Made) → (slice_get s.blocks n ≡ Some (Some m)) ⊎ ((n ≡ length s.blocks) × (Some (made kind (length s.blocks) k) ≡ Some m)) → EndsWell (is_cleanup m.block) m.block.term
+      by_place : (n : ℕ) (m : Made) → (slice_get s.blocks n ≡ Some (Some m)) ⊎ ((n ≡ length s.blocks) × (Some (made kind (length s.blocks) k) ≡ Some m)) → BlockWell m.block
       by_place n m (inl e) = h.blocks n m e
-      by_place n m (inr e) = subst (λ m. EndsWell (is_cleanup m.block) m.block.term) (same_Some (made kind (length s.blocks) k) m e.1) l
+      by_place n m (inr e) = subst (λ m. BlockWell m.block) (same_Some (made kind (length s.blocks) k) m e.1) l
 
   -- ---- what is built
   abbrev pub CodeEnds : Bool → Lowers → (Ways → Spot) → Ways → Scopes → Rest → Pos → Type 0
@@ -269,7 +287,7 @@ module _ (t : Target) where
         CodeStands P.has_end P spot c S k (P.build c S k s)
     pub ranks : (c : Ways) (S : Scopes) (k : Rest) (s : Building) → JumpWays (BlockGiven (length s.blocks)) c P.jumps → Ranked s → LeadsOn k s →
         Ranked (P.build c S k s).1 × LeadsOn (P.build c S k s).0 (P.build c S k s).1
-    pub tidies : (c : Ways) (S : Scopes) (k : Rest) (s : Building) → JumpWays PlainWay c P.jumps → Later (P.build c S k s).1 → Tidy s → LeadsWell k.term → TidyAfter (P.build c S k s)
+    pub tidies : (c : Ways) (S : Scopes) (k : Rest) (s : Building) → JumpWays PlainWay c P.jumps → Later (P.build c S k s).1 → Tidy s → RestWell k → TidyAfter (P.build c S k s)
 
   -- ---- one after the other
   module _ (P Q : Lowers) (sp sq : Ways → Spot) (lp : Lowered P sp) (lq : Lowered Q sq) where
@@ -305,7 +323,7 @@ module _ (t : Target) where
     then_ranks false c S k s wp wq h l = lp.ranks c S k s wp h l
 
     then_tidies : (x : Bool) (c : Ways) (S : Scopes) (k : Rest) (s : Building) → JumpWays PlainWay c P.jumps → JumpWays PlainWay c (jumps_if x Q.jumps) → Later (then_build x P Q c S k s).1 → Tidy s →
-        LeadsWell k.term → TidyAfter (then_build x P Q c S k s)
+        RestWell k → TidyAfter (then_build x P Q c S k s)
     then_tidies true c S k s wp wq later h l =
         let r = Q.build c (P.after S) k s in
         let second = lq.tidies c (P.after S) k s wq (later_before r.1 _ (lp.grows c S r.0 r.1) later) h l in
@@ -375,7 +393,7 @@ module _ (t : Target) where
   site_same : (n : ℕ) (site : Site) → site.node ≡ n → actions.site_of n (place_of f site) ≡ site_at t.local_of site
   site_same n site e = λ i. record { node = sym e i; place = record { local = t.local_of site.place.local; steps = steps_same site.place.steps i } }
 
-  -- all sites have the number of one node
+  -- all sites have the number of one node; nothing is freed
   abbrev pub OperandOf : ℕ → effects.Operand → Type 0
   OperandOf n (effects.Copied site) = site.node ≡ n
   OperandOf n (effects.Moved site) = site.node ≡ n
@@ -398,7 +416,7 @@ module _ (t : Target) where
   ActionOf n (effects.Touch base) = base.node ≡ n
   ActionOf n (effects.Print operand) = OperandOf n operand
   ActionOf n (effects.Forget operand) = OperandOf n operand
-  ActionOf n (effects.Free box) = box.node ≡ n
+  ActionOf n (effects.Free box) = ⊥
   ActionOf n (effects.Compute to operator left right) = (to.node ≡ n) × OperandOf n left × OperandOf n right
   ActionOf n (effects.Negate to operand) = (to.node ≡ n) × OperandOf n operand
   ActionOf n (effects.Bounds index count) = OperandOf n index
@@ -467,7 +485,7 @@ module _ (t : Target) where
       by_entries g true ds n e = subst (Given (length (closed Kind.Cleanup k s).blocks)) (same_Some (length s.blocks) n e) g
       by_entries g false ds n e = let i = h.chains ds n e in let j = closed_length Kind.Cleanup k s in (i.0, (let i1 = i.1 in omega arith))
 
-  kept_tidy : (es : List Entry) (k : Rest) (s : Building) → Tidy s → CleansUp k.term → Later (kept_chain es k s).1 → Tidy (kept_chain es k s).1 × KindAt true (kept_chain es k s).0
+  kept_tidy : (es : List Entry) (k : Rest) (s : Building) → Tidy s → RestEnds true k → Later (kept_chain es k s).1 → Tidy (kept_chain es k s).1 × KindAt true (kept_chain es k s).0
   kept_tidy es k s h l later =
       let c = closed_tidy Kind.Cleanup k s h l in
       (record { blocks = c.blocks; chains = λ ds n e. by_entries (same_entries ds es) ds n e }, kind_stands Kind.Cleanup k s later)
@@ -539,7 +557,7 @@ module _ (t : Target) where
       by_kept : (o : Option ℕ) → chain_among [] s.chains ≡ o → Later (chain_or o s (kept_chain [] (ending Term.Resume 0))).1 →
           Tidy (chain_or o s (kept_chain [] (ending Term.Resume 0))).1 × KindAt true (chain_or o s (kept_chain [] (ending Term.Resume 0))).0
       by_kept (Some n) e later = (h, h.chains [] n e)
-      by_kept None e later = kept_tidy [] (ending Term.Resume 0) s h tt later
+      by_kept None e later = kept_tidy [] (ending Term.Resume 0) s h (tt, tt) later
   chain_tidy (x ∷ es) s h = by_kept (chain_tidy es s h) (chain_among (x ∷ es) s.chains) refl
     where
       by_kept : (Later (chain f es s).1 → Tidy (chain f es s).1 × KindAt true (chain f es s).0) → (o : Option ℕ) → chain_among (x ∷ es) s.chains ≡ o →
@@ -548,7 +566,7 @@ module _ (t : Target) where
       by_kept ih None e later =
           let r = chain f es s in
           let rest = ih (later_before r.1 _ (kept_grows (x ∷ es) (drop_rest x r) r.1) later) in
-          kept_tidy (x ∷ es) (drop_rest x r) r.1 rest.0 (rest.1, refl) later
+          kept_tidy (x ∷ es) (drop_rest x r) r.1 rest.0 ((rest.1, refl), tt) later
 
   -- where a panic goes on
   pub unwind_grows : (es : List Entry) (s : Building) → Grows s (unwind_to f es s).1
@@ -595,28 +613,28 @@ module _ (t : Target) where
   abbrev pub TwoWays : (ℕ → Unwind → Term) → Type 0
   TwoWays term = (n : ℕ) (u : Unwind) → KindAt false n → AllKind true (unwind_block u ++ []) → LeadsWell (term n u)
 
-  pub two_tidy : (term : ℕ → Unwind → Term) (node : ℕ) (es : List Entry) (k : Rest) (s : Building) → TwoWays term → Later (two_ways term node es k s).1 → Tidy s → LeadsWell k.term →
+  pub two_tidy : (term : ℕ → Unwind → Term) (node : ℕ) (es : List Entry) (k : Rest) (s : Building) → TwoWays term → Later (two_ways term node es k s).1 → Tidy s → RestWell k →
       TidyAfter (two_ways term node es k s)
   two_tidy term node es k s e later h l =
       let u = unwind_tidy es (closed Kind.Plain k s) (closed_tidy Kind.Plain k s h l) later in
-      (u.0, e (length s.blocks) (unwind_to f es (closed Kind.Plain k s)).0 (kind_stands Kind.Plain k s (two_later term node es k s later)) u.1)
+      (u.0, (e (length s.blocks) (unwind_to f es (closed Kind.Plain k s)).0 (kind_stands Kind.Plain k s (two_later term node es k s later)) u.1, tt))
 
-  stmt_lowered : (n : ℕ) (action : Action) (stmt : Stmt) → actions.action_of n stmt ≡ action_at t.local_of action → Lowered (act_by f false n (ByStmt stmt)) (λ c. Acts t action)
-  stmt_lowered n action stmt e = record {
+  stmt_lowered : (n : ℕ) (action : Action) (stmt : Stmt) → NoFree stmt → actions.action_of n stmt ≡ action_at t.local_of action → Lowered (act_by f false n (ByStmt stmt)) (λ c. Acts t action)
+  stmt_lowered n action stmt free e = record {
     grows = λ c S k s. grows_not s;
     holds = λ c S k s u later chains.
         (chains, λ b st. ((b.0, suc b.1), (st.0, st.1, st.2.2), by_statement (b.0, suc b.1) (st.0, stmt, st.1, st.2.0, ap (λ i. actions.action_of i stmt) st.2.1 ∙ e, refl)));
     ranks = λ c S k s w h l. (h, l);
-    tidies = λ c S k s w later h l. (h, l);
+    tidies = λ c S k s w later h l. (h, (l.0, (free, l.1)));
   }
 
-  stmt_last : (n : ℕ) (action : Action) (stmt : Stmt) → actions.action_of n stmt ≡ action_at t.local_of action → IsLast t action → Lowered (act_by f true n (ByStmt stmt)) (λ c. Acts t action)
-  stmt_last n action stmt e last = record {
+  stmt_last : (n : ℕ) (action : Action) (stmt : Stmt) → NoFree stmt → actions.action_of n stmt ≡ action_at t.local_of action → IsLast t action → Lowered (act_by f true n (ByStmt stmt)) (λ c. Acts t action)
+  stmt_last n action stmt free e last = record {
     grows = λ c S k s. grows_not s;
     holds = λ c S k s u later chains.
         (chains, λ b st S' b'. by_last_statement (b.0, suc b.1) S' b' (st.0, stmt, st.1, st.2.0, ap (λ i. actions.action_of i stmt) st.2.1 ∙ e, refl) last);
     ranks = λ c S k s w h l. (h, (w.0, tt));
-    tidies = λ c S k s w later h l. (h, ((w.0, tt), tt, refl));
+    tidies = λ c S k s w later h l. (h, (((w.0, tt), tt, refl), (free, tt)));
   }
 
   -- the effect of a terminator
@@ -658,16 +676,16 @@ module _ (t : Target) where
         let made = two_made term n (panic_drops t S) (ending (Term.Goto c.returns.block) n) s chains later in
         (made.0, λ b st S' b'. by_last_terminator (length s.blocks) S' b' (term_stands n action term e S (ending (Term.Goto c.returns.block) n) s made.1 b st) last);
     ranks = λ c S k s w h l. two_ranked term n (panic_drops t S) (ending (Term.Goto c.returns.block) n) s e.1 h (w.0, tt);
-    tidies = λ c S k s w later h l. two_tidy term n (panic_drops t S) (ending (Term.Goto c.returns.block) n) s e.2 later h ((w.0, tt), tt, refl);
+    tidies = λ c S k s w later h l. two_tidy term n (panic_drops t S) (ending (Term.Goto c.returns.block) n) s e.2 later h (((w.0, tt), tt, refl), tt);
   }
 
   -- whether it is the last or not
-  by_stmt : (n : ℕ) (action : Action) (stmt : Stmt) → actions.action_of n stmt ≡ action_at t.local_of action → Lowered (act_by f (is_last f action) n (ByStmt stmt)) (λ c. Acts t action)
-  by_stmt n action stmt e = by_last (is_last f action) refl
+  by_stmt : (n : ℕ) (action : Action) (stmt : Stmt) → NoFree stmt → actions.action_of n stmt ≡ action_at t.local_of action → Lowered (act_by f (is_last f action) n (ByStmt stmt)) (λ c. Acts t action)
+  by_stmt n action stmt free e = by_last (is_last f action) refl
     where
       by_last : (x : Bool) → is_last f action ≡ x → Lowered (act_by f x n (ByStmt stmt)) (λ c. Acts t action)
-      by_last true last = stmt_last n action stmt e last
-      by_last false last = stmt_lowered n action stmt e
+      by_last true last = stmt_last n action stmt free e last
+      by_last false last = stmt_lowered n action stmt free e
 
   by_term : (n : ℕ) (action : Action) (term : ℕ → Unwind → Term) → TermOf n action term → Lowered (act_by f (is_last f action) n (ByTerm term)) (λ c. Acts t action)
   by_term n action term e = by_last (is_last f action) refl
@@ -678,26 +696,26 @@ module _ (t : Target) where
 
   -- ---- any effect
   pub act_lowered : (n : ℕ) (action : Action) → ActionOf n action → Lowered (act f n action) (λ c. Acts t action)
-  act_lowered n (effects.Put to from) one = by_stmt n (effects.Put to from) _ (λ i. effects.Put (site_same n to one.0 i) (operand_same n from one.1 i))
+  act_lowered n (effects.Put to from) one = by_stmt n (effects.Put to from) _ tt (λ i. effects.Put (site_same n to one.0 i) (operand_same n from one.1 i))
   act_lowered n (effects.Compare to operator left right) one =
-      by_stmt n (effects.Compare to operator left right) _ (λ i. effects.Compare (site_same n to one.0 i) operator (operand_same n left one.1 i) (operand_same n right one.2 i))
-  act_lowered n (effects.Not to operand) one = by_stmt n (effects.Not to operand) _ (λ i. effects.Not (site_same n to one.0 i) (operand_same n operand one.1 i))
+      by_stmt n (effects.Compare to operator left right) _ tt (λ i. effects.Compare (site_same n to one.0 i) operator (operand_same n left one.1 i) (operand_same n right one.2 i))
+  act_lowered n (effects.Not to operand) one = by_stmt n (effects.Not to operand) _ tt (λ i. effects.Not (site_same n to one.0 i) (operand_same n operand one.1 i))
   act_lowered n (effects.Build to effects.OfTuple parts) one =
-      by_stmt n (effects.Build to effects.OfTuple parts) _ (λ i. effects.Build (site_same n to one.0 i) effects.OfTuple (operands_same n parts one.1 i))
+      by_stmt n (effects.Build to effects.OfTuple parts) _ tt (λ i. effects.Build (site_same n to one.0 i) effects.OfTuple (operands_same n parts one.1 i))
   act_lowered n (effects.Build to effects.OfArray parts) one =
-      by_stmt n (effects.Build to effects.OfArray parts) _ (λ i. effects.Build (site_same n to one.0 i) effects.OfArray (operands_same n parts one.1 i))
+      by_stmt n (effects.Build to effects.OfArray parts) _ tt (λ i. effects.Build (site_same n to one.0 i) effects.OfArray (operands_same n parts one.1 i))
   act_lowered n (effects.Build to (effects.OfVariant adt variant) parts) one =
-      by_stmt n (effects.Build to (effects.OfVariant adt variant) parts) _ (λ i. effects.Build (site_same n to one.0 i) (effects.OfVariant adt variant) (operands_same n parts one.1 i))
+      by_stmt n (effects.Build to (effects.OfVariant adt variant) parts) _ tt (λ i. effects.Build (site_same n to one.0 i) (effects.OfVariant adt variant) (operands_same n parts one.1 i))
   act_lowered n (effects.Build to (effects.OfClosure closure) parts) one =
-      by_stmt n (effects.Build to (effects.OfClosure closure) parts) _ (λ i. effects.Build (site_same n to one.0 i) (effects.OfClosure closure) (operands_same n parts one.1 i))
-  act_lowered n (effects.NewBox to content) one = by_stmt n (effects.NewBox to content) _ (λ i. effects.NewBox (site_same n to one.0 i) (operand_same n content one.1 i))
+      by_stmt n (effects.Build to (effects.OfClosure closure) parts) _ tt (λ i. effects.Build (site_same n to one.0 i) (effects.OfClosure closure) (operands_same n parts one.1 i))
+  act_lowered n (effects.NewBox to content) one = by_stmt n (effects.NewBox to content) _ tt (λ i. effects.NewBox (site_same n to one.0 i) (operand_same n content one.1 i))
   act_lowered n (effects.Unsize to trait_no operand) one =
-      by_stmt n (effects.Unsize to trait_no operand) _ (λ i. effects.Unsize (site_same n to one.0 i) trait_no (operand_same n operand one.1 i))
-  act_lowered n (effects.Borrow to unique base) one = by_stmt n (effects.Borrow to unique base) _ (λ i. effects.Borrow (site_same n to one.0 i) unique (site_same n base one.1 i))
-  act_lowered n (effects.Touch base) one = by_stmt n (effects.Touch base) _ (ap effects.Touch (site_same n base one))
-  act_lowered n (effects.Print operand) one = by_stmt n (effects.Print operand) _ (ap effects.Print (operand_same n operand one))
-  act_lowered n (effects.Forget operand) one = by_stmt n (effects.Forget operand) _ (ap effects.Forget (operand_same n operand one))
-  act_lowered n (effects.Free box) one = by_stmt n (effects.Free box) _ (ap effects.Free (site_same n box one))
+      by_stmt n (effects.Unsize to trait_no operand) _ tt (λ i. effects.Unsize (site_same n to one.0 i) trait_no (operand_same n operand one.1 i))
+  act_lowered n (effects.Borrow to unique base) one = by_stmt n (effects.Borrow to unique base) _ tt (λ i. effects.Borrow (site_same n to one.0 i) unique (site_same n base one.1 i))
+  act_lowered n (effects.Touch base) one = by_stmt n (effects.Touch base) _ tt (ap effects.Touch (site_same n base one))
+  act_lowered n (effects.Print operand) one = by_stmt n (effects.Print operand) _ tt (ap effects.Print (operand_same n operand one))
+  act_lowered n (effects.Forget operand) one = by_stmt n (effects.Forget operand) _ tt (ap effects.Forget (operand_same n operand one))
+  act_lowered n (effects.Free box) one = absurd one
   act_lowered n (effects.Compute to operator left right) one =
       by_term n (effects.Compute to operator left right) (Term.Math (place_of f to) operator (build.operand_of f left) (build.operand_of f right))
       ((λ m u. λ i. Some (effects.Compute (site_same n to one.0 i) operator (operand_same n left one.1 i) (operand_same n right one.2 i), m, u)), (λ m u. refl), λ m u p g. ((p, tt), g, refl))
@@ -748,7 +766,7 @@ module _ (t : Target) where
       let rest = drops_ranked es S k s h l in
       two_ranked (drop_term (entry_site x)) x.key (es ++ panic_drops t S) r.0 r.1 (λ n u. refl) rest.0 rest.1
 
-  drops_tidy : (es : List Entry) (S : Scopes) (k : Rest) (s : Building) → Later (drop_all f es S k s).1 → Tidy s → LeadsWell k.term → TidyAfter (drop_all f es S k s)
+  drops_tidy : (es : List Entry) (S : Scopes) (k : Rest) (s : Building) → Later (drop_all f es S k s).1 → Tidy s → RestWell k → TidyAfter (drop_all f es S k s)
   drops_tidy [] S k s later h l = (h, l)
   drops_tidy (x ∷ es) S k s later h l =
       let r = drop_all f es S k s in
@@ -775,7 +793,7 @@ module _ (t : Target) where
   leave_ranks [] k s h l = (h, l)
   leave_ranks (scope ∷ S) k s h l = drops_ranked (dropped_of scope) S k s h l
 
-  leave_tidies : (S : Scopes) (k : Rest) (s : Building) → Later (leave_from f S k s).1 → Tidy s → LeadsWell k.term → TidyAfter (leave_from f S k s)
+  leave_tidies : (S : Scopes) (k : Rest) (s : Building) → Later (leave_from f S k s).1 → Tidy s → RestWell k → TidyAfter (leave_from f S k s)
   leave_tidies [] k s later h l = (h, l)
   leave_tidies (scope ∷ S) k s later h l = drops_tidy (dropped_of scope) S k s later h l
 
@@ -835,7 +853,7 @@ module _ (t : Target) where
       by_base ih false = (h, (g, tt))
 
   leaves_tidy : (node : ℕ) (way : Way) (S : Scopes) (s : Building) → PlainWay way → Later (leaves_to f node way S s).1 → Tidy s → TidyAfter (leaves_to f node way S s)
-  leaves_tidy node way [] s g later h = (h, ((g, tt), tt, refl))
+  leaves_tidy node way [] s g later h = (h, (((g, tt), tt, refl), tt))
   leaves_tidy node way (scope ∷ S) s g later h = by_base (λ later. leaves_tidy node way S s g later h) (not (nat_lt (length S) way.base)) later
     where
       by_base : (Later (leaves_to f node way S s).1 → TidyAfter (leaves_to f node way S s)) → (x : Bool) →
@@ -845,7 +863,7 @@ module _ (t : Target) where
           let r = leaves_to f node way S s in
           let rest = ih (later_before r.1 _ (drops_grow (dropped_of scope) S r.0 r.1) later) in
           drops_tidy (dropped_of scope) S r.0 r.1 later rest.0 rest.1
-      by_base ih false later = (h, ((g, tt), tt, refl))
+      by_base ih false later = (h, (((g, tt), tt, refl), tt))
 
   -- an exit that is a jump: by `return`, or one that names a loop
   abbrev pub IsJump : Exit → Type 0
@@ -881,7 +899,7 @@ module _ (t : Target) where
     holds = λ c S k s u later chains.
         let made = unwind_made (panic_drops t S) s chains later in (made.0, λ b st S' b'. ((unwind_to f (panic_drops t S) s).0, ends_with _ node b st, made.1));
     ranks = λ c S k s w h l. unwind_ranked (panic_drops t S) s h;
-    tidies = λ c S k s w later h l. let u = unwind_tidy (panic_drops t S) s h later in (u.0, (tt, u.1, refl));
+    tidies = λ c S k s w later h l. let u = unwind_tidy (panic_drops t S) s h later in (u.0, ((tt, u.1, refl), tt));
   }
 
   -- ---- tests
@@ -899,7 +917,7 @@ module _ (t : Target) where
           (build.operand_of f operand, y, n, ends_with _ node b st, ap (λ i. actions.operand_of i (build.operand_of f operand)) st.2.2 ∙ operand_same node operand one, (py, refl), (pn, refl)),
     )),
     (λ h gy gn. (h, (gn, (gy, tt)))),
-    λ later h py pn. (h, ((pn, (py, tt)), tt, refl)),
+    λ later h py pn. (h, (((pn, (py, tt)), tt, refl), tt)),
   )
 
   equals_made : (site : Site) (value : effects.Operand) → OperandOf site.node value → (y n : ℕ) (s : Building) → TestMade s (equals f site value y n s) (EqualsAt t site value) y n
@@ -930,7 +948,7 @@ module _ (t : Target) where
       ),
     )),
     (λ h gy gn. (h, (gn, (gy, tt)))),
-    λ later h py pn. (h, ((pn, (py, tt)), tt, refl)),
+    λ later h py pn. (h, (((pn, (py, tt)), tt, refl), (tt, tt))),
   )
 
   pub given_on : (n m d : ℕ) → n ≤ m → Given n d → Given m d
@@ -942,14 +960,14 @@ module _ (t : Target) where
       grows_not s,
       (λ h later py pn. (h, λ b st. (place_of f site, y, n, ends_with _ site.node b st, site_same (t.node b.0 b.1) site (sym st.2.2), (py, refl), (pn, refl)))),
       (λ h gy gn. (h, (gn, (gy, tt)))),
-      λ later h py pn. (h, ((pn, (py, tt)), tt, refl)),
+      λ later h py pn. (h, (((pn, (py, tt)), tt, refl), tt)),
     )
     test_made (IsNumber site value kind) y n s = equals_made site (effects.Number value kind) tt y n s
     test_made (IsTruth site value) y n s = equals_made site (effects.Truth value) tt y n s
     test_made (AnyOf alternatives) y n s = any_made alternatives y n s
 
     pub tests_made : (x : PatternTests) (y n : ℕ) (s : Building) → TestMade s (tests f x y n s) (TestsAt t x) y n
-    tests_made no_test y n s = (grows_not s, (λ h later py pn. (h, λ b st. goes y (ends_with _ 0 b st) py)), (λ h gy gn. (h, (gy, tt))), λ later h py pn. (h, ((py, tt), tt, refl)))
+    tests_made no_test y n s = (grows_not s, (λ h later py pn. (h, λ b st. goes y (ends_with _ 0 b st) py)), (λ h gy gn. (h, (gy, tt))), λ later h py pn. (h, (((py, tt), tt, refl), tt)))
     tests_made (a_test first rest) y n s =
         let r = tests f rest y n s in
         let c = closed Kind.Plain r.0 r.1 in
@@ -973,7 +991,7 @@ module _ (t : Target) where
         )
 
     any_made : (x : Alternatives) (y n : ℕ) (s : Building) → TestMade s (any_test f x y n s) (AnyTestAt t x) y n
-    any_made no_alternative y n s = (grows_not s, (λ h later py pn. (h, λ b st. goes n (ends_with _ 0 b st) pn)), (λ h gy gn. (h, (gn, tt))), λ later h py pn. (h, ((pn, tt), tt, refl)))
+    any_made no_alternative y n s = (grows_not s, (λ h later py pn. (h, λ b st. goes n (ends_with _ 0 b st) pn)), (λ h gy gn. (h, (gn, tt))), λ later h py pn. (h, (((pn, tt), tt, refl), tt)))
     any_made (an_alternative first rest) y n s =
         let r = any_test f rest y n s in
         let c = closed Kind.Plain r.0 r.1 in
@@ -1010,8 +1028,8 @@ module _ (t : Target) where
   joined_ranked true node k s h l = let j = closed_length Kind.Plain k s in (closed_ranked Kind.Plain k s h l, ((h.begun, omega arith), tt))
   joined_ranked false node k s h l = (h, l)
 
-  pub joined_tidy : (x : Bool) (node : ℕ) (k : Rest) (s : Building) → Later (joined x node k s).1 → Tidy s → LeadsWell k.term → TidyAfter (joined x node k s)
-  joined_tidy true node k s later h l = (closed_tidy Kind.Plain k s h l, ((kind_stands Kind.Plain k s later, tt), tt, refl))
+  pub joined_tidy : (x : Bool) (node : ℕ) (k : Rest) (s : Building) → Later (joined x node k s).1 → Tidy s → RestWell k → TidyAfter (joined x node k s)
+  joined_tidy true node k s later h l = (closed_tidy Kind.Plain k s h l, (((kind_stands Kind.Plain k s later, tt), tt, refl), tt))
   joined_tidy false node k s later h l = (h, l)
 
   -- a code that may join others, given where it ends if it has an end
@@ -1183,7 +1201,7 @@ module _ (t : Target) where
   pub reserved_tidy : (s : Building) → Tidy s → Tidy (reserved s)
   reserved_tidy s h = record { blocks = λ n m e. by_place n m (push_cases s.blocks None n (Some m) e); chains = h.chains }
     where
-      by_place : (n : ℕ) (m : Made) → (slice_get s.blocks n ≡ Some (Some m)) ⊎ ((n ≡ length s.blocks) × (None ≡ Some m)) → EndsWell (is_cleanup m.block) m.block.term
+      by_place : (n : ℕ) (m : Made) → (slice_get s.blocks n ≡ Some (Some m)) ⊎ ((n ≡ length s.blocks) × (None ≡ Some m)) → BlockWell m.block
       by_place n m (inl e) = h.blocks n m e
       by_place n m (inr e) = absurd (none-some m e.1)
 
@@ -1220,12 +1238,12 @@ module _ (t : Target) where
       by_place i m (inr e) =
           subst (MadeWell i) (same_Some (made Kind.Turn (length s.blocks) k) m e.1) ((λ x. absurd (let never : true ≡ false = x in cc)), l)
 
-  pub filled_tidy : (kind : Kind) (n : ℕ) (k : Rest) (s : Building) → Tidy s → EndsWell (is_cleanup_kind kind) k.term → Tidy (filled kind n k s)
+  pub filled_tidy : (kind : Kind) (n : ℕ) (k : Rest) (s : Building) → Tidy s → RestEnds (is_cleanup_kind kind) k → Tidy (filled kind n k s)
   filled_tidy kind n k s h l = record { blocks = λ i m e. by_place i m (set_cases s.blocks n i (Some (made kind (length s.blocks) k)) (Some m) e); chains = h.chains }
     where
-      by_place : (i : ℕ) (m : Made) → (slice_get s.blocks i ≡ Some (Some m)) ⊎ ((i ≡ n) × (Some (made kind (length s.blocks) k) ≡ Some m)) → EndsWell (is_cleanup m.block) m.block.term
+      by_place : (i : ℕ) (m : Made) → (slice_get s.blocks i ≡ Some (Some m)) ⊎ ((i ≡ n) × (Some (made kind (length s.blocks) k) ≡ Some m)) → BlockWell m.block
       by_place i m (inl e) = h.blocks i m e
-      by_place i m (inr e) = subst (λ m. EndsWell (is_cleanup m.block) m.block.term) (same_Some (made kind (length s.blocks) k) m e.1) l
+      by_place i m (inr e) = subst (λ m. BlockWell m.block) (same_Some (made kind (length s.blocks) k) m e.1) l
 
   -- the ways of the jumps in a loop, from those around it
   module _ (P : Way → Type 0) (id base exit begin : ℕ) (is_left : Bool) (c : Ways) where
@@ -1274,7 +1292,7 @@ module _ (t : Target) where
   exit_given true k s h e = let j = closed_length Kind.Plain k s in (h.begun, omega arith)
   exit_given false k s h e = absurd (let never : false ≡ true = e in cc)
 
-  exit_tidy : (x : Bool) (k : Rest) (s : Building) → Tidy s → LeadsWell k.term → Tidy (with_exit x k s)
+  exit_tidy : (x : Bool) (k : Rest) (s : Building) → Tidy s → RestWell k → Tidy (with_exit x k s)
   exit_tidy true k s h l = closed_tidy Kind.Plain k s h l
   exit_tidy false k s h l = h
 
@@ -1368,8 +1386,8 @@ module _ (t : Target) where
           let turn_at = filled_stands Kind.Turn (begin_at k s) r.0 r.1 (begin_free c S k s) later in
           let begun : KindAt false (begin_at k s) = ((made Kind.Turn (length r.1.blocks) r.0).block, turn_at.0, refl) in
           let ways = ways_inside PlainWay id (length S) (length s.blocks) (begin_at k s) left c turn.jumps (λ e. exit_plain left k s l0 e) begun w.0 w.1 in
-          let it = lt.tidies (ways_in c S k s) S (again k s) (reserved (begun_with k s)) (w.0, ways) l2 (reserved_tidy (begun_with k s) (exit_tidy left k s h l)) ((begun, tt), tt, refl) in
-          (filled_tidy Kind.Turn (begin_at k s) r.0 r.1 it.0 it.1, ((begun, tt), tt, refl));
+          let it = lt.tidies (ways_in c S k s) S (again k s) (reserved (begun_with k s)) (w.0, ways) l2 (reserved_tidy (begun_with k s) (exit_tidy left k s h l)) (((begun, tt), tt, refl), tt) in
+          (filled_tidy Kind.Turn (begin_at k s) r.0 r.1 it.0 it.1, (((begun, tt), tt, refl), tt));
     }
 
   -- ---- assignment
@@ -1444,9 +1462,9 @@ module _ (t : Target) where
       tidies = λ c S k s w later h l.
           let l2 = later_before (down S k s).1 _ (closed_grows Kind.Cleanup (unwound S k s) (down S k s).1) later in
           let l1 = later_before (after_store k s) _ (chain_grows (drops_of S) (after_store k s)) l2 in
-          let d = chain_tidy (drops_of S) (after_store k s) (closed_tidy Kind.Plain (stored k) s h l) l2 in (
-            closed_tidy Kind.Cleanup (unwound S k s) (down S k s).1 d.0 d.1,
-            ((kind_stands Kind.Plain (stored k) s l1, tt), (kind_stands Kind.Cleanup (unwound S k s) (down S k s).1 later, tt), refl),
+          let d = chain_tidy (drops_of S) (after_store k s) (closed_tidy Kind.Plain (stored k) s h (l.0, (tt, l.1))) l2 in (
+            closed_tidy Kind.Cleanup (unwound S k s) (down S k s).1 d.0 (d.1, (tt, tt)),
+            (((kind_stands Kind.Plain (stored k) s l1, tt), (kind_stands Kind.Cleanup (unwound S k s) (down S k s).1 later, tt), refl), tt),
           );
     }
 

@@ -3,6 +3,7 @@
 use Rattle.std.specs.Prelude.{length, ◌<◌, ◌≡◌, ℕ, ℤ, Bool, true, List, Some, slice_get, Contains}
 use Rattle.cfg_graph.specs.declared.graph.Block.{Block}
 use Rattle.cfg_graph.specs.Edges.{IsRanked, targets}
+use Rattle.cfg_graph.specs.Ready.{begins_once, frees_nothing}
 use Rattle.cfg_graph.specs.WellFormed.Cleanup.{keeps_to_cleanup}
 use Rattle.cfg_meaning.specs.Programs.{raw_graph_run, free_walk}
 use Rattle.cfg_meaning.specs.Walk.{renamed}
@@ -36,13 +37,9 @@ LoweredWalksAsItRunsFreely =
     ≡ renamed without_place (free_run items tree list))
     × (refused_of (free_walk items (node_of items tree) (body_of items tree) list) ≡ reached_by items tree list)
 
--- each edge but that to a turn block lowers the rank, and none leads to block 0
+-- each edge but that to a turn block lowers the rank
 abbrev pub LoweredIsRanked : Type 0
-LoweredIsRanked =
-    (items : ItemTable) (tree : BodyTree) → NamesItsLoops tree →
-    IsRanked (body_of items tree)
-    × ((n : ℕ) (block : Block) → slice_get (body_of items tree).blocks n ≡ Some block →
-    Contains (targets block.term) 0 → ⊥)
+LoweredIsRanked = (items : ItemTable) (tree : BodyTree) → NamesItsLoops tree → IsRanked (body_of items tree)
 
 -- cleanup blocks keep to themselves: from one of them no edge leads to another block, and from another block exactly
 -- unwinding leads to one; and each edge leads to a block
@@ -52,3 +49,9 @@ LoweredKeepsToCleanup =
     (n : ℕ) (block : Block) → slice_get (body_of items tree).blocks n ≡ Some block →
     (keeps_to_cleanup (body_of items tree) block ≡ true)
     × ((m : ℕ) → Contains (targets block.term) m → m < length (body_of items tree).blocks)
+
+-- nothing is freed by a statement of its own, and no edge leads back to the block in which a body begins
+abbrev pub LoweredIsPrepared : Type 0
+LoweredIsPrepared =
+    (items : ItemTable) (tree : BodyTree) → NamesItsLoops tree →
+    (frees_nothing (body_of items tree) ≡ true) × (begins_once (body_of items tree) ≡ true)
