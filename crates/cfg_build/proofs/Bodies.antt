@@ -15,7 +15,18 @@ use Rattle.cfg_graph.specs.declared.graph.Kind.{Kind}
 use Rattle.cfg_graph.specs.declared.terminator.Term.{Term}
 use Rattle.cfg_graph.specs.Edges.{IsRanked, is_cleanup, is_cleanup_kind, is_turn, onward, targets, unwind_targets}
 use Rattle.cfg_graph.specs.declared.statement.Stmt.{Stmt}
-use Rattle.cfg_graph.specs.Ready.{begins_once, frees_nothing}
+use Rattle.cfg_graph.proofs.WholePlaces.{same_step-refl}
+use Rattle.cfg_graph.specs.Moves.Gone.{are_first}
+use Rattle.cfg_graph.specs.NamedPlaces.{same_place}
+use Rattle.cfg_graph.specs.Places as places
+use Rattle.cfg_graph.specs.declared.place.Operand.{Operand}
+use Rattle.cfg_graph.specs.declared.place.Place.{Place}
+use Rattle.cfg_graph.specs.declared.terminator.Unwind.{Unwind}
+use Rattle.mir_base.specs.declared.operator.Math.{Math}
+use Rattle.mir_base.specs.declared.trace.Why.{Why}
+use Rattle.store_model.specs.Places.Place as store
+use Rattle.store_model.specs.Places.Place.{Step}
+use Rattle.cfg_graph.specs.Ready.{begins_once, frees_nothing, may_be_left_gone, refills_dropped}
 use Rattle.cfg_graph.specs.WellFormed.Cleanup.{keeps_to_cleanup}
 use Rattle.mir_ty.specs.ItemTable.{ItemTable}
 use Rattle.typed_tree.specs.Tree.{BodyTree, ProgramTree}
@@ -273,19 +284,19 @@ module _ (items : ItemTable) (tree : BodyTree) (named : NamesItsLoops tree) wher
 
   start_tidy : rules.Tidy t begun
   start_tidy = rules.closed_tidy t Kind.Plain (ending Term.Return (answer_key tree)) (reserved (record { blocks = []; chains = [] }))
-      (rules.reserved_tidy t (record { blocks = []; chains = [] }) (record { blocks = λ n m e. absurd (none-some (Some m) e); chains = λ es n e. absurd (none-some n e) })) ((tt, tt, refl), tt)
+      (rules.reserved_tidy t (record { blocks = []; chains = [] }) (record { blocks = λ n m e. absurd (none-some (Some m) e); chains = λ es n e. absurd (none-some n e) })) ((tt, tt, refl, tt), tt)
 
   return_plain : rules.KindAt t false 1
   return_plain = (returning.block, return_at.0, refl)
 
   code_tidy : rules.TidyAfter t r
-  code_tidy = lowered.tidies (body_ways 1) S last begun (return_plain, subst (λ jumps. rules.AllWays (rules.PlainWay t) (body_ways 1) jumps) (sym (no_jumps F tree named)) tt) later_code start_tidy (((return_plain, tt), tt, refl), tt)
+  code_tidy = lowered.tidies (body_ways 1) S last begun (return_plain, subst (λ jumps. rules.AllWays (rules.PlainWay t) (body_ways 1) jumps) (sym (no_jumps F tree named)) tt) later_code start_tidy (((return_plain, tt), tt, refl, tt), tt)
 
   block_tidy : (n : ℕ) (block : Block) → slice_get (body_of items tree).blocks n ≡ Some block → rules.BlockWell t block
   block_tidy n block e = let h = from_mapped _ z.blocks n block e in by_made h.0 h.1 h.2
     where
       by_made : (o : Option Made) → slice_get z.blocks n ≡ Some o → (unwrap_or o lower.unmade).block ≡ block → rules.BlockWell t block
-      by_made None e h = subst (rules.BlockWell t) h ((tt, tt, refl), tt)
+      by_made None e h = subst (rules.BlockWell t) h ((tt, tt, refl, tt), tt)
       by_made (Some m) e h = subst (rules.BlockWell t) h ((rules.filled_tidy t Kind.Plain 0 r.0 r.1 code_tidy.0 code_tidy.1).blocks n m e)
 
   -- ---- what elaboration asks of all bodies
@@ -325,6 +336,94 @@ module _ (items : ItemTable) (tree : BodyTree) (named : NamesItsLoops tree) wher
   blocks_begin_once : (blocks : List Block) → ((n : ℕ) (block : Block) → slice_get blocks n ≡ Some block → AllGiven block.rank (targets block.term)) → begins_once (with_blocks blocks) ≡ true
   blocks_begin_once [] h = refl
   blocks_begin_once (block ∷ blocks) h = both _ _ (ap not (not_first block.rank (targets block.term) (h 0 block refl))) (blocks_begin_once blocks (λ n block e. h (suc n) block e))
+
+  -- a place that is dropped may be left gone, or is stored into at once
+  clean_drops : (term : Term) → rules.CleansUp t term → rules.DropsWell t term
+  clean_drops (Term.Goto n) h = tt
+  clean_drops (Term.If on y n) h = absurd h
+  clean_drops (Term.Case on variant y n) h = absurd h
+  clean_drops (Term.Math to op left right n u) h = absurd h
+  clean_drops (Term.Negate to of n u) h = absurd h
+  clean_drops (Term.Bounds index count n u) h = absurd h
+  clean_drops (Term.Call to body args n u) h = absurd h
+  clean_drops (Term.Virtual to trait_no method args n u) h = absurd h
+  clean_drops (Term.Ask to n u) h = absurd h
+  clean_drops (Term.Panic why u) h = absurd h
+  clean_drops Term.Return h = absurd h
+  clean_drops Term.Resume h = tt
+  clean_drops (Term.DropAt place n u) h = subst (λ u. rules.DropsWell t (Term.DropAt place n u)) (sym h.1) h.2
+
+  ends_drop : (x : Bool) (term : Term) → rules.EndsWell t x term → rules.DropsWell t term
+  ends_drop true term h = clean_drops term h
+  ends_drop false term h = h.3
+
+  all_blocks : (q : Block → Bool) (blocks : List Block) → ((n : ℕ) (block : Block) → slice_get blocks n ≡ Some block → q block ≡ true) → list_all q blocks ≡ true
+  all_blocks q [] h = refl
+  all_blocks q (block ∷ blocks) h = both _ _ (h 0 block refl) (all_blocks q blocks (λ n block e. h (suc n) block e))
+
+  all_drops : (q : Block → Bool) →
+      ((b : Block) (n : ℕ) → q (record b { term = Term.Goto n }) ≡ true) →
+      ((b : Block) (on : Operand) (y n : ℕ) → q (record b { term = Term.If on y n }) ≡ true) →
+      ((b : Block) (on : Place) (variant y n : ℕ) → q (record b { term = Term.Case on variant y n }) ≡ true) →
+      ((b : Block) (to : Place) (op : Math) (left right : Operand) (n : ℕ) (u : Unwind) → q (record b { term = Term.Math to op left right n u }) ≡ true) →
+      ((b : Block) (to : Place) (of : Operand) (n : ℕ) (u : Unwind) → q (record b { term = Term.Negate to of n u }) ≡ true) →
+      ((b : Block) (index : Operand) (count n : ℕ) (u : Unwind) → q (record b { term = Term.Bounds index count n u }) ≡ true) →
+      ((b : Block) (to : Place) (body : ℕ) (args : List Operand) (n : ℕ) (u : Unwind) → q (record b { term = Term.Call to body args n u }) ≡ true) →
+      ((b : Block) (to : Place) (trait_no method : ℕ) (args : List Operand) (n : ℕ) (u : Unwind) → q (record b { term = Term.Virtual to trait_no method args n u }) ≡ true) →
+      ((b : Block) (to : Place) (n : ℕ) (u : Unwind) → q (record b { term = Term.Ask to n u }) ≡ true) →
+      ((b : Block) (why : Why) (u : Unwind) → q (record b { term = Term.Panic why u }) ≡ true) →
+      ((b : Block) → q (record b { term = Term.Return }) ≡ true) →
+      ((b : Block) → q (record b { term = Term.Resume }) ≡ true) →
+      ((b : Block) (place : Place) (n : ℕ) (u : Unwind) → place.steps ≡ [] → q (record b { term = Term.DropAt place n u }) ≡ true) →
+      ((b : Block) (place : Place) (n m : ℕ) → rules.StoresFirst t place n → rules.StoresFirst t place m → q (record b { term = Term.DropAt place n (Unwind.Block m) }) ≡ true) →
+      (blocks : List Block) → ((n : ℕ) (block : Block) → slice_get blocks n ≡ Some block → rules.DropsWell t block.term) → list_all q blocks ≡ true
+  all_drops q goto_ if_ case_ math_ negate_ bounds_ call_ virtual_ ask_ panic_ return_ resume_ whole refilled blocks h = all_blocks q blocks (λ n block e. by_term block block.term (h n block e))
+    where
+      by_term : (b : Block) (term : Term) → rules.DropsWell t term → q (record b { term = term }) ≡ true
+      by_term b (Term.Goto n) h = goto_ b n
+      by_term b (Term.If on y n) h = if_ b on y n
+      by_term b (Term.Case on variant y n) h = case_ b on variant y n
+      by_term b (Term.Math to op left right n u) h = math_ b to op left right n u
+      by_term b (Term.Negate to of n u) h = negate_ b to of n u
+      by_term b (Term.Bounds index count n u) h = bounds_ b index count n u
+      by_term b (Term.Call to body args n u) h = call_ b to body args n u
+      by_term b (Term.Virtual to trait_no method args n u) h = virtual_ b to trait_no method args n u
+      by_term b (Term.Ask to n u) h = ask_ b to n u
+      by_term b (Term.Panic why u) h = panic_ b why u
+      by_term b Term.Return h = return_ b
+      by_term b Term.Resume h = resume_ b
+      by_term b (Term.DropAt place n (Unwind.Block m)) (inl h) = whole b place n (Unwind.Block m) h
+      by_term b (Term.DropAt place n (Unwind.Block m)) (inr h) = refilled b place n m h.0 h.1
+      by_term b (Term.DropAt place n Unwind.Resume) h = whole b place n Unwind.Resume h
+      by_term b (Term.DropAt place n Unwind.Abort) h = whole b place n Unwind.Abort h
+
+  or_first : (a b : Bool) → a ≡ true → a || b ≡ true
+  or_first true b e = refl
+  or_first false b e = absurd (let never : false ≡ true = e in cc)
+
+  or_second : (a b : Bool) → b ≡ true → a || b ≡ true
+  or_second true b e = refl
+  or_second false b e = e
+
+  found : (q : Block → Bool) (o : Option Block) (b : Block) → o ≡ Some b → q b ≡ true → option_map_or q o false ≡ true
+  found q o b e h = ap (λ o. option_map_or q o false) e ∙ h
+
+  first_of_itself : (steps : List Step) → are_first steps steps ≡ true
+  first_of_itself [] = refl
+  first_of_itself (step ∷ steps) = both _ _ (same_step-refl step) (first_of_itself steps)
+
+  at_itself : (place : store.Place) → same_place place place ≡ true
+  at_itself place = both _ _ (both _ _ (equal_itself place.local) (first_of_itself place.steps)) (first_of_itself place.steps)
+
+  whole_gone : (place : Place) → place.steps ≡ [] → may_be_left_gone items (body_of items tree) place ≡ true
+  whole_gone place e = ap (λ steps. may_be_left_gone items (body_of items tree) (record { local = place.local; steps = steps })) e
+
+  refills : refills_dropped items (body_of items tree) ≡ true
+  refills =
+      all_drops _ (λ b n. refl) (λ b on y n. refl) (λ b on variant y n. refl) (λ b to op left right n u. refl) (λ b to of n u. refl) (λ b index count n u. refl) (λ b to body args n u. refl) (λ b to trait_no method args n u. refl) (λ b to n u. refl) (λ b why u. refl) (λ b. refl) (λ b. refl)
+      (λ b place n u h. or_first _ _ (whole_gone place h))
+      (λ b place n m h k. or_second _ _ (both _ _ (found _ _ _ h.5 (or_first _ _ (at_itself (places.named place)))) (found _ _ _ k.5 (or_first _ _ (at_itself (places.named place))))))
+      (body_of items tree).blocks (λ n block e. ends_drop (is_cleanup block) block.term (block_tidy n block e).0)
 
   frees : frees_nothing (body_of items tree) ≡ true
   frees = blocks_free_none (body_of items tree).blocks (λ n block e. (block_tidy n block e).1)
@@ -371,4 +470,4 @@ lowered_keeps_to_cleanup items tree named n block e =
     (h.0, λ m c. stands_in items tree named (targets block.term) h.1 c.0 m (slice_get-Contains (targets block.term) m c))
 
 pub lowered_is_prepared : LoweredIsPrepared
-lowered_is_prepared items tree named = (frees items tree named, begins items tree named)
+lowered_is_prepared items tree named = (frees items tree named, begins items tree named, refills items tree named)

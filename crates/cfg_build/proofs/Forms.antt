@@ -386,7 +386,7 @@ module _ (t : Target) where
           let l0 = built.later_before t (P.build c S k s).1 (done c S k s) (closed_grows Kind.Plain (P.build c S k s).0 (P.build c S k s).1) l1 in
           let p = lp.tidies c S k s wp l0 h l in
           la.tidies c S (test_code c S r k s).0 (done c S k s) wa later (built.closed_tidy t Kind.Plain (P.build c S k s).0 (P.build c S k s).1 p.0 p.1)
-          (((g, (built.kind_stands t Kind.Plain (P.build c S k s).0 (P.build c S k s).1 l1, tt)), tt, refl), tt)
+          (((g, (built.kind_stands t Kind.Plain (P.build c S k s).0 (P.build c S k s).1 l1, tt)), tt, refl, tt), tt)
       guard_tidies false c S r k s wa wp later h l g = la.tidies c S k s wa later h l
 
     guarded_lowers : (around : Around) (bounds : List Bound) (g : LowerIfAny) (d : CodeIfAny) → IfAnyLowers g d →
@@ -502,7 +502,7 @@ module _ (t : Target) where
 
     arms_tidy : (ms : List NodeLower) (ds : List NodeCode) → AllLower ms ds → (c : Ways) (S : Scopes) (k : Rest) (s : Building) → JumpWays (built.PlainWay t) c (lower.arm_jumps f ms matched around to) →
         built.Later t (lower.arms_from f number ms matched around to c S k s).1 → built.Tidy t s → built.RestWell t k → built.TidyAfter t (lower.arms_from f number ms matched around to c S k s)
-    arms_tidy _ _ none_lower c S k s w later h l = let u = built.unwind_tidy t (panic_drops t S) s h later in (u.0, ((tt, u.1, refl), tt))
+    arms_tidy _ _ none_lower c S k s w later h l = let u = built.unwind_tidy t (panic_drops t S) s h later in (u.0, ((tt, u.1, refl, tt), tt))
     arms_tidy _ _ (one_lowers _ _ ms ds (lowers_as hd sh e r a P Q A sn se sr sa) all) c S k s w later h l =
         let b = lower.arms_from f number ms matched around to c S k s in
         let made = closed Kind.Plain b.0 b.1 in
@@ -588,7 +588,7 @@ module _ (t : Target) where
         let before = built.two_later t (drop_term (site_of_key key)) key (panic_drops t S) k s later in
         (made.0, λ b st. ((length s.blocks, 0), built.closed_stands t Kind.Plain k s before, (refl, built.drop_one_at t (site_of_key key) (panic_drops t S) k s made.1 before b st)));
     ranks = λ c S k s w h l. built.two_ranked t (drop_term (site_of_key key)) key (panic_drops t S) k s (λ n u. refl) h l;
-    tidies = λ c S k s w later h l. built.two_tidy t (drop_term (site_of_key key)) key (panic_drops t S) k s (λ n u p g. ((p, tt), g, refl)) later h l;
+    tidies = λ c S k s w later h l. built.two_tidy t (drop_term (site_of_key key)) key (panic_drops t S) k s (built.whole_drops t (t.local_of key)) later h l;
   }
     where
       drop_term : Site → ℕ → Unwind → Term

@@ -6,6 +6,8 @@ use Rattle.std.proofs.lemmas.Option.{none-some, slice_get_within, same_Some}
 use Rattle.mir_ty.proofs.ListLemmas.{slice_get-last, slice_get-below}
 use Rattle.cfg_graph.specs.declared.graph.Block.{Block}
 use Rattle.cfg_graph.specs.declared.graph.Kind.{Kind}
+use Rattle.cfg_graph.specs.declared.place.Operand as graph_operand
+use Rattle.cfg_graph.specs.declared.place.Place as graph_place
 use Rattle.cfg_graph.specs.declared.statement.Stmt.{Stmt}
 use Rattle.cfg_graph.specs.declared.terminator.Term.{Term}
 use Rattle.cfg_graph.specs.declared.terminator.Unwind.{Unwind}
@@ -216,14 +218,25 @@ module _ (t : Target) where
   resumes Term.Resume = true
   resumes _ = false
 
+  -- a block whose first statement stores into a place
+  abbrev pub StoresFirst : graph_place.Place → ℕ → Type 0
+  StoresFirst place n = (kind : Kind) × (rank : ℕ) × (from : graph_operand.Operand) × (rest : List Stmt) × (term : Term)
+      × (slice_get t.body.blocks n ≡ Some (record { kind = kind; rank = rank; stmts = Stmt.Put place from ∷ rest; term = term }))
+
+  -- what is dropped is a whole local, or is stored into at once
+  abbrev pub DropsWell : Term → Type 0
+  DropsWell (Term.DropAt place n (Unwind.Block m)) = (place.steps ≡ []) ⊎ (StoresFirst place n × StoresFirst place m)
+  DropsWell (Term.DropAt place n unwind) = place.steps ≡ []
+  DropsWell _ = Unit {0}
+
   -- what ends a block that is no cleanup block: exactly a panic out of it leads to a cleanup block
   abbrev pub LeadsWell : Term → Type 0
-  LeadsWell term = AllKind false (onward term) × AllKind true (unwind_targets term) × (resumes term ≡ false)
+  LeadsWell term = AllKind false (onward term) × AllKind true (unwind_targets term) × (resumes term ≡ false) × DropsWell term
 
   -- what ends a cleanup block
   abbrev pub CleansUp : Term → Type 0
   CleansUp (Term.Goto n) = KindAt true n
-  CleansUp (Term.DropAt place n unwind) = KindAt true n × (unwind ≡ Unwind.Abort)
+  CleansUp (Term.DropAt place n unwind) = KindAt true n × (unwind ≡ Unwind.Abort) × (place.steps ≡ [])
   CleansUp Term.Resume = Unit {0}
   CleansUp _ = ⊥
 
@@ -566,7 +579,7 @@ module _ (t : Target) where
       by_kept ih None e later =
           let r = chain f es s in
           let rest = ih (later_before r.1 _ (kept_grows (x ∷ es) (drop_rest x r) r.1) later) in
-          kept_tidy (x ∷ es) (drop_rest x r) r.1 rest.0 ((rest.1, refl), tt) later
+          kept_tidy (x ∷ es) (drop_rest x r) r.1 rest.0 ((rest.1, refl, refl), tt) later
 
   -- where a panic goes on
   pub unwind_grows : (es : List Entry) (s : Building) → Grows s (unwind_to f es s).1
@@ -634,7 +647,7 @@ module _ (t : Target) where
     holds = λ c S k s u later chains.
         (chains, λ b st S' b'. by_last_statement (b.0, suc b.1) S' b' (st.0, stmt, st.1, st.2.0, ap (λ i. actions.action_of i stmt) st.2.1 ∙ e, refl) last);
     ranks = λ c S k s w h l. (h, (w.0, tt));
-    tidies = λ c S k s w later h l. (h, (((w.0, tt), tt, refl), (free, tt)));
+    tidies = λ c S k s w later h l. (h, (((w.0, tt), tt, refl, tt), (free, tt)));
   }
 
   -- the effect of a terminator
@@ -676,7 +689,7 @@ module _ (t : Target) where
         let made = two_made term n (panic_drops t S) (ending (Term.Goto c.returns.block) n) s chains later in
         (made.0, λ b st S' b'. by_last_terminator (length s.blocks) S' b' (term_stands n action term e S (ending (Term.Goto c.returns.block) n) s made.1 b st) last);
     ranks = λ c S k s w h l. two_ranked term n (panic_drops t S) (ending (Term.Goto c.returns.block) n) s e.1 h (w.0, tt);
-    tidies = λ c S k s w later h l. two_tidy term n (panic_drops t S) (ending (Term.Goto c.returns.block) n) s e.2 later h (((w.0, tt), tt, refl), tt);
+    tidies = λ c S k s w later h l. two_tidy term n (panic_drops t S) (ending (Term.Goto c.returns.block) n) s e.2 later h (((w.0, tt), tt, refl, tt), tt);
   }
 
   -- whether it is the last or not
@@ -718,20 +731,20 @@ module _ (t : Target) where
   act_lowered n (effects.Free box) one = absurd one
   act_lowered n (effects.Compute to operator left right) one =
       by_term n (effects.Compute to operator left right) (Term.Math (place_of f to) operator (build.operand_of f left) (build.operand_of f right))
-      ((λ m u. λ i. Some (effects.Compute (site_same n to one.0 i) operator (operand_same n left one.1 i) (operand_same n right one.2 i), m, u)), (λ m u. refl), λ m u p g. ((p, tt), g, refl))
+      ((λ m u. λ i. Some (effects.Compute (site_same n to one.0 i) operator (operand_same n left one.1 i) (operand_same n right one.2 i), m, u)), (λ m u. refl), λ m u p g. ((p, tt), g, refl, tt))
   act_lowered n (effects.Negate to operand) one =
       by_term n (effects.Negate to operand) (Term.Negate (place_of f to) (build.operand_of f operand))
-      ((λ m u. λ i. Some (effects.Negate (site_same n to one.0 i) (operand_same n operand one.1 i), m, u)), (λ m u. refl), λ m u p g. ((p, tt), g, refl))
+      ((λ m u. λ i. Some (effects.Negate (site_same n to one.0 i) (operand_same n operand one.1 i), m, u)), (λ m u. refl), λ m u p g. ((p, tt), g, refl, tt))
   act_lowered n (effects.Bounds index count) one =
-      by_term n (effects.Bounds index count) (Term.Bounds (build.operand_of f index) count) ((λ m u. λ i. Some (effects.Bounds (operand_same n index one i) count, m, u)), (λ m u. refl), λ m u p g. ((p, tt), g, refl))
+      by_term n (effects.Bounds index count) (Term.Bounds (build.operand_of f index) count) ((λ m u. λ i. Some (effects.Bounds (operand_same n index one i) count, m, u)), (λ m u. refl), λ m u p g. ((p, tt), g, refl, tt))
   act_lowered n (effects.Call to g args) one =
       by_term n (effects.Call to g args) (Term.Call (place_of f to) g (build.operands_of f args))
-      ((λ m u. λ i. Some (effects.Call (site_same n to one.0 i) g (operands_same n args one.1 i), m, u)), (λ m u. refl), λ m u p g. ((p, tt), g, refl))
+      ((λ m u. λ i. Some (effects.Call (site_same n to one.0 i) g (operands_same n args one.1 i), m, u)), (λ m u. refl), λ m u p g. ((p, tt), g, refl, tt))
   act_lowered n (effects.CallVirtual to trait_no method args) one =
       by_term n (effects.CallVirtual to trait_no method args) (Term.Virtual (place_of f to) trait_no method (build.operands_of f args))
-      ((λ m u. λ i. Some (effects.CallVirtual (site_same n to one.0 i) trait_no method (operands_same n args one.1 i), m, u)), (λ m u. refl), λ m u p g. ((p, tt), g, refl))
+      ((λ m u. λ i. Some (effects.CallVirtual (site_same n to one.0 i) trait_no method (operands_same n args one.1 i), m, u)), (λ m u. refl), λ m u p g. ((p, tt), g, refl, tt))
   act_lowered n (effects.Ask to) one =
-      by_term n (effects.Ask to) (Term.Ask (place_of f to)) ((λ m u. λ i. Some (effects.Ask (site_same n to one i), m, u)), (λ m u. refl), λ m u p g. ((p, tt), g, refl))
+      by_term n (effects.Ask to) (Term.Ask (place_of f to)) ((λ m u. λ i. Some (effects.Ask (site_same n to one i), m, u)), (λ m u. refl), λ m u p g. ((p, tt), g, refl, tt))
 
   -- ---- drops
   pub drop_one_at : (site : Site) (es : List Entry) (k : Rest) (s : Building) → Cleans t es (unwind_to f es (closed Kind.Plain k s)).0 → Later (closed Kind.Plain k s) → (b : Pos) →
@@ -766,13 +779,18 @@ module _ (t : Target) where
       let rest = drops_ranked es S k s h l in
       two_ranked (drop_term (entry_site x)) x.key (es ++ panic_drops t S) r.0 r.1 (λ n u. refl) rest.0 rest.1
 
+  pub whole_drops : (local : ℕ) → TwoWays (Term.DropAt (record { local = local; steps = [] }))
+  whole_drops local n (Unwind.Block m) p g = ((p, tt), g, refl, inl refl)
+  whole_drops local n Unwind.Resume p g = ((p, tt), g, refl, refl)
+  whole_drops local n Unwind.Abort p g = ((p, tt), g, refl, refl)
+
   drops_tidy : (es : List Entry) (S : Scopes) (k : Rest) (s : Building) → Later (drop_all f es S k s).1 → Tidy s → RestWell k → TidyAfter (drop_all f es S k s)
   drops_tidy [] S k s later h l = (h, l)
   drops_tidy (x ∷ es) S k s later h l =
       let r = drop_all f es S k s in
       let before = two_later (drop_term (entry_site x)) x.key (es ++ panic_drops t S) r.0 r.1 later in
       let rest = drops_tidy es S k s (later_before r.1 _ (closed_grows Kind.Plain r.0 r.1) before) h l in
-      two_tidy (drop_term (entry_site x)) x.key (es ++ panic_drops t S) r.0 r.1 (λ n u p g. ((p, tt), g, refl)) later rest.0 rest.1
+      two_tidy (drop_term (entry_site x)) x.key (es ++ panic_drops t S) r.0 r.1 (whole_drops (t.local_of x.key)) later rest.0 rest.1
 
   -- ---- scopes are left
   abbrev dropped_of : Scope → List Entry
@@ -853,7 +871,7 @@ module _ (t : Target) where
       by_base ih false = (h, (g, tt))
 
   leaves_tidy : (node : ℕ) (way : Way) (S : Scopes) (s : Building) → PlainWay way → Later (leaves_to f node way S s).1 → Tidy s → TidyAfter (leaves_to f node way S s)
-  leaves_tidy node way [] s g later h = (h, (((g, tt), tt, refl), tt))
+  leaves_tidy node way [] s g later h = (h, (((g, tt), tt, refl, tt), tt))
   leaves_tidy node way (scope ∷ S) s g later h = by_base (λ later. leaves_tidy node way S s g later h) (not (nat_lt (length S) way.base)) later
     where
       by_base : (Later (leaves_to f node way S s).1 → TidyAfter (leaves_to f node way S s)) → (x : Bool) →
@@ -863,7 +881,7 @@ module _ (t : Target) where
           let r = leaves_to f node way S s in
           let rest = ih (later_before r.1 _ (drops_grow (dropped_of scope) S r.0 r.1) later) in
           drops_tidy (dropped_of scope) S r.0 r.1 later rest.0 rest.1
-      by_base ih false later = (h, (((g, tt), tt, refl), tt))
+      by_base ih false later = (h, (((g, tt), tt, refl, tt), tt))
 
   -- an exit that is a jump: by `return`, or one that names a loop
   abbrev pub IsJump : Exit → Type 0
@@ -899,7 +917,7 @@ module _ (t : Target) where
     holds = λ c S k s u later chains.
         let made = unwind_made (panic_drops t S) s chains later in (made.0, λ b st S' b'. ((unwind_to f (panic_drops t S) s).0, ends_with _ node b st, made.1));
     ranks = λ c S k s w h l. unwind_ranked (panic_drops t S) s h;
-    tidies = λ c S k s w later h l. let u = unwind_tidy (panic_drops t S) s h later in (u.0, ((tt, u.1, refl), tt));
+    tidies = λ c S k s w later h l. let u = unwind_tidy (panic_drops t S) s h later in (u.0, ((tt, u.1, refl, tt), tt));
   }
 
   -- ---- tests
@@ -917,7 +935,7 @@ module _ (t : Target) where
           (build.operand_of f operand, y, n, ends_with _ node b st, ap (λ i. actions.operand_of i (build.operand_of f operand)) st.2.2 ∙ operand_same node operand one, (py, refl), (pn, refl)),
     )),
     (λ h gy gn. (h, (gn, (gy, tt)))),
-    λ later h py pn. (h, (((pn, (py, tt)), tt, refl), tt)),
+    λ later h py pn. (h, (((pn, (py, tt)), tt, refl, tt), tt)),
   )
 
   equals_made : (site : Site) (value : effects.Operand) → OperandOf site.node value → (y n : ℕ) (s : Building) → TestMade s (equals f site value y n s) (EqualsAt t site value) y n
@@ -948,7 +966,7 @@ module _ (t : Target) where
       ),
     )),
     (λ h gy gn. (h, (gn, (gy, tt)))),
-    λ later h py pn. (h, (((pn, (py, tt)), tt, refl), (tt, tt))),
+    λ later h py pn. (h, (((pn, (py, tt)), tt, refl, tt), (tt, tt))),
   )
 
   pub given_on : (n m d : ℕ) → n ≤ m → Given n d → Given m d
@@ -960,14 +978,14 @@ module _ (t : Target) where
       grows_not s,
       (λ h later py pn. (h, λ b st. (place_of f site, y, n, ends_with _ site.node b st, site_same (t.node b.0 b.1) site (sym st.2.2), (py, refl), (pn, refl)))),
       (λ h gy gn. (h, (gn, (gy, tt)))),
-      λ later h py pn. (h, (((pn, (py, tt)), tt, refl), tt)),
+      λ later h py pn. (h, (((pn, (py, tt)), tt, refl, tt), tt)),
     )
     test_made (IsNumber site value kind) y n s = equals_made site (effects.Number value kind) tt y n s
     test_made (IsTruth site value) y n s = equals_made site (effects.Truth value) tt y n s
     test_made (AnyOf alternatives) y n s = any_made alternatives y n s
 
     pub tests_made : (x : PatternTests) (y n : ℕ) (s : Building) → TestMade s (tests f x y n s) (TestsAt t x) y n
-    tests_made no_test y n s = (grows_not s, (λ h later py pn. (h, λ b st. goes y (ends_with _ 0 b st) py)), (λ h gy gn. (h, (gy, tt))), λ later h py pn. (h, (((py, tt), tt, refl), tt)))
+    tests_made no_test y n s = (grows_not s, (λ h later py pn. (h, λ b st. goes y (ends_with _ 0 b st) py)), (λ h gy gn. (h, (gy, tt))), λ later h py pn. (h, (((py, tt), tt, refl, tt), tt)))
     tests_made (a_test first rest) y n s =
         let r = tests f rest y n s in
         let c = closed Kind.Plain r.0 r.1 in
@@ -991,7 +1009,7 @@ module _ (t : Target) where
         )
 
     any_made : (x : Alternatives) (y n : ℕ) (s : Building) → TestMade s (any_test f x y n s) (AnyTestAt t x) y n
-    any_made no_alternative y n s = (grows_not s, (λ h later py pn. (h, λ b st. goes n (ends_with _ 0 b st) pn)), (λ h gy gn. (h, (gn, tt))), λ later h py pn. (h, (((pn, tt), tt, refl), tt)))
+    any_made no_alternative y n s = (grows_not s, (λ h later py pn. (h, λ b st. goes n (ends_with _ 0 b st) pn)), (λ h gy gn. (h, (gn, tt))), λ later h py pn. (h, (((pn, tt), tt, refl, tt), tt)))
     any_made (an_alternative first rest) y n s =
         let r = any_test f rest y n s in
         let c = closed Kind.Plain r.0 r.1 in
@@ -1029,7 +1047,7 @@ module _ (t : Target) where
   joined_ranked false node k s h l = (h, l)
 
   pub joined_tidy : (x : Bool) (node : ℕ) (k : Rest) (s : Building) → Later (joined x node k s).1 → Tidy s → RestWell k → TidyAfter (joined x node k s)
-  joined_tidy true node k s later h l = (closed_tidy Kind.Plain k s h l, (((kind_stands Kind.Plain k s later, tt), tt, refl), tt))
+  joined_tidy true node k s later h l = (closed_tidy Kind.Plain k s h l, (((kind_stands Kind.Plain k s later, tt), tt, refl, tt), tt))
   joined_tidy false node k s later h l = (h, l)
 
   -- a code that may join others, given where it ends if it has an end
@@ -1386,8 +1404,8 @@ module _ (t : Target) where
           let turn_at = filled_stands Kind.Turn (begin_at k s) r.0 r.1 (begin_free c S k s) later in
           let begun : KindAt false (begin_at k s) = ((made Kind.Turn (length r.1.blocks) r.0).block, turn_at.0, refl) in
           let ways = ways_inside PlainWay id (length S) (length s.blocks) (begin_at k s) left c turn.jumps (λ e. exit_plain left k s l0 e) begun w.0 w.1 in
-          let it = lt.tidies (ways_in c S k s) S (again k s) (reserved (begun_with k s)) (w.0, ways) l2 (reserved_tidy (begun_with k s) (exit_tidy left k s h l)) (((begun, tt), tt, refl), tt) in
-          (filled_tidy Kind.Turn (begin_at k s) r.0 r.1 it.0 it.1, (((begun, tt), tt, refl), tt));
+          let it = lt.tidies (ways_in c S k s) S (again k s) (reserved (begun_with k s)) (w.0, ways) l2 (reserved_tidy (begun_with k s) (exit_tidy left k s h l)) (((begun, tt), tt, refl, tt), tt) in
+          (filled_tidy Kind.Turn (begin_at k s) r.0 r.1 it.0 it.1, (((begun, tt), tt, refl, tt), tt));
     }
 
   -- ---- assignment
@@ -1417,6 +1435,16 @@ module _ (t : Target) where
 
     abbrev unwound : Scopes → Rest → Building → Rest
     unwound S k s = stored (ending (Term.Goto (down S k s).0) site.node)
+
+    stores_first : (kind : Kind) (k : Rest) (s : Building) → Later (closed kind (stored k) s) → StoresFirst (place_of f site) (length s.blocks)
+    stores_first kind k s later = (
+      kind,
+      length s.blocks,
+      build.operand_of f (moved site.node key),
+      map (λ l. l.stmt) k.lines,
+      k.term,
+      (later (length s.blocks) (made kind (length s.blocks) (stored k)) (closed_at kind (stored k) s)).0,
+    )
 
     replaced_lowered : Lowered (replaces f true site key) (λ c. ReplacesAt t true site key)
     replaced_lowered = record {
@@ -1464,7 +1492,15 @@ module _ (t : Target) where
           let l1 = later_before (after_store k s) _ (chain_grows (drops_of S) (after_store k s)) l2 in
           let d = chain_tidy (drops_of S) (after_store k s) (closed_tidy Kind.Plain (stored k) s h (l.0, (tt, l.1))) l2 in (
             closed_tidy Kind.Cleanup (unwound S k s) (down S k s).1 d.0 (d.1, (tt, tt)),
-            (((kind_stands Kind.Plain (stored k) s l1, tt), (kind_stands Kind.Cleanup (unwound S k s) (down S k s).1 later, tt), refl), tt),
+            (
+              (
+                (kind_stands Kind.Plain (stored k) s l1, tt),
+                (kind_stands Kind.Cleanup (unwound S k s) (down S k s).1 later, tt),
+                refl,
+                inr (stores_first Kind.Plain k s l1, stores_first Kind.Cleanup (ending (Term.Goto (down S k s).0) site.node) (down S k s).1 later),
+              ),
+              tt,
+            ),
           );
     }
 

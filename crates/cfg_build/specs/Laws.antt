@@ -3,7 +3,7 @@
 use Rattle.std.specs.Prelude.{length, ◌<◌, ◌≡◌, ℕ, ℤ, Bool, true, List, Some, slice_get, Contains}
 use Rattle.cfg_graph.specs.declared.graph.Block.{Block}
 use Rattle.cfg_graph.specs.Edges.{IsRanked, targets}
-use Rattle.cfg_graph.specs.Ready.{begins_once, frees_nothing}
+use Rattle.cfg_graph.specs.Ready.{begins_once, frees_nothing, refills_dropped}
 use Rattle.cfg_graph.specs.WellFormed.Cleanup.{keeps_to_cleanup}
 use Rattle.cfg_meaning.specs.Programs.{raw_graph_run, free_walk}
 use Rattle.cfg_meaning.specs.Walk.{renamed}
@@ -50,8 +50,11 @@ LoweredKeepsToCleanup =
     (keeps_to_cleanup (body_of items tree) block ≡ true)
     × ((m : ℕ) → Contains (targets block.term) m → m < length (body_of items tree).blocks)
 
--- nothing is freed by a statement of its own, and no edge leads back to the block in which a body begins
+-- nothing is freed by a statement of its own, no edge leads back to the block in which a body begins, and a place that
+-- may not be left gone gets a value again as soon as it is dropped
 abbrev pub LoweredIsPrepared : Type 0
 LoweredIsPrepared =
     (items : ItemTable) (tree : BodyTree) → NamesItsLoops tree →
-    (frees_nothing (body_of items tree) ≡ true) × (begins_once (body_of items tree) ≡ true)
+    (frees_nothing (body_of items tree) ≡ true)
+    × (begins_once (body_of items tree) ≡ true)
+    × (refills_dropped items (body_of items tree) ≡ true)

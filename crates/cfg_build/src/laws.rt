@@ -6,8 +6,9 @@ ghost use Rattle.cfg_build.specs.Laws.{LoweredRunsAsItsSource, LoweredWalksAsItR
 /// has the same trace and the same end, but for the block in which both are stuck. For every list of choices a body of
 /// it walks as the body of the program runs freely, and meets a refused use of the same node. Each edge leads to a
 /// block that exists, and lowers the rank but for that to a turn block; none leads to the block in which a body begins.
-/// From other blocks exactly unwinding leads to cleanup blocks, which keep to themselves. No statement frees a box. All
-/// that is asked is that each jump names a loop around it.
+/// From other blocks exactly unwinding leads to cleanup blocks, which keep to themselves. No statement frees a box, and a
+/// place that may not be left gone gets a value again as soon as it is dropped. All that is asked is that each jump
+/// names a loop around it.
 pub fn law_of_lowering()
     ensures values { LoweredRunsAsItsSource }
     ensures free { LoweredWalksAsItRunsFreely }
