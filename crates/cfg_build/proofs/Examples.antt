@@ -2,4 +2,5 @@
 mod Drops
 mod Jumps
 mod Matches
+mod Uses
 mod Words
