@@ -49,7 +49,9 @@ or_zero (Some n) = n
 -- the number of the same type in another table
 abbrev same_in : ItemTable → ItemTable → TyId → TyId
 same_in others items ty =
-    record { 0 = or_zero (position_of (λ t. bytes_eq (spelled_if (spelled 5 others) (Some t)) (spelled 6 items ty)) others.types) }
+    record {
+      0 = or_zero (position_of (λ t. bytes_eq (spelled_if (spelled 5 others) (Some t)) (spelled 6 items ty)) others.types);
+    }
 
 -- ---- trees
 
@@ -82,7 +84,8 @@ module _ (f : TyId → TyId) where
     bare_form (Assign place value) = Assign (bare place) (bare value)
     bare_form (Call body args) = Call body (bare_nodes args)
     bare_form (MethodCall body receiver args) = MethodCall body (bare receiver) (bare_nodes args)
-    bare_form (VirtualCall trait_no method receiver args) = VirtualCall trait_no method (bare receiver) (bare_nodes args)
+    bare_form (VirtualCall trait_no method receiver args) =
+        VirtualCall trait_no method (bare receiver) (bare_nodes args)
     bare_form (ClosureCall body callee args) = ClosureCall body (bare callee) (bare_nodes args)
     bare_form (Make adt variant fields) = Make adt variant (bare_fields fields)
     bare_form (Tuple parts) = Tuple (bare_nodes parts)
@@ -100,7 +103,8 @@ module _ (f : TyId → TyId) where
     bare_form (Let pattern initialiser) = Let (bare pattern) (bare_maybe initialiser)
     bare_form (Evaluate expression) = Evaluate (bare expression)
     bare_form (If condition body otherwise) = If (bare condition) (bare body) (bare_maybe otherwise)
-    bare_form (IfLet pattern scrutinee body otherwise) = IfLet (bare pattern) (bare scrutinee) (bare body) (bare_maybe otherwise)
+    bare_form (IfLet pattern scrutinee body otherwise) =
+        IfLet (bare pattern) (bare scrutinee) (bare body) (bare_maybe otherwise)
     bare_form (Match scrutinee arms) = Match (bare scrutinee) (bare_nodes arms)
     bare_form (Arm pattern guard body) = Arm (bare pattern) (bare_maybe guard) (bare body)
     bare_form (Loop body) = Loop (bare body)
@@ -135,7 +139,8 @@ module _ (f : TyId → TyId) where
   bare_param p = record { pattern = bare p.pattern; ty = f p.ty }
 
   abbrev bare_body : BodyTree → BodyTree
-  bare_body b = record { number = b.number; params = map bare_param b.params; answer = f b.answer; block = bare b.block }
+  bare_body b =
+      record { number = b.number; params = map bare_param b.params; answer = f b.answer; block = bare b.block }
 
 -- the bodies of an example, and those of a text as its types are numbered
 abbrev pub trees : ProgramTree → List BodyTree

@@ -1,5 +1,5 @@
 -- More texts that are typed, and whose typed programs are well typed, by computation: each form at least once.
-use Rattle.std.proofs.Common.{◌≡◌, true, List, [], ◌∷◌, ℕ, refl}
+use Rattle.std.proofs.Common.{◌≡◌, true, [], ◌∷◌, refl}
 use Rattle.std.specs.Prelude.{codes}
 use Rattle.typing_rules.proofs.Words.{lines, stands}
 

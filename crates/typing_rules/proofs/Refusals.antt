@@ -1,5 +1,5 @@
 -- For each rule the ways in which it is broken, with its place, beside the nearest text that stands, by computation.
-use Rattle.std.proofs.Common.{◌≡◌, true, List, [], ◌∷◌, ℕ, refl}
+use Rattle.std.proofs.Common.{◌≡◌, true, [], ◌∷◌, refl}
 use Rattle.std.specs.Prelude.{codes}
 use Rattle.mir_base.specs.declared.rule.Rule.{Rule}
 use Rattle.typing_rules.proofs.Words.{text, place, outcome, Refused, stands}
@@ -587,7 +587,8 @@ t03_42 : outcome (text (
     ≡ Refused Rule.T03 (place 2 1)
 t03_42 = refl
 
-t03_42_stands : stands (codes "trait Tr {} struct S; impl Tr for S {} fn main() { let b: Box<dyn Tr> = Box::new(S); }") ≡ true
+t03_42_stands :
+    stands (codes "trait Tr {} struct S; impl Tr for S {} fn main() { let b: Box<dyn Tr> = Box::new(S); }") ≡ true
 t03_42_stands = refl
 
 t03_43 : outcome (codes "struct S { a: i32 } struct T { a: i32 } fn main() { let S { a } = (T { a: 1 }); }")
@@ -1131,7 +1132,8 @@ t08_16 : outcome (codes "struct S; impl S { fn f(&self) { self.g(); } fn g(&mut 
     ≡ Refused Rule.T08 (place 1 34)
 t08_16 = refl
 
-t08_16_stands : stands (codes "struct S; impl S { fn f(&mut self) { self.g(); } fn g(&mut self) {} } fn main() {}") ≡ true
+t08_16_stands :
+    stands (codes "struct S; impl S { fn f(&mut self) { self.g(); } fn g(&mut self) {} } fn main() {}") ≡ true
 t08_16_stands = refl
 
 t08_17 : outcome (codes "struct S(i32); impl S { fn f(&self) { self.0 = 1; } } fn main() {}")
@@ -1517,7 +1519,8 @@ t19_3 : outcome (text (
     ≡ Refused Rule.T19 (place 1 20)
 t19_3 = refl
 
-t19_3_stands : stands (codes "fn main() { let x: (i32, i32, i32, i32, i32, i32, i32, i32, i32, i32, i32, i32); }") ≡ true
+t19_3_stands :
+    stands (codes "fn main() { let x: (i32, i32, i32, i32, i32, i32, i32, i32, i32, i32, i32, i32); }") ≡ true
 t19_3_stands = refl
 
 t19_4 : outcome (codes "fn main() { (1, 1, 1, 1, 1, 1, 1, 1, 1, 1, 1, 1, 1); }")

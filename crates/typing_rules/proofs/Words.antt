@@ -1,7 +1,7 @@
 -- Texts typed by the definitions. Their tokens, with places, are found by a small lexer of the examples' own, and
 -- read by
 -- the parser's definition.
-use Rattle.std.specs.Prelude.{true, ℕ, suc, ◌+◌, ◌*◌, ◌-◌, ◌==◌, nat_le, Bool, false, ◌&&◌, ◌||◌, not, List, [], ◌∷◌, ◌++◌, reverse, Option, Some, None, Result, Ok, Err, if◌then◌else◌, codes}
+use Rattle.std.specs.Prelude.{ℕ, suc, ◌+◌, ◌*◌, ◌-◌, ◌==◌, nat_le, Bool, false, ◌&&◌, ◌||◌, not, List, [], ◌∷◌, ◌++◌, reverse, Option, Some, None, Result, Ok, Err, if◌then◌else◌, codes}
 use Rattle.std.specs.List.{list_any}
 use Rattle.std.specs.Str.{bytes_eq}
 use Rattle.mir_base.specs.declared.int_kind.IntKind.{IntKind}
@@ -198,8 +198,3 @@ is_good _ = false
 
 abbrev pub stands : List ℕ → Bool
 stands text = is_good (outcome text)
-
--- what is typed is well typed
-abbrev pub is_sound : Outcome → Bool
-is_sound (Typed p) = is_well_typed p
-is_sound _ = true
