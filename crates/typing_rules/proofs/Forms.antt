@@ -221,6 +221,15 @@ types_named_like_variables : stands (lines (
     [])) ≡ true
 types_named_like_variables = refl
 
+binding_named_like_an_enum : stands (lines (
+    codes "struct D;" ∷
+    codes "enum E { A(D) }" ∷
+    codes "trait Tr {}" ∷
+    codes "fn main() { let x = E::A(D); let E = x; let Tr = 1; match E { E::A(_) => {} } let (main) =" ∷
+    codes "E; }" ∷
+    [])) ≡ true
+binding_named_like_an_enum = refl
+
 unit_struct_patterns : stands (lines (
     codes "struct U;" ∷
     codes "fn f(u: U, t: (U, i32)) { let U = u; match t { (U, n) => print(n) } }" ∷

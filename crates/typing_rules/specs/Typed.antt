@@ -11,7 +11,7 @@ use Rattle.mir_ty.specs.ItemTable.{ItemTable}
 use Rattle.typed_tree.specs.Tree as tree
 use Rattle.typed_tree.specs.Tree.{Node, Nodes, no_node, a_node, Fields, MaybeNode, absent, present}
 use Rattle.well_typed.specs.Places.{ty_of}
-use Rattle.well_typed.specs.Types.{is_reference, variant_at}
+use Rattle.well_typed.specs.Types.{is_reference, is_enum, variant_at}
 use Rattle.typing_rules.specs.Bodies.{all_rules, closure}
 use Rattle.typing_rules.specs.Check.{Check, ◌>>=◌, ◌>>◌, ◌<$>◌, pure, breaks, known, the_items, interned}
 use Rattle.typing_rules.specs.Named.{PathValue, Makes, IsBroken, path_value, Callee, Function, Constructor, Prints, Asks, Drops, Forgets, Boxes, AValue, Unnamed, NoCallee, callee_of, method_named}
@@ -110,12 +110,17 @@ passed at by_value (Some x) want is_unique to = do
 
 -- ---- statements
 
+-- a lone name of a struct is no binding
+abbrev names_struct : ItemTable → Option ℕ → Bool
+names_struct items None = false
+names_struct items (Some adt) = not (is_enum items adt)
+
 abbrev mutual
   is_one_name : ItemTable → Syn → Bool
   is_one_name items (syn at form) = is_one_name_form items form
 
   is_one_name_form : ItemTable → Shape → Bool
-  is_one_name_form items (BindPattern name) = not (is_some (adt_named items name))
+  is_one_name_form items (BindPattern name) = not (names_struct items (adt_named items name))
   is_one_name_form items (ParensPattern inside) = is_one_name items inside
   is_one_name_form items _ = false
 
