@@ -1,4 +1,5 @@
 pub mod Accepted
 mod Forms
+pub mod LeastSet
 mod Refusals
 pub mod Words

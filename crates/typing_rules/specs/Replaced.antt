@@ -1,6 +1,6 @@
 -- Which `&mut` parameters a call may replace as a whole: the least set such that a parameter is in it where its body
 -- stores into exactly `*p`, or passes p on for a parameter in the set. A method of a trait stands for all its impls.
-use Rattle.std.specs.Prelude.{ℕ, zero, suc, Bool, true, false, ◌==◌, ◌&&◌, ◌||◌, List, [], ◌∷◌, map, length, Option, Some, None, slice_get, if◌then◌else◌}
+use Rattle.std.specs.Prelude.{ℕ, zero, suc, Bool, true, false, ◌==◌, ◌&&◌, ◌||◌, List, [], ◌∷◌, map, length, Option, Some, None, slice_get, if◌then◌else◌, IsTrue, Contains, ◌↔◌}
 use Rattle.std.specs.List.{filter_map, filter, flat_map, list_any}
 use Rattle.mir_base.specs.declared.place_in_text.Pos.{Pos}
 use Rattle.mir_ty.specs.declared.def.ImplDef.{ImplDef}
@@ -88,37 +88,52 @@ abbrev facts_from : BodyTree → ℕ → List ParamTree → List Facts
 facts_from body k [] = []
 facts_from body k (param ∷ params) = facts_of body k param ∷ facts_from body (suc k) params
 
-abbrev all_facts : List BodyTree → List Facts
+abbrev pub all_facts : List BodyTree → List Facts
 all_facts bodies = flat_map (λ body. facts_from body 0 body.params) bodies
 
-abbrev is_param : ℕ → ℕ → Param → Bool
+abbrev pub is_param : ℕ → ℕ → Param → Bool
 is_param body number p = p.body == body && p.number == number
 
-abbrev is_among : List Param → ℕ → ℕ → Bool
+abbrev pub is_among : List Param → ℕ → ℕ → Bool
 is_among params number body = list_any (is_param body number) params
 
 -- the bodies that are called
 abbrev method_in : ℕ → ℕ → ImplDef → Option ℕ
 method_in trait_no method def = if def.trait_no == trait_no then slice_get def.bodies method else None
 
-abbrev bodies_of : ItemTable → Callee → List ℕ
+abbrev pub bodies_of : ItemTable → Callee → List ℕ
 bodies_of items (OfBody body) = body ∷ []
 bodies_of items (OfTrait trait_no method) = filter_map (method_in trait_no method) items.impls
 
 abbrev pub is_replaced : ItemTable → List Param → Passing → Bool
 is_replaced items params p = list_any (is_among params p.number) (bodies_of items p.callee)
 
-abbrev param_of : Facts → Param
+abbrev pub param_of : Facts → Param
 param_of f = f.param
 
-abbrev next : ItemTable → List Facts → List Param → List Param
+abbrev pub next : ItemTable → List Facts → List Param → List Param
 next items facts params =
     map param_of (filter (λ (f : Facts). f.is_stored || list_any (is_replaced items params) f.passed) facts)
 
 -- each round but the last finds one parameter more
-abbrev after : ℕ → ItemTable → List Facts → List Param
+abbrev pub after : ℕ → ItemTable → List Facts → List Param
 after zero items facts = []
 after (suc n) items facts = next items facts (after n items facts)
 
 abbrev pub replaceable : ProgramTree → List Param
 replaceable p = let facts = all_facts p.bodies in after (suc (length facts)) p.items facts
+
+-- ---- the set by its rules
+
+-- the parameter with a number of a body is replaceable among parameters of which these facts are known
+pub data Replaceable (items : ItemTable) (facts : List Facts) : ℕ → ℕ → Type 0 where
+  by_store : (f : Facts) → Contains facts f → IsTrue f.is_stored →
+      Replaceable items facts f.param.number f.param.body
+  by_call : (f : Facts) (p : Passing) (body : ℕ) → Contains facts f → Contains f.passed p →
+      Contains (bodies_of items p.callee) body → Replaceable items facts p.number body →
+      Replaceable items facts f.param.number f.param.body
+
+-- the rounds find exactly the least set
+abbrev pub RoundsFindTheLeast : Type 0
+RoundsFindTheLeast = (p : ProgramTree) (number body : ℕ) →
+    IsTrue (is_among (replaceable p) number body) ↔ Replaceable p.items (all_facts p.bodies) number body
