@@ -6,4 +6,5 @@ pub mod Operands
 pub mod PathEq
 pub mod SameReach
 pub mod Stands
+pub mod StepsDone
 pub mod Wholes

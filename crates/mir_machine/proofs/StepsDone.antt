@@ -1,0 +1,108 @@
+-- One step after another, as the machine does them.
+use Rattle.std.proofs.Common.{◌≡◌, Bool, not, List, [], map, All, Option, Some, None, refl, ap, sym, subst, ◌∙◌}
+use Rattle.std.proofs.lemmas.List.Elements.{All-map}
+use Rattle.cfg_graph.specs.declared.place.Operand.{Operand}
+use Rattle.cfg_meaning.specs.Actions.{operand_of, operands_of}
+use Rattle.mir_base.specs.Trace.{Trace}
+use Rattle.mir_machine.specs.declared.actions.Outcome.{Outcome}
+use Rattle.mir_machine.specs.declared.world.World.{World}
+use Rattle.mir_machine.specs.Steps.{seen, Halted, Does, truth_of}
+use Rattle.mir_machine.specs.Worlds.{state_of, run_setting, Evaluates, EvaluatesAll}
+use Rattle.store_model.specs.declared.value.Value.{Value, Value-F, fold-roll-Value}
+use Rattle.store_model.specs.declared.value.Value.TheVariants.{rolls-Bool}
+use Rattle.store_model.specs.Concrete.Effects.{evaluate_operand, evaluate_operands, with_operand, with_operands, put, put_if}
+use Rattle.store_model.specs.Concrete.Location.{Setting}
+use Rattle.store_model.specs.Concrete.State.{State}
+use Rattle.store_model.specs.Effects.{Site, Stuck, Out, Halts}
+use Rattle.store_model.specs.Values.Datum.{Datum, Gone, Number, Truth, UnitValue, Aggregate, Box, Address, data_from, datum_of, datum_of_layer}
+use Rattle.store_model.specs.Values.Wholeness.{IsWhole, AreWhole}
+use Rattle.store_model.proofs.Values.Wholeness.{AreWhole-data_from}
+
+-- What comes after operands.
+
+operand_next : (setting : Setting) (operand : Operand) (w after : State) (value : Datum) (next : Datum → State → Out State) →
+    evaluate_operand setting (operand_of 0 operand) w ≡ Some (value, after) → with_operand setting (operand_of 0 operand) w next ≡ next value after
+operand_next setting operand w after value next e = rw e refl
+
+operand_none : (setting : Setting) (operand : Operand) (w : State) (next : Datum → State → Out State) →
+    evaluate_operand setting (operand_of 0 operand) w ≡ None → with_operand setting (operand_of 0 operand) w next ≡ Halts Stuck w
+operand_none setting operand w next e = rw e refl
+
+operands_next : (setting : Setting) (operands : List Operand) (w after : State) (values : List Datum) (next : List Datum → State → Out State) →
+    evaluate_operands setting (operands_of 0 operands) w ≡ Some (values, after) → with_operands setting (operands_of 0 operands) w next ≡ next values after
+operands_next setting operands w after values next e = rw e refl
+
+operands_none : (setting : Setting) (operands : List Operand) (w : State) (next : List Datum → State → Out State) →
+    evaluate_operands setting (operands_of 0 operands) w ≡ None → with_operands setting (operands_of 0 operands) w next ≡ Halts Stuck w
+operands_none setting operands w next e = rw e refl
+
+module _ (old mid : World) where
+  module _ (operand : Operand) (taken : Option Value) (gave : (before : Trace) → Evaluates (run_setting old) operand (state_of before old) taken (state_of before mid)) where
+    pub value_whole : (value : Value) → taken ≡ Some value → IsWhole (datum_of value)
+    value_whole value e = (subst (λ t. Evaluates (run_setting old) operand (state_of [] old) t (state_of [] mid)) e (gave [])).0
+
+    pub then_does : (value : Value) → taken ≡ Some value → (next : Datum → State → Out State) (outcome : Outcome) (new : World) → Does (next (datum_of value)) mid outcome new →
+        Does (λ w. with_operand (run_setting old) (operand_of 0 operand) w next) old outcome new
+    then_does value e next outcome new h before =
+        let g = subst (λ t. Evaluates (run_setting old) operand (state_of before old) t (state_of before mid)) e (gave before) in
+        ap seen (operand_next (run_setting old) operand (state_of before old) (state_of before mid) (datum_of value) next g.1) ∙ h before
+
+    pub stuck_does : taken ≡ None → (next : Datum → State → Out State) → Does (λ w. with_operand (run_setting old) (operand_of 0 operand) w next) old Outcome.Stuck mid
+    stuck_does e next before =
+        let g = subst (λ t. Evaluates (run_setting old) operand (state_of before old) t (state_of before mid)) e (gave before) in
+        ap seen (operand_none (run_setting old) operand (state_of before old) next g.0) ∙ ap (λ w. Halted Stuck w.trace) (sym g.1)
+
+  module _ (operands : List Operand) (taken : Option (List Value)) (gave : (before : Trace) → EvaluatesAll (run_setting old) operands (state_of before old) taken (state_of before mid)) where
+    pub values_whole : (values : List Value) → taken ≡ Some values → All (λ value. IsWhole (datum_of value)) values
+    values_whole values e = (subst (λ t. EvaluatesAll (run_setting old) operands (state_of [] old) t (state_of [] mid)) e (gave [])).0
+
+    pub then_all_do : (values : List Value) → taken ≡ Some values → (next : List Datum → State → Out State) (outcome : Outcome) (new : World) → Does (next (map datum_of values)) mid outcome new →
+        Does (λ w. with_operands (run_setting old) (operands_of 0 operands) w next) old outcome new
+    then_all_do values e next outcome new h before =
+        let g = subst (λ t. EvaluatesAll (run_setting old) operands (state_of before old) t (state_of before mid)) e (gave before) in
+        ap seen (operands_next (run_setting old) operands (state_of before old) (state_of before mid) (map datum_of values) next g.1) ∙ h before
+
+    pub stuck_all_do : taken ≡ None → (next : List Datum → State → Out State) → Does (λ w. with_operands (run_setting old) (operands_of 0 operands) w next) old Outcome.Stuck mid
+    stuck_all_do e next before =
+        let g = subst (λ t. EvaluatesAll (run_setting old) operands (state_of before old) t (state_of before mid)) e (gave before) in
+        ap seen (operands_none (run_setting old) operands (state_of before old) next g.0) ∙ ap (Halted Stuck) (sym g.1)
+
+-- in one setting as in another that is the same
+pub in_setting : (one other : Setting) → one ≡ other → (step : Setting → State → Out State) (old : World) (outcome : Outcome) (new : World) → Does (step one) old outcome new → Does (step other) old outcome new
+in_setting one other e step old outcome new h = subst (λ setting. Does (step setting) old outcome new) e h
+
+pub all_whole : (parts : List Value) → All (λ part. IsWhole (datum_of part)) parts → AreWhole (data_from (map datum_of parts))
+all_whole parts h = (AreWhole-data_from (map datum_of parts)).1 (All-map IsWhole datum_of parts h)
+
+-- what a value is the other truth value of
+abbrev pub other_of : Datum → Option Datum
+other_of (Truth b) = Some (Truth (not b))
+other_of _ = None
+
+abbrev pub other_truth : Setting → Site → Datum → State → Out State
+other_truth setting to value = put_if setting to (other_of value)
+
+module _ (setting : Setting) (to : Site) (old new : World) (outcome : Outcome) (value : Datum) where
+  pub other_stored : (truth : Bool) → truth_of value ≡ Some truth → Does (put setting to (Truth (not truth))) old outcome new → Does (other_truth setting to value) old outcome new
+  other_stored truth e h = go value e
+    where
+      go : (value : Datum) → truth_of value ≡ Some truth → Does (other_truth setting to value) old outcome new
+      go (Truth b) e = let same : b ≡ truth = cc in subst (λ t. Does (put setting to (Truth (not t))) old outcome new) (sym same) h
+      go Gone e = absurd (cc)
+      go (Number number) e = absurd (cc)
+      go UnitValue e = absurd (cc)
+      go (Aggregate variant serial parts) e = absurd (cc)
+      go (Box serial impl_no inside) e = absurd (cc)
+      go (Address address) e = absurd (cc)
+
+pub no_other : (setting : Setting) (to : Site) (w : World) (value : Datum) → truth_of value ≡ None → Does (other_truth setting to value) w Outcome.Stuck w
+no_other setting to w (Truth b) e before = absurd (cc)
+no_other setting to w Gone e before = refl
+no_other setting to w (Number number) e before = refl
+no_other setting to w UnitValue e before = refl
+no_other setting to w (Aggregate variant serial parts) e before = refl
+no_other setting to w (Box serial impl_no inside) e before = refl
+no_other setting to w (Address address) e before = refl
+
+pub datum_of_truth : (truth : Bool) → datum_of (Value.Bool truth) ≡ Truth truth
+datum_of_truth truth = ap datum_of (sym (rolls-Bool truth)) ∙ fold-roll-Value Datum datum_of_layer (Value-F.Bool truth)

@@ -1,0 +1,117 @@
+ghost use Rattle.std.specs.Prelude.{◌≡◌, All, IfOk, Some, None, map};
+ghost use Rattle.cfg_meaning.specs.Actions.{site_of, operand_of, operands_of};
+ghost use Rattle.mir_machine.specs.Steps.{Does, DoesAction, truth_of};
+ghost use Rattle.mir_machine.specs.Worlds.{state_of, run_setting};
+ghost use Rattle.store_model.specs.Concrete.Effects as effects;
+ghost use Rattle.store_model.specs.Effects as actions;
+ghost use Rattle.store_model.specs.Values.Datum.{Aggregate, data_from, datum_of};
+ghost use Rattle.store_model.specs.Values.Wholeness.{IsWhole};
+
+use crate::location::reach;
+use crate::whole::whole_at;
+use crate::{Reached, World};
+use cfg_graph::{Operand, Place};
+use mir_base::{Event, List, NoMemory};
+use std::alloc::Global;
+use store_model::{Addr, Value};
+
+/// How one step of a run ends.
+#[derive(Clone, Copy, Debug, PartialEq, Eq)]
+pub enum Outcome {
+    /// It goes on.
+    Goes,
+    /// A panic unwinds from it.
+    Panics,
+    /// There is no step.
+    Stuck,
+}
+
+impl World<'_> {
+    /// Stores a whole value at a place, whatever stood there. It is stuck where there is no such place.
+    pub fn put(&mut self, alloc: Global, to: &Place, value: Value) -> Result<Outcome, NoMemory>
+        requires { IsWhole (datum_of value) }
+        ensures run { run_setting self.new ≡ run_setting self.old }
+        ensures does { IfOk result (λ outcome.
+            Does (effects.put (run_setting self.old) (site_of 0 to.now) (datum_of value)) self.old outcome self.new) }
+    {
+        let Reached::Reaches(s) = reach(alloc, self.graph, &self.store, to)? else {
+            return Ok(Outcome::Stuck);
+        };
+        let Addr { depth, key, path } = s.address;
+        self.store
+            .put(alloc, depth as usize, key.0, path.as_slice(), value)?;
+        Ok(Outcome::Goes)
+    }
+
+    /// Stores what an operand gives.
+    pub fn assign(&mut self, alloc: Global, to: &Place, from: &Operand) -> Result<Outcome, NoMemory>
+        ensures run { run_setting self.new ≡ run_setting self.old }
+        ensures does { IfOk result (λ outcome.
+            DoesAction (actions.Put (site_of 0 to.now) (operand_of 0 from.now)) self.old outcome self.new) }
+    {
+        match self.evaluate(alloc, from)? {
+            Some(value) => self.put(alloc, to, value),
+            None => Ok(Outcome::Stuck),
+        }
+    }
+
+    /// Stores the aggregate of what operands give: a tuple, an array or a closure value.
+    pub fn aggregate(
+        &mut self,
+        alloc: Global,
+        to: &Place,
+        parts: &[Operand],
+    ) -> Result<Outcome, NoMemory>
+        ensures run { run_setting self.new ≡ run_setting self.old }
+        ensures does { IfOk result (λ outcome.
+            DoesAction (actions.Build (site_of 0 to.now) actions.OfTuple (operands_of 0 parts.now)) self.old outcome self.new) }
+    {
+        match self.evaluate_all(alloc, parts)? {
+            Some(parts) => self.put(alloc, to, aggregate_of(0, None, parts)),
+            None => Ok(Outcome::Stuck),
+        }
+    }
+
+    /// Stores the other truth value.
+    pub fn negate_truth(
+        &mut self,
+        alloc: Global,
+        to: &Place,
+        operand: &Operand,
+    ) -> Result<Outcome, NoMemory>
+        ensures run { run_setting self.new ≡ run_setting self.old }
+        ensures does { IfOk result (λ outcome.
+            DoesAction (actions.Not (site_of 0 to.now) (operand_of 0 operand.now)) self.old outcome self.new) }
+    {
+        let Some(value) = self.evaluate(alloc, operand)? else {
+            return Ok(Outcome::Stuck);
+        };
+        match truth_in(&value) {
+            Some(truth) => self.put(alloc, to, Value::Bool(!truth)),
+            None => Ok(Outcome::Stuck),
+        }
+    }
+}
+
+/// The truth value that a value is.
+fn truth_in(value: &Value) -> Option<bool>
+    ensures { result ≡ truth_of (datum_of value.now) }
+{
+    match value {
+        Value::Bool(truth) => Some(*truth),
+        _ => None,
+    }
+}
+
+/// The aggregate of these parts.
+fn aggregate_of(variant: u32, serial: Option<u64>, parts: List<Value>) -> Value
+    requires { All (λ part. IsWhole (datum_of part)) parts }
+    ensures value { datum_of result ≡ Aggregate variant serial (data_from (map datum_of parts)) }
+    ensures whole { IsWhole (datum_of result) }
+{
+    Value::Parts {
+        variant,
+        serial,
+        parts,
+    }
+}
