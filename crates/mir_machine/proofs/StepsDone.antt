@@ -1,8 +1,12 @@
 -- One step after another, as the machine does them.
-use Rattle.std.proofs.Common.{◌≡◌, Bool, not, List, [], map, All, Option, Some, None, refl, ap, sym, subst, ◌∙◌}
+use Rattle.std.proofs.Common.{◌≡◌, Bool, true, not, List, [], map, All, Option, Some, None, refl, ap, sym, subst, ◌∙◌}
 use Rattle.std.proofs.lemmas.List.Elements.{All-map}
 use Rattle.cfg_graph.specs.declared.place.Operand.{Operand}
-use Rattle.cfg_meaning.specs.Actions.{operand_of, operands_of}
+use Rattle.cfg_meaning.specs.Actions.{site_of, operand_of, operands_of}
+use Rattle.cfg_meaning.specs.Programs.{setting_of}
+use Rattle.cfg_graph.specs.declared.place.Place.{Place}
+use Rattle.mir_machine.specs.Standing.{with_activations}
+use Rattle.mir_machine.proofs.Operands.{whole_same}
 use Rattle.mir_base.specs.Trace.{Trace}
 use Rattle.mir_machine.specs.declared.actions.Outcome.{Outcome}
 use Rattle.mir_machine.specs.declared.world.World.{World}
@@ -10,8 +14,8 @@ use Rattle.mir_machine.specs.Steps.{seen, Halted, Does, truth_of}
 use Rattle.mir_machine.specs.Worlds.{state_of, run_setting, Evaluates, EvaluatesAll}
 use Rattle.store_model.specs.declared.value.Value.{Value, Value-F, fold-roll-Value}
 use Rattle.store_model.specs.declared.value.Value.TheVariants.{rolls-Bool}
-use Rattle.store_model.specs.Concrete.Effects.{evaluate_operand, evaluate_operands, with_operand, with_operands, put, put_if}
-use Rattle.store_model.specs.Concrete.Location.{Setting}
+use Rattle.store_model.specs.Concrete.Effects.{evaluate_operand, evaluate_operands, with_operand, with_operands, put, put_if, or_stuck, whole_at}
+use Rattle.store_model.specs.Concrete.Location.{Setting, Located}
 use Rattle.store_model.specs.Concrete.State.{State}
 use Rattle.store_model.specs.Effects.{Site, Stuck, Out, Halts}
 use Rattle.store_model.specs.Values.Datum.{Datum, Gone, Number, Truth, UnitValue, Aggregate, Box, Address, data_from, datum_of, datum_of_layer}
@@ -106,3 +110,16 @@ no_other setting to w (Address address) e before = refl
 
 pub datum_of_truth : (truth : Bool) → datum_of (Value.Bool truth) ≡ Truth truth
 datum_of_truth truth = ap datum_of (sym (rolls-Bool truth)) ∙ fold-roll-Value Datum datum_of_layer (Value-F.Bool truth)
+
+-- What is done with what stands whole at a place.
+
+pub place_next : (w : World) (place : Place) (s : Located) → whole_at (setting_of true w.graph.now) (with_activations (state_of [] w).activations) (site_of 0 place) ≡ Some s →
+    (next : Located → State → Out State) (outcome : Outcome) (new : World) → Does (next s) w outcome new →
+    Does (λ v. or_stuck (whole_at (run_setting w) v (site_of 0 place)) (λ s. next s v) v) w outcome new
+place_next w place s is next outcome new h before =
+    ap seen (ap (λ o. or_stuck o (λ s. next s (state_of before w)) (state_of before w)) (whole_same w.strict w.graph.now (state_of before w) (site_of 0 place) ∙ is)) ∙ h before
+
+pub place_stuck : (w : World) (place : Place) → whole_at (setting_of true w.graph.now) (with_activations (state_of [] w).activations) (site_of 0 place) ≡ None →
+    (next : Located → State → Out State) → Does (λ v. or_stuck (whole_at (run_setting w) v (site_of 0 place)) (λ s. next s v) v) w Outcome.Stuck w
+place_stuck w place is next before =
+    ap seen (ap (λ o. or_stuck o (λ s. next s (state_of before w)) (state_of before w)) (whole_same w.strict w.graph.now (state_of before w) (site_of 0 place) ∙ is))

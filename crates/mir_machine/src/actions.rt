@@ -91,6 +91,31 @@ impl World<'_> {
             None => Ok(Outcome::Stuck),
         }
     }
+
+    /// Reads the whole value of a place, without effect.
+    pub fn touch(&self, alloc: Global, place: &Place) -> Result<Outcome, NoMemory>
+        ensures { IfOk result (λ outcome.
+            DoesAction (actions.Touch (site_of 0 place.now)) self.now outcome self.now) }
+    {
+        match whole_at(alloc, self.graph, &self.store, place)? {
+            Some(_) => Ok(Outcome::Goes),
+            None => Ok(Outcome::Stuck),
+        }
+    }
+
+    /// Stores a reference to a place; `unique` where it is `&mut`, which makes no difference to a run.
+    pub fn borrow(&mut self, alloc: Global, to: &Place, unique: bool, of: &Place) -> Result<Outcome, NoMemory>
+        ensures run { run_setting self.new ≡ run_setting self.old }
+        ensures does { IfOk result (λ outcome.
+            DoesAction (actions.Borrow (site_of 0 to.now) unique (site_of 0 of.now)) self.old outcome self.new) }
+    {
+        let _ = unique;
+        let Some(s) = whole_at(alloc, self.graph, &self.store, of)? else {
+            return Ok(Outcome::Stuck);
+        };
+        let address = s.address;
+        self.put(alloc, to, Value::Address(address))
+    }
 }
 
 /// The truth value that a value is.
