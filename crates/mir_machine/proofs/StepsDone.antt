@@ -1,22 +1,23 @@
 -- One step after another, as the machine does them.
-use Rattle.std.proofs.Common.{◌≡◌, Bool, true, not, List, [], map, All, Option, Some, None, refl, ap, sym, subst, ◌∙◌}
+use Rattle.std.proofs.Common.{◌≡◌, ℤ, Bool, true, not, List, [], map, All, Option, Some, None, refl, ap, sym, subst, ◌∙◌}
 use Rattle.std.proofs.lemmas.List.Elements.{All-map}
 use Rattle.cfg_graph.specs.declared.place.Operand.{Operand}
 use Rattle.cfg_meaning.specs.Actions.{site_of, operand_of, operands_of}
 use Rattle.cfg_meaning.specs.Programs.{setting_of}
 use Rattle.cfg_graph.specs.declared.place.Place.{Place}
-use Rattle.mir_machine.specs.Standing.{with_activations}
+use Rattle.mir_machine.specs.Standing.{with_activations, number_of}
 use Rattle.mir_machine.proofs.Operands.{whole_same}
 use Rattle.mir_base.specs.Trace.{Trace}
 use Rattle.mir_machine.specs.declared.actions.Outcome.{Outcome}
 use Rattle.mir_machine.specs.declared.world.World.{World}
-use Rattle.mir_machine.specs.Steps.{seen, Halted, Does, truth_of}
+use Rattle.mir_machine.specs.Steps.{seen, Goes, Halted, Does, truth_of}
+use Rattle.mir_base.specs.declared.trace.Event.{Event}
 use Rattle.mir_machine.specs.Worlds.{state_of, run_setting, Evaluates, EvaluatesAll}
 use Rattle.store_model.specs.declared.value.Value.{Value, Value-F, fold-roll-Value}
 use Rattle.store_model.specs.declared.value.Value.TheVariants.{rolls-Bool}
-use Rattle.store_model.specs.Concrete.Effects.{evaluate_operand, evaluate_operands, with_operand, with_operands, put, put_if, or_stuck, whole_at}
+use Rattle.store_model.specs.Concrete.Effects.{evaluate_operand, evaluate_operands, with_operand, with_operands, put, put_if, or_stuck, whole_at, printed}
 use Rattle.store_model.specs.Concrete.Location.{Setting, Located}
-use Rattle.store_model.specs.Concrete.State.{State}
+use Rattle.store_model.specs.Concrete.State.{State, with_event}
 use Rattle.store_model.specs.Effects.{Site, Stuck, Out, Halts}
 use Rattle.store_model.specs.Values.Datum.{Datum, Gone, Number, Truth, UnitValue, Aggregate, Box, Address, data_from, datum_of, datum_of_layer}
 use Rattle.store_model.specs.Values.Wholeness.{IsWhole, AreWhole}
@@ -123,3 +124,26 @@ pub place_stuck : (w : World) (place : Place) → whole_at (setting_of true w.gr
     (next : Located → State → Out State) → Does (λ v. or_stuck (whole_at (run_setting w) v (site_of 0 place)) (λ s. next s v) v) w Outcome.Stuck w
 place_stuck w place is next before =
     ap seen (ap (λ o. or_stuck o (λ s. next s (state_of before w)) (state_of before w)) (whole_same w.strict w.graph.now (state_of before w) (site_of 0 place) ∙ is))
+
+-- Printing.
+
+pub number_printed : (setting : Setting) (w : World) (new : World) (value : Datum) (number shown : ℤ) → number_of value ≡ Some number →
+    ((before : Trace) → state_of before new ≡ with_event (Event.Printed shown) (state_of before w)) → shown ≡ number → Does (printed setting value) w Outcome.Goes new
+number_printed setting w new (Number n) number shown e told same before =
+    let is : n ≡ number = cc in
+    ap (λ k. Goes (with_event (Event.Printed k) (state_of before w))) (is ∙ sym same) ∙ ap Goes (sym (told before))
+number_printed setting w new Gone number shown e told same before = absurd (cc)
+number_printed setting w new (Truth truth) number shown e told same before = absurd (cc)
+number_printed setting w new UnitValue number shown e told same before = absurd (cc)
+number_printed setting w new (Aggregate variant serial parts) number shown e told same before = absurd (cc)
+number_printed setting w new (Box serial impl_no inside) number shown e told same before = absurd (cc)
+number_printed setting w new (Address address) number shown e told same before = absurd (cc)
+
+pub nothing_printed : (setting : Setting) (w : World) (value : Datum) → number_of value ≡ None → Does (printed setting value) w Outcome.Stuck w
+nothing_printed setting w (Number n) e before = absurd (cc)
+nothing_printed setting w Gone e before = refl
+nothing_printed setting w (Truth truth) e before = refl
+nothing_printed setting w UnitValue e before = refl
+nothing_printed setting w (Aggregate variant serial parts) e before = refl
+nothing_printed setting w (Box serial impl_no inside) e before = refl
+nothing_printed setting w (Address address) e before = refl

@@ -1,7 +1,10 @@
-ghost use Rattle.std.specs.Prelude.{◌≡◌, All, IfOk, Some, None, map};
+ghost use Rattle.std.specs.Prelude.{◌≡◌, All, IfOk, OnOk, Some, None, map};
 ghost use Rattle.cfg_meaning.specs.Actions.{site_of, operand_of, operands_of};
 ghost use Rattle.mir_machine.specs.Steps.{Does, DoesAction, truth_of};
+ghost use Rattle.mir_base.specs.Trace.{Trace};
+ghost use Rattle.mir_machine.specs.Standing.{number_of};
 ghost use Rattle.mir_machine.specs.Worlds.{state_of, run_setting};
+ghost use Rattle.store_model.specs.Concrete.State.{with_event};
 ghost use Rattle.store_model.specs.Concrete.Effects as effects;
 ghost use Rattle.store_model.specs.Effects as actions;
 ghost use Rattle.store_model.specs.Values.Datum.{Aggregate, data_from, datum_of};
@@ -104,7 +107,13 @@ impl World<'_> {
     }
 
     /// Stores a reference to a place; `unique` where it is `&mut`, which makes no difference to a run.
-    pub fn borrow(&mut self, alloc: Global, to: &Place, unique: bool, of: &Place) -> Result<Outcome, NoMemory>
+    pub fn borrow(
+        &mut self,
+        alloc: Global,
+        to: &Place,
+        unique: bool,
+        of: &Place,
+    ) -> Result<Outcome, NoMemory>
         ensures run { run_setting self.new ≡ run_setting self.old }
         ensures does { IfOk result (λ outcome.
             DoesAction (actions.Borrow (site_of 0 to.now) unique (site_of 0 of.now)) self.old outcome self.new) }
@@ -115,6 +124,45 @@ impl World<'_> {
         };
         let address = s.address;
         self.put(alloc, to, Value::Address(address))
+    }
+
+    /// Tells of an event.
+    fn tell(&mut self, event: Event) -> Result<(), NoMemory>
+        ensures run { run_setting self.new ≡ run_setting self.old }
+        ensures told { OnOk result ((before : Trace) →
+            state_of before self.new ≡ with_event event (state_of before self.old)) }
+    {
+        self.told.push(event)
+    }
+
+    /// Prints a number.
+    pub fn print(&mut self, alloc: Global, operand: &Operand) -> Result<Outcome, NoMemory>
+        ensures run { run_setting self.new ≡ run_setting self.old }
+        ensures does { IfOk result (λ outcome.
+            DoesAction (actions.Print (operand_of 0 operand.now)) self.old outcome self.new) }
+    {
+        let Some(value) = self.evaluate(alloc, operand)? else {
+            return Ok(Outcome::Stuck);
+        };
+        let Some(number) = number_to_print(&value)? else {
+            return Ok(Outcome::Stuck);
+        };
+        self.tell(Event::Printed(number))?;
+        Ok(Outcome::Goes)
+    }
+}
+
+/// The number that a value is. A number outside `i32`, which a graph without a fault never prints, has no line; the
+/// answer is `NoMemory` there.
+fn number_to_print(value: &Value) -> Result<Option<i32>, NoMemory>
+    ensures { IfOk result (λ found. found ≡ number_of (datum_of value.now)) }
+{
+    let Value::Int(number) = value else {
+        return Ok(None);
+    };
+    match i32::try_from(*number) {
+        Ok(number) => Ok(Some(number)),
+        Err(_) => Err(NoMemory),
     }
 }
 
