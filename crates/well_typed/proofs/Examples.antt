@@ -166,8 +166,7 @@ with_bodies items look change closure main = record {
       with_param 2 shared_d_ty Use.Copy look ∷ with_param 3 unique_d_ty Use.Copy change ∷
       with_param 4 shared_d_ty Use.Copy (empty 1) ∷
       record { number = 5; params = closure_params; answer = unit; block = closure } ∷
-      record { number = 6; params = []; answer = unit; block = main } ∷
-      with_param 7 unique_h_ty Use.Copy (empty 1) ∷ [];
+      record { number = 6; params = []; answer = unit; block = main } ∷ with_param 7 unique_h_ty Use.Copy (empty 1) ∷ [];
 }
 
 abbrev of_main : Node → Bool
