@@ -4,3 +4,4 @@ pub mod Forms
 pub mod Jumps
 pub mod Rules
 pub mod Scopes
+pub mod Typed

@@ -10,6 +10,7 @@ use Rattle.cfg_meaning.specs.Walk.{renamed}
 use Rattle.mir_ty.specs.ItemTable.{ItemTable}
 use Rattle.typed_tree.specs.Tree.{BodyTree, ProgramTree}
 use Rattle.src_meaning.specs.Programs.{source, free_run, reached_by, refused_of}
+use Rattle.well_typed.specs.Program.{WellTyped}
 use Rattle.cfg_code.specs.Laws.{without_place, outcome_without_place}
 use Rattle.cfg_build.specs.Loops.{names_its_loops}
 use Rattle.cfg_build.specs.Lower.{body_of, node_of, graph_of}
@@ -21,6 +22,10 @@ NamesItsLoops tree = names_its_loops tree ≡ true
 abbrev pub AllNameTheirLoops : ProgramTree → Type 0
 AllNameTheirLoops program =
     (n : ℕ) (tree : BodyTree) → slice_get program.bodies n ≡ Some tree → NamesItsLoops tree
+
+-- as they do in a well typed program
+abbrev pub WellTypedNamesItsLoops : Type 0
+WellTypedNamesItsLoops = (program : ProgramTree) → WellTyped program → AllNameTheirLoops program
 
 -- with the same numbers to be asked and the same ticks, the trace and the end are the same
 abbrev pub LoweredRunsAsItsSource : Type 0

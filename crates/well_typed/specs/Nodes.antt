@@ -113,7 +113,7 @@ box_implements items to from trait_no =
     option_map_or (λ adt. implements items adt trait_no) (option_and_then (adt_of items) (boxed_of items from)) false
 
 -- the first of some types and the others
-abbrev first_and_rest : (TyId → Claim) → (List TyId → Claim) → List TyId → Claim
+abbrev pub first_and_rest : (TyId → Claim) → (List TyId → Claim) → List TyId → Claim
 first_and_rest first rest [] = fact false
 first_and_rest first rest (ty ∷ tys) = first ty & rest tys
 
@@ -249,68 +249,68 @@ abbrev mutual
   row c id ty (Return value) = returned c value & fact (is_never c.items ty)
   row c id ty _ = fact false
 
-  carries : Context → LoopAround → MaybeNode → Claim
+  pub carries : Context → LoopAround → MaybeNode → Claim
   carries c a absent = fact (is_unit c.items a.ty)
   carries c a (present value) = fact a.has_value & typed c (Wanted a.ty) value
 
-  returned : Context → MaybeNode → Claim
+  pub returned : Context → MaybeNode → Claim
   returned c absent = fact (is_unit c.items c.answer)
   returned c (present value) = typed c (Wanted c.answer) value
 
-  tail_of : Context → MaybeNode → Claim
+  pub tail_of : Context → MaybeNode → Claim
   tail_of c absent = nothing
   tail_of c (present tail) = typed c Taken tail
 
   -- arguments for parameters of these types, as many as there are
-  arguments : Context → List TyId → Nodes → Claim
+  pub arguments : Context → List TyId → Nodes → Claim
   arguments c [] no_node = nothing
   arguments c (ty ∷ tys) (a_node first rest) = typed c (Passed ty) first & arguments c tys rest
   arguments c tys nodes = fact false
 
-  made_parts : Context → List TyId → Nodes → Claim
+  pub made_parts : Context → List TyId → Nodes → Claim
   made_parts c [] no_node = nothing
   made_parts c (ty ∷ tys) (a_node first rest) = typed c (Wanted ty) first & made_parts c tys rest
   made_parts c tys nodes = fact false
 
-  made_fields : Context → List TyId → Fields → Claim
+  pub made_fields : Context → List TyId → Fields → Claim
   made_fields c tys no_field = nothing
   made_fields c tys (a_field number value rest) =
       some (slice_get tys number) (λ ty. typed c (Wanted ty) value) & made_fields c tys rest
 
-  elements_of : Context → TyId → Nodes → Claim
+  pub elements_of : Context → TyId → Nodes → Claim
   elements_of c ty no_node = nothing
   elements_of c ty (a_node first rest) = typed c (Wanted ty) first & elements_of c ty rest
 
   -- captures are uses of variables
-  captured : Context → List TyId → Nodes → Claim
+  pub captured : Context → List TyId → Nodes → Claim
   captured c [] no_node = nothing
   captured c (ty ∷ tys) (a_node first rest) =
       typed c Taken first & fact (is_variable (form_of first) && is_same ty (ty_of first)) & captured c tys rest
   captured c tys nodes = fact false
 
-  arms_of : Context → Matched → TyId → Nodes → Claim
+  pub arms_of : Context → Matched → TyId → Nodes → Claim
   arms_of c m ty no_node = nothing
   arms_of c m ty (a_node first rest) = arm c m ty first & arms_of c m ty rest
 
-  arm : Context → Matched → TyId → Node → Claim
+  pub arm : Context → Matched → TyId → Node → Claim
   arm c m want (node id at ty by (Arm p guard body)) =
       fact (is_none by) & fact (are_distinct (names_of p)) & pattern c.items m want p &
       guarded (with_entries (in_guard (entries_of p)) c) guard & typed (with_entries (entries_of p) c) Taken body &
       fact (is_same ty (ty_of body))
   arm c m want _ = fact false
 
-  guarded : Context → MaybeNode → Claim
+  pub guarded : Context → MaybeNode → Claim
   guarded c absent = nothing
   guarded c (present guard) = typed c Taken guard & fact (fits_bool c.items (ty_of guard))
 
   -- statements one after the other, each in the scope of those before it, and what is behind them
-  statements : Context → Nodes → (Context → Claim) → Claim
+  pub statements : Context → Nodes → (Context → Claim) → Claim
   statements c no_node behind = behind c
   statements c (a_node (node id at ty by form) rest) behind =
       fact (is_none by && is_unit c.items ty) & statement c form & statements (with_entries (entries_in form) c) rest
       behind
 
-  statement : Context → Form → Claim
+  pub statement : Context → Form → Claim
   statement c (Let p absent) =
       fact (are_distinct (names_of p)) & pattern c.items whole (ty_of p) p
   statement c (Let p (present value)) =

@@ -48,7 +48,7 @@ abbrev param_entries : List ParamTree → List InScope
 param_entries params = flat_map (λ p. entries_of p.pattern) params
 
 -- the closure of which a body is the inside
-abbrev closure_with : ItemTable → ℕ → Option ClosureDef
+abbrev pub closure_with : ItemTable → ℕ → Option ClosureDef
 closure_with items body = find (λ def. def.body == body) items.closures
 
 abbrev closure_value : ParamTree → InScope
@@ -59,7 +59,7 @@ around items closure params answer =
     record { items = items; entries = param_entries params; closure = closure; loops = []; answer = answer }
 
 -- in the body of a closure the first parameter is the closure's value, whose parts the captured names are
-abbrev is_inside : ItemTable → Option ClosureDef → BodyTree → List ParamTree → Claim
+abbrev pub is_inside : ItemTable → Option ClosureDef → BodyTree → List ParamTree → Claim
 is_inside items None body params =
     typed (around items None params body.answer) (Wanted body.answer) body.block & fact (are_distinct (param_names
     params))
