@@ -1,14 +1,13 @@
 -- The rounds find exactly the least set of parameters that may be replaced: each round that finds anything finds one
 -- parameter more, so from some round on nothing is found, and then the set is closed under the rules.
-use Rattle.std.proofs.Common.{◌≡◌, if◌then◌else◌, ℕ, zero, suc, ◌+◌, ◌-◌, ◌<◌, ◌≤◌, Bool, true, false, ◌&&◌, ◌||◌, not, ◌==◌, List, [], ◌∷◌, map, length, slice_index_or, IsTrue, Contains, ◌⊎◌, inl, inr, ◌↔◌, refl, sym, ap, subst, ◌∙◌, arith}
+use Rattle.std.proofs.Common.{◌≡◌, if◌then◌else◌, ℕ, zero, suc, ◌+◌, ◌<◌, ◌≤◌, Bool, true, false, ◌&&◌, ◌||◌, not, ◌==◌, List, [], ◌∷◌, map, length, slice_index_or, IsTrue, Contains, ◌⊎◌, inl, inr, refl, sym, ap, subst, arith}
 use Rattle.std.proofs.lemmas.Bool.{eqb-true}
 use Rattle.std.proofs.lemmas.Grind.{common_steps}
 use Rattle.std.specs.List.{list_all, list_any, filter}
 use Rattle.mir_ty.specs.ItemTable.{ItemTable}
-use Rattle.typed_tree.specs.Tree.{ProgramTree}
 use Rattle.well_typed.proofs.ClaimLemmas.{and_true, true_left, true_right}
 use Rattle.well_typed.proofs.ItemLemmas.{all_of}
-use Rattle.typing_rules.specs.Replaced.{Param, Facts, Passing, is_param, is_among, is_replaced, bodies_of, param_of, next, after, all_facts, replaceable, Replaceable, by_store, by_call, RoundsFindTheLeast}
+use Rattle.typing_rules.specs.Replaced.{Param, Facts, is_param, is_among, is_replaced, bodies_of, param_of, after, all_facts, Replaceable, by_store, by_call, RoundsFindTheLeast}
 
 -- ---- truth values and lists
 

@@ -5,5 +5,5 @@ ghost use Rattle.typing_rules.specs.Replaced.{RoundsFindTheLeast};
 /// such that a parameter is in it where its body stores into exactly what it names, or passes it on for a parameter
 /// in the set.
 pub fn law_of_replaced()
-    ensures least { RoundsFindTheLeast }
+    ensures { RoundsFindTheLeast }
 {}
