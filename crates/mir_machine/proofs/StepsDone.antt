@@ -1,5 +1,5 @@
 -- One step after another, as the machine does them.
-use Rattle.std.proofs.Common.{◌≡◌, ℤ, Bool, true, not, List, [], map, All, Option, Some, None, refl, ap, sym, subst, ◌∙◌}
+use Rattle.std.proofs.Common.{◌≡◌, ℕ, ℤ, Bool, true, not, List, [], map, All, Option, Some, None, refl, ap, sym, subst, ◌∙◌}
 use Rattle.std.proofs.lemmas.List.Elements.{All-map}
 use Rattle.cfg_graph.specs.declared.place.Operand.{Operand}
 use Rattle.cfg_meaning.specs.Actions.{site_of, operand_of, operands_of}
@@ -10,15 +10,15 @@ use Rattle.mir_machine.proofs.Operands.{whole_same}
 use Rattle.mir_base.specs.Trace.{Trace}
 use Rattle.mir_machine.specs.declared.actions.Outcome.{Outcome}
 use Rattle.mir_machine.specs.declared.world.World.{World}
-use Rattle.mir_machine.specs.Steps.{seen, Goes, Halted, Does, truth_of}
+use Rattle.mir_machine.specs.Steps.{seen, leaves, Goes, Halted, Does, truth_of, stored_and_told}
 use Rattle.mir_base.specs.declared.trace.Event.{Event}
 use Rattle.mir_machine.specs.Worlds.{state_of, run_setting, Evaluates, EvaluatesAll}
 use Rattle.store_model.specs.declared.value.Value.{Value, Value-F, fold-roll-Value}
 use Rattle.store_model.specs.declared.value.Value.TheVariants.{rolls-Bool}
-use Rattle.store_model.specs.Concrete.Effects.{evaluate_operand, evaluate_operands, with_operand, with_operands, put, put_if, or_stuck, whole_at, printed}
+use Rattle.store_model.specs.Concrete.Effects.{evaluate_operand, evaluate_operands, with_operand, with_operands, put, put_if, or_stuck, whole_at, printed, tell_after, boxed}
 use Rattle.store_model.specs.Concrete.Location.{Setting, Located}
-use Rattle.store_model.specs.Concrete.State.{State, with_event}
-use Rattle.store_model.specs.Effects.{Site, Stuck, Out, Halts}
+use Rattle.store_model.specs.Concrete.State.{State, with_event, numbered_next}
+use Rattle.store_model.specs.Effects.{Site, Stuck, Out, Go, Unwind, Halts}
 use Rattle.store_model.specs.Values.Datum.{Datum, Gone, Number, Truth, UnitValue, Aggregate, Box, Address, data_from, datum_of, datum_of_layer}
 use Rattle.store_model.specs.Values.Wholeness.{IsWhole, AreWhole}
 use Rattle.store_model.proofs.Values.Wholeness.{AreWhole-data_from}
@@ -147,3 +147,36 @@ nothing_printed setting w UnitValue e before = refl
 nothing_printed setting w (Aggregate variant serial parts) e before = refl
 nothing_printed setting w (Box serial impl_no inside) e before = refl
 nothing_printed setting w (Address address) e before = refl
+
+-- What is told after a value was stored.
+
+told_after_going : (setting : Setting) (event : Event) (o : Out State) (w : State) → seen o ≡ Goes w → seen (tell_after setting event o) ≡ Goes (with_event event w)
+told_after_going setting event (Go v) w e = let same : v ≡ w = cc in ap (λ v. Goes (with_event event v)) same
+told_after_going setting event (Unwind v) w e = absurd (cc)
+told_after_going setting event (Halts halt v) w e = absurd (cc)
+
+not_told : (setting : Setting) (event : Event) (o : Out State) (outcome : Outcome) (w : State) → seen o ≡ leaves outcome w → (outcome ≡ Outcome.Goes → ⊥) → seen (tell_after setting event o) ≡ leaves outcome w
+not_told setting event (Go v) Outcome.Goes w e h = absurd (h refl)
+not_told setting event (Go v) Outcome.Panics w e h = absurd (cc)
+not_told setting event (Go v) Outcome.Stuck w e h = absurd (cc)
+not_told setting event (Unwind v) outcome w e h = e
+not_told setting event (Halts halt v) outcome w e h = e
+
+module _ (setting : Setting) (to : Site) (value : Datum) (event : Event) (old mid : World) where
+  pub stored_then_told : (new : World) → Does (put setting to value) old Outcome.Goes mid → ((before : Trace) → state_of before new ≡ with_event event (state_of before mid)) →
+      Does (stored_and_told setting to value event) old Outcome.Goes new
+  stored_then_told new h told before = told_after_going setting event (put setting to value (state_of before old)) (state_of before mid) (h before) ∙ ap Goes (sym (told before))
+
+  pub not_stored : (outcome : Outcome) → Does (put setting to value) old outcome mid → (outcome ≡ Outcome.Goes → ⊥) → Does (stored_and_told setting to value event) old outcome mid
+  not_stored outcome h other before = not_told setting event (put setting to value (state_of before old)) outcome (state_of before mid) (h before) other
+
+-- a box is made with the serial number that was drawn
+pub box_made : (setting : Setting) (to : Site) (old drawn new : World) (outcome : Outcome) (serial : ℕ) (content : Datum) → serial ≡ old.serial →
+    ((before : Trace) → state_of before drawn ≡ numbered_next (state_of before old)) →
+    Does (stored_and_told setting to (Box serial None content) (Event.Boxed serial)) drawn outcome new → Does (boxed setting to content) old outcome new
+box_made setting to old drawn new outcome serial content is next h before =
+    ap (λ n. seen (stored_and_told setting to (Box n None content) (Event.Boxed n) (numbered_next (state_of before old)))) (sym is)
+    ∙ ap (λ w. seen (stored_and_told setting to (Box serial None content) (Event.Boxed serial) w)) (sym (next before)) ∙ h before
+
+pub box_whole : (serial : ℕ) (content value : Datum) → value ≡ Box serial None content → IsWhole content → IsWhole value
+box_whole serial content value e h = subst IsWhole (sym e) h

@@ -1,13 +1,15 @@
 -- What one step of a run does, as the machine does it. Where a run has halted, only what it told is left to see.
-use Rattle.std.specs.Prelude.{◌≡◌, Bool, List, Option, Some, None}
+use Rattle.std.specs.Prelude.{◌≡◌, Bool, Option, Some, None}
 use Rattle.mir_base.specs.Trace.{Trace}
 use Rattle.mir_machine.specs.declared.actions.Outcome.{Outcome}
 use Rattle.mir_machine.specs.declared.world.World.{World}
 use Rattle.mir_machine.specs.Worlds.{state_of, run_setting}
-use Rattle.store_model.specs.Concrete.Effects.{acted}
+use Rattle.store_model.specs.Concrete.Effects.{acted, put, tell_after}
+use Rattle.store_model.specs.Concrete.Location.{Setting}
+use Rattle.mir_base.specs.declared.trace.Event.{Event}
 use Rattle.store_model.specs.Concrete.State.{State, Bodies}
 use Rattle.store_model.specs.Values.Datum.{Datum, Truth}
-use Rattle.store_model.specs.Effects.{Action, Halt, Stuck, Out, Go, Unwind, Halts}
+use Rattle.store_model.specs.Effects.{Site, Action, Halt, Stuck, Out, Go, Unwind, Halts}
 
 pub data Seen : Type 0 where
   Goes : (w : State) → Seen
@@ -36,3 +38,7 @@ DoesAction action old outcome new = (run : Bodies) → Does (acted (run_setting 
 abbrev pub truth_of : Datum → Option Bool
 truth_of (Truth truth) = Some truth
 truth_of value = None
+
+-- a value is stored, and then an event tells of it
+abbrev pub stored_and_told : Setting → Site → Datum → Event → State → Out State
+stored_and_told setting to value event w = tell_after setting event (put setting to value w)

@@ -1,13 +1,13 @@
 ghost use Rattle.std.specs.Prelude.{◌≡◌, All, IfOk, OnOk, Some, None, map};
 ghost use Rattle.cfg_meaning.specs.Actions.{site_of, operand_of, operands_of};
-ghost use Rattle.mir_machine.specs.Steps.{Does, DoesAction, truth_of};
+ghost use Rattle.mir_machine.specs.Steps.{Does, DoesAction, truth_of, stored_and_told};
 ghost use Rattle.mir_base.specs.Trace.{Trace};
 ghost use Rattle.mir_machine.specs.Standing.{number_of};
 ghost use Rattle.mir_machine.specs.Worlds.{state_of, run_setting};
-ghost use Rattle.store_model.specs.Concrete.State.{with_event};
+ghost use Rattle.store_model.specs.Concrete.State.{with_event, numbered_next};
 ghost use Rattle.store_model.specs.Concrete.Effects as effects;
 ghost use Rattle.store_model.specs.Effects as actions;
-ghost use Rattle.store_model.specs.Values.Datum.{Aggregate, data_from, datum_of};
+ghost use Rattle.store_model.specs.Values.Datum.{Aggregate, Box as a_box, data_from, datum_of};
 ghost use Rattle.store_model.specs.Values.Wholeness.{IsWhole};
 
 use crate::location::reach;
@@ -67,7 +67,8 @@ impl World<'_> {
     ) -> Result<Outcome, NoMemory>
         ensures run { run_setting self.new ≡ run_setting self.old }
         ensures does { IfOk result (λ outcome.
-            DoesAction (actions.Build (site_of 0 to.now) actions.OfTuple (operands_of 0 parts.now)) self.old outcome self.new) }
+            DoesAction (actions.Build (site_of 0 to.now) actions.OfTuple
+            (operands_of 0 parts.now)) self.old outcome self.new) }
     {
         match self.evaluate_all(alloc, parts)? {
             Some(parts) => self.put(alloc, to, aggregate_of(0, None, parts)),
@@ -150,6 +151,78 @@ impl World<'_> {
         self.tell(Event::Printed(number))?;
         Ok(Outcome::Goes)
     }
+
+    /// Draws the next serial number.
+    fn draw(&mut self) -> Result<u64, NoMemory>
+        ensures run { run_setting self.new ≡ run_setting self.old }
+        ensures drawn { IfOk result (λ serial. serial ≡ self.old.serial) }
+        ensures next { OnOk result ((before : Trace) →
+            state_of before self.new ≡ numbered_next (state_of before self.old)) }
+    {
+        let serial = self.serial;
+        match serial.checked_add(1) {
+            Some(next) => {
+                self.serial = next;
+                Ok(serial)
+            }
+            None => Err(NoMemory),
+        }
+    }
+
+    /// Stores a whole value at a place, and then tells of it.
+    fn put_and_tell(
+        &mut self,
+        alloc: Global,
+        to: &Place,
+        value: Value,
+        event: Event,
+    ) -> Result<Outcome, NoMemory>
+        requires { IsWhole (datum_of value) }
+        ensures run { run_setting self.new ≡ run_setting self.old }
+        ensures does { IfOk result (λ outcome.
+            Does (stored_and_told (run_setting self.old) (site_of 0 to.now) (datum_of value) event) self.old outcome
+            self.new) }
+    {
+        match self.put(alloc, to, value)? {
+            Outcome::Goes => {
+                self.tell(event)?;
+                Ok(Outcome::Goes)
+            }
+            other => Ok(other),
+        }
+    }
+
+    /// Stores a new box around what an operand gives.
+    pub fn new_box(
+        &mut self,
+        alloc: Global,
+        to: &Place,
+        content: &Operand,
+    ) -> Result<Outcome, NoMemory>
+        ensures run { run_setting self.new ≡ run_setting self.old }
+        ensures does { IfOk result (λ outcome.
+            DoesAction (actions.NewBox (site_of 0 to.now) (operand_of 0 content.now)) self.old outcome self.new) }
+    {
+        let Some(value) = self.evaluate(alloc, content)? else {
+            return Ok(Outcome::Stuck);
+        };
+        let serial = self.draw()?;
+        let boxed = box_of(alloc, serial, value)?;
+        self.put_and_tell(alloc, to, boxed, Event::Boxed(serial))
+    }
+}
+
+/// A box around a whole value.
+fn box_of(alloc: Global, serial: u64, content: Value) -> Result<Value, NoMemory>
+    requires { IsWhole (datum_of content) }
+    ensures value { IfOk result (λ boxed. datum_of boxed ≡ a_box serial None (datum_of content)) }
+    ensures whole { IfOk result (λ boxed. IsWhole (datum_of boxed)) }
+{
+    Ok(Value::Boxed {
+        serial,
+        impl_no: None,
+        inside: Box::new(alloc, content)?,
+    })
 }
 
 /// The number that a value is. A number outside `i32`, which a graph without a fault never prints, has no line; the

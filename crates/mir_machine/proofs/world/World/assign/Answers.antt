@@ -1,4 +1,3 @@
-use Rattle.std.proofs.Common.{sym}
 use Rattle.std.proofs.lemmas.Result.{IfOk-weaker}
 use Rattle.cfg_meaning.specs.Actions.{site_of}
 use Rattle.mir_machine.specs.Worlds.{run_setting}

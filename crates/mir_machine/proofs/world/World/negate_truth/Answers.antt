@@ -1,4 +1,4 @@
-use Rattle.std.proofs.Common.{◌≡◌, Some, None, ap, sym, ◌∙◌, subst, not, arith}
+use Rattle.std.proofs.Common.{◌≡◌, Some, None, subst, not, arith}
 use Rattle.std.proofs.lemmas.Grind.{common_steps}
 use Rattle.std.proofs.lemmas.Result.{IfOk-weaker}
 use Rattle.cfg_meaning.specs.Actions.{site_of}
@@ -8,7 +8,7 @@ use Rattle.mir_machine.proofs.StepsDone.{then_does, stuck_does, in_setting, othe
 use Rattle.mir_machine.specs.declared.actions.Outcome.{Outcome}
 use Rattle.store_model.specs.declared.value.Value.TheVariants.{Bool}
 use Rattle.store_model.specs.Concrete.Effects.{put}
-use Rattle.store_model.specs.Values.Datum.{Truth, datum_of}
+use Rattle.store_model.specs.Values.Datum.{datum_of}
 use Rattle.mir_machine.proofs.world.World.negate_truth.Goals as goal
 
 pub returns-in_default-clause-does : goal.returns-in_default-clause-does

@@ -1,5 +1,4 @@
-use Rattle.std.proofs.Common.{◌≡◌, Some, None, ap, sym, ◌∙◌, arith, rules}
-use Rattle.std.proofs.lemmas.Grind.{common_steps}
+use Rattle.std.proofs.Common.{◌≡◌, Some, None, sym, ◌∙◌, rules}
 use Rattle.mir_machine.specs.declared.actions.Outcome.{Outcome}
 use Rattle.mir_machine.specs.Standing.{number_of}
 use Rattle.mir_machine.specs.Worlds.{run_setting}
