@@ -2,7 +2,7 @@ ghost use Rattle.std.specs.Prelude.{◌<◌, ◌-◌, ◌^◌, IfOk, IfErr, leng
 ghost use Rattle.mir_pipeline.specs.Trees.{IsTreeOf, IsRefused};
 
 use crate::Refusal;
-use src_parse::parse;
+use src_parse::parse_owned;
 use src_token::{end_of, lex};
 use src_tree::Tree;
 use std::alloc::Global;
@@ -18,6 +18,6 @@ pub fn read_tree(alloc: Global, text: &[u8]) -> Result<Tree, Refusal>
     ensures refused { IfErr result (λ refusal. IsRefused text.now refusal) }
 {
     let tokens = lex(alloc, text)?;
-    let tree = parse(alloc, tokens.as_slice(), end_of(text))?;
+    let tree = parse_owned(alloc, tokens, end_of(text))?;
     Ok(tree)
 }

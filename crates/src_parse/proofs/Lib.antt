@@ -5,7 +5,9 @@ pub mod Answer
 pub mod Examples
 pub mod Laws
 pub mod Depth
+pub mod Finished
 pub mod Shallow
+pub mod Handed
 pub mod Lower
 pub mod Within
 pub mod Parts

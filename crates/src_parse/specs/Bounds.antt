@@ -1,6 +1,6 @@
 -- How deep a node is at least that goes on from a point of its row: what a parser compares with the limit on nesting.
 -- Nothing that a reader must believe rests on it.
-use Rattle.std.specs.Prelude.{ℕ, suc, ◌+◌, max, min, Bool, true, false}
+use Rattle.std.specs.Prelude.{◌≡◌, ℕ, suc, ◌+◌, max, min, Bool, true, false}
 use Rattle.src_tree.specs.declared.row.Row.{Row}
 use Rattle.src_tree.specs.declared.row.Sort.{Sort}
 use Rattle.src_tree.specs.declared.place.Place.{Place}
@@ -76,6 +76,44 @@ bound c (statements o) = ended c Row.Block 0 1
 bound c (arms o) = ended c Row.Match (arms_floor o) 1
 bound c arm_body = ended c Row.Arm 2 1
 bound c after_break = ended c Row.Break 0 1
+
+-- the one row may stand wherever the other may
+abbrev pub Alike : Row → Row → Type 0
+Alike r x = (c : Place) → allowed c r ≡ allowed c x
+
+-- a node that goes on from here ends as this row alone, or as others like it
+abbrev pub EndsAs : Row → Rest → Type 0
+EndsAs x (ends r) = Alike r x
+EndsAs x (token k after) = EndsAs x after
+EndsAs x (either k after other) = EndsAs x after × EndsAs x other
+EndsAs x (part p after) = EndsAs x after
+EndsAs x (maybe p after r) = Alike r x
+EndsAs x (list p later dots close after) = EndsAs x after
+EndsAs x (more p dots close after) = EndsAs x after
+EndsAs x (many p close after) = EndsAs x after
+EndsAs x items = Alike Row.File x
+EndsAs x alternatives = Alike Row.OrPattern x
+EndsAs x (statements o) = Alike Row.Block x
+EndsAs x (arms o) = Alike Row.Match x
+EndsAs x arm_body = Alike Row.Arm x
+EndsAs x after_break = Alike Row.Break x
+
+-- and then this is its bound, where that row may stand there
+abbrev pub plain_bound : Rest → Bound
+plain_bound (ends r) = bound_of 0 (counts r)
+plain_bound (token k after) = plain_bound after
+plain_bound (either k after other) = lesser (plain_bound after) (plain_bound other)
+plain_bound (part p after) = with_part (least_place (place_of false p)) (plain_bound after)
+plain_bound (maybe p after r) = bound_of 0 (counts r)
+plain_bound (list p later dots close after) = plain_bound after
+plain_bound (more p dots close after) = plain_bound after
+plain_bound (many p close after) = plain_bound after
+plain_bound items = bound_of 0 0
+plain_bound alternatives = bound_of 0 1
+plain_bound (statements o) = bound_of 0 1
+plain_bound (arms o) = bound_of (arms_floor o) 1
+plain_bound arm_body = bound_of 2 1
+plain_bound after_break = bound_of 0 1
 
 -- no point that a parser comes to has a greater one
 abbrev pub most : Bound

@@ -3,6 +3,7 @@ ghost use Rattle.std.specs.Prelude.{◌≡◌, ◌<◌};
 ghost use Rattle.src_tree.specs.Table.{rest_at, rest_of};
 ghost use Rattle.src_parse.specs.Bounds.{least_place as least_place_is, ended as ended_is, lesser as lesser_of, with_part as with_part_is, bound as bound_is};
 
+use crate::endings::ending_at;
 use src_tree::{Place, Point, Row, Sort, Start, Step, allowed, counts, place_of, step_at};
 
 /// What is known of a depth: it is at least `floor`, and by at least `around` more than that of what stands inside.
@@ -85,10 +86,17 @@ fn with_part(depth: u32, bound: Bound) -> Bound
     }
 }
 
+/// By the table of endings, where the node ends as one row that may stand there.
+#[tactic(auto, using(crate::proofs::Finished::plain))]
 fn step_bound(place: Place, at: u16) -> Bound
     ensures small { result.around < 66 }
     ensures value { result ≡ bound_is place (rest_at at) }
 {
+    if let Some((row, floor, around)) = ending_at(at)
+        && allowed(place, row)
+    {
+        return Bound { floor, around };
+    }
     match step_at(at) {
         Step::Ends(row) | Step::Maybe(_, _, row) => ended(place, row, 0, counts(row)),
         Step::Token(_, after) | Step::Many(_, _, after) | Step::List { after, .. } => {

@@ -10,7 +10,7 @@ use crate::LIMIT;
 use crate::bound::{Bound, MOST, bound_at};
 use mir_base::{List, NoMemory, Pos};
 use src_token::Token;
-use src_tree::{ITEMS, Node, Piece, Place, Point, Row, Sort, Start, behind, copy_token, counts};
+use src_tree::{ITEMS, Node, Piece, Place, Point, Row, Sort, Start, behind, counts};
 use std::alloc::Global;
 use std::mem;
 
@@ -80,24 +80,19 @@ pub(crate) fn start(alloc: Global, at: Pos) -> Frame
 
 /// One more token of a node, which is at this point behind it.
 #[tactic(auto, using(crate::proofs::Parts::one_token))]
-pub(crate) fn take(
-    alloc: Global,
-    frame: &mut Frame,
-    point: Point,
-    token: &Token,
-) -> Result<(), NoMemory>
-    ensures { OnOk result (frame_of frame.new ≡ taken_of (frame_of frame.old) (rest_of point) token.now) }
+pub(crate) fn take(frame: &mut Frame, point: Point, token: Token) -> Result<(), NoMemory>
+    ensures { OnOk result (frame_of frame.new ≡ taken_of (frame_of frame.old) (rest_of point) token) }
 {
-    frame.parts.push(Piece::Token(copy_token(alloc, token)?))?;
+    frame.parts.push(Piece::Token(token))?;
     frame.point = point;
     Ok(())
 }
 
-fn one_part(alloc: Global, token: &Token) -> Result<List<Piece>, NoMemory>
-    ensures { IfOk result (λ parts. parts_in parts ≡ tok token.now end) }
+fn one_part(alloc: Global, token: Token) -> Result<List<Piece>, NoMemory>
+    ensures { IfOk result (λ parts. parts_in parts ≡ tok token end) }
 {
     let mut parts = List::new(alloc);
-    parts.push(Piece::Token(copy_token(alloc, token)?))?;
+    parts.push(Piece::Token(token))?;
     Ok(parts)
 }
 
@@ -108,9 +103,9 @@ pub(crate) fn inside(
     place: Place,
     point: u16,
     at: Pos,
-    token: &Token,
+    token: Token,
 ) -> Result<Frame, NoMemory>
-    ensures { IfOk result (λ new. frame_of new ≡ inside_of (frame_of frame.now) place (rest_at point) at token.now) }
+    ensures { IfOk result (λ new. frame_of new ≡ inside_of (frame_of frame.now) place (rest_at point) at token) }
 {
     let around = reach(frame, bound_at(frame.place, behind(frame.point, Row::File)));
     Ok(Frame {
@@ -124,12 +119,12 @@ pub(crate) fn inside(
     })
 }
 
-fn node_and_token(alloc: Global, node: Node, token: &Token) -> Result<List<Piece>, NoMemory>
-    ensures { IfOk result (λ parts. parts_in parts ≡ sub (layout_of node) (tok token.now end)) }
+fn node_and_token(alloc: Global, node: Node, token: Token) -> Result<List<Piece>, NoMemory>
+    ensures { IfOk result (λ parts. parts_in parts ≡ sub (layout_of node) (tok token end)) }
 {
     let mut parts = List::new(alloc);
     parts.push(Piece::Node(node))?;
-    parts.push(Piece::Token(copy_token(alloc, token)?))?;
+    parts.push(Piece::Token(token))?;
     Ok(parts)
 }
 
@@ -139,9 +134,9 @@ pub(crate) fn begin(
     frame: &mut Frame,
     row: Row,
     point: u16,
-    token: &Token,
+    token: Token,
 ) -> Result<(), NoMemory>
-    ensures { OnOk result (frame_of frame.new ≡ began_of (frame_of frame.old) row (rest_at point) token.now) }
+    ensures { OnOk result (frame_of frame.new ≡ began_of (frame_of frame.old) row (rest_at point) token) }
 {
     let parts = mem::replace(&mut frame.parts, List::new(alloc));
     let at = frame.at;

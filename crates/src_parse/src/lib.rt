@@ -2,6 +2,7 @@
 #![tactic(auto)]
 
 mod bound;
+mod endings;
 mod error;
 mod frame;
 mod law;
@@ -11,4 +12,4 @@ mod steps;
 pub use bound::Bound;
 pub use error::ParseError;
 pub use law::law_of_reading;
-pub use parser::{LIMIT, parse};
+pub use parser::{LIMIT, parse, parse_owned};

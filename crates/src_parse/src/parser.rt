@@ -4,13 +4,29 @@ ghost use Rattle.src_parse.specs.Answers.{IsTree, IsRefused};
 use crate::ParseError;
 use crate::frame::{passes, start};
 use crate::steps::{close, step};
-use mir_base::{List, Pos};
+use mir_base::{List, NoMemory, Pos};
 use src_token::Spanned;
-use src_tree::Tree;
+use src_tree::{Tree, copy_token};
 use std::alloc::Global;
 
 /// How deep a text may be nested.
 pub const LIMIT: u32 = 64;
+
+/// Second tokens with the same content.
+fn copies(alloc: Global, tokens: &[Spanned]) -> Result<List<Spanned>, NoMemory>
+    ensures { IfOk result (λ copies. copies ≡ tokens.now) }
+{
+    let mut copies = List::new(alloc);
+    for spanned in tokens {
+        copies.push(Spanned {
+            token: copy_token(alloc, &spanned.token)?,
+            at: spanned.at,
+            start: spanned.start,
+            end: spanned.end,
+        })?;
+    }
+    Ok(copies)
+}
 
 /// The syntax tree of the tokens of a text, with the place of its end. There are fewer than 4,294,967,296 tokens.
 ///
@@ -21,12 +37,22 @@ pub fn parse(alloc: Global, tokens: &[Spanned], end: Pos) -> Result<Tree, ParseE
     ensures tree { IfOk result (λ tree. IsTree tokens.now end tree) }
     ensures refused { IfErr result (λ error. IsRefused tokens.now end error) }
 {
+    let tokens = copies(alloc, tokens)?;
+    parse_owned(alloc, tokens, end)
+}
+
+/// The same of tokens that become parts of the tree, so that their names are not copied.
+pub fn parse_owned(alloc: Global, tokens: List<Spanned>, end: Pos) -> Result<Tree, ParseError>
+    requires { length tokens < 2 ^ 32 }
+    ensures tree { IfOk result (λ tree. IsTree tokens end tree) }
+    ensures refused { IfErr result (λ error. IsRefused tokens end error) }
+{
     let mut below = List::new(alloc);
     let mut top = start(alloc, end);
     let mut at = 0;
     for spanned in tokens {
         let pos = spanned.at;
-        if !step(alloc, &mut below, &mut top, &spanned.token, pos)? {
+        if !step(alloc, &mut below, &mut top, spanned.token, pos)? {
             return Err(ParseError::Syntax { at, pos });
         }
         if passes(&top) {

@@ -47,18 +47,18 @@ pub(crate) fn step(
     alloc: Global,
     below: &mut List<Frame>,
     top: &mut Frame,
-    token: &Token,
+    token: Token,
     at: Pos,
 ) -> Result<bool, NoMemory>
-    ensures { IfOk result (λ went. act (stack_of below.old) (frame_of top.old) token.now at
+    ensures { IfOk result (λ went. act (stack_of below.old) (frame_of top.old) token at
         ≡ only_if went (Some (frame_of top.new ∷ stack_of below.new))) }
 {
     loop {
-        if let Some(point) = advance(top.point, token) {
-            take(alloc, top, point, token)?;
+        if let Some(point) = advance(top.point, &token) {
+            take(top, point, token)?;
             return Ok(true);
         }
-        if let Some((place, point)) = opens(top.place.head, top.point, token) {
+        if let Some((place, point)) = opens(top.place.head, top.point, &token) {
             let part = inside(alloc, top, place, point, at, token)?;
             below.push(mem::replace(top, part))?;
             return Ok(true);
@@ -66,7 +66,7 @@ pub(crate) fn step(
         let Some(row) = made(top.point) else {
             return Ok(false);
         };
-        if let Some(point) = joins(top.place, row, token) {
+        if let Some(point) = joins(top.place, row, &token) {
             begin(alloc, top, row, point, token)?;
             return Ok(true);
         }

@@ -3,9 +3,8 @@ use Rattle.src_token.specs.Tokens.{Tokens}
 use Rattle.mir_pipeline.proofs.Fewer.{fewer_bytes}
 use Rattle.mir_pipeline.proofs.reading.read_tree.Goals as goal
 
-pub parse-requires : goal.parse-requires
-parse-requires c =
+pub parse_owned-requires : goal.parse_owned-requires
+parse_owned-requires c =
     let t : Tokens c.args.text.now c.in_ok-tokens.tokens = search rules in
-    let l : length c.as_slice.result.now ≡ length c.in_ok-tokens.tokens = search rules in
     let r = c.requires in
-    omega (arith, fewer_bytes c.args.text.now c.in_ok-tokens.tokens t, l, r)
+    omega (arith, fewer_bytes c.args.text.now c.in_ok-tokens.tokens t, r)

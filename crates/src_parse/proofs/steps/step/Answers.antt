@@ -11,7 +11,7 @@ pub returns-in-Some : goal.returns-in-Some
 returns-in-Some c =
     let S = stack_of c.loop-point.below in
     let f = frame_of c.loop-point.top in
-    let t = c.args.token.now in
+    let t = c.loop-point.token-1 in
     let q = rest_of c.in-Some.point in
     let m : move f.rest t ≡ Some q = search rules in
     let k : frame_of c.take.new.frame ≡ taken f q t = search rules in
@@ -21,7 +21,7 @@ pub returns-in-Some-opens : goal.returns-in-Some-opens
 returns-in-Some-opens c =
     let S = stack_of c.loop-point.below in
     let f = frame_of c.loop-point.top in
-    let t = c.args.token.now in
+    let t = c.loop-point.token-1 in
     let p = c.in-Some-opens.place in
     let q = rest_at c.in-Some-opens.point in
     let m : move f.rest t ≡ None = search rules in
@@ -35,7 +35,7 @@ pub returns-in-Some-joins : goal.returns-in-Some-joins
 returns-in-Some-joins c =
     let S = stack_of c.loop-point.below in
     let f = frame_of c.loop-point.top in
-    let t = c.args.token.now in
+    let t = c.loop-point.token-1 in
     let r = c.in-Some-made.row in
     let q = rest_at c.in-Some-joins.point in
     let m : move f.rest t ≡ None = search rules in
