@@ -1,7 +1,9 @@
 pub mod Bodies
 mod Examples
 pub mod Forms
+pub mod FormSizes
 pub mod Jumps
 pub mod Rules
 pub mod Scopes
+pub mod Sizes
 pub mod Typed

@@ -1,6 +1,6 @@
 -- The laws of the lowering: the raw graph of a typed program runs as the program does, and each of its bodies walks
 -- as the body of the program runs freely.
-use Rattle.std.specs.Prelude.{length, ◌<◌, ◌≡◌, ℕ, ℤ, Bool, true, List, Some, slice_get, Contains}
+use Rattle.std.specs.Prelude.{length, ◌<◌, ◌≤◌, ◌+◌, ◌*◌, ◌≡◌, ℕ, ℤ, Bool, true, List, Some, slice_get, Contains}
 use Rattle.cfg_graph.specs.declared.graph.Block.{Block}
 use Rattle.cfg_graph.specs.Edges.{IsRanked, targets}
 use Rattle.cfg_graph.specs.Ready.{begins_once, frees_nothing, refills_dropped}
@@ -8,6 +8,7 @@ use Rattle.cfg_graph.specs.WellFormed.Cleanup.{keeps_to_cleanup}
 use Rattle.cfg_meaning.specs.Programs.{raw_graph_run, free_walk}
 use Rattle.cfg_meaning.specs.Walk.{renamed}
 use Rattle.mir_ty.specs.ItemTable.{ItemTable}
+use Rattle.typed_tree.specs.Nodes.{body_nodes}
 use Rattle.typed_tree.specs.Tree.{BodyTree, ProgramTree}
 use Rattle.src_meaning.specs.Programs.{source, free_run, reached_by, refused_of}
 use Rattle.well_typed.specs.Program.{WellTyped}
@@ -63,3 +64,9 @@ LoweredIsPrepared =
     (frees_nothing (body_of items tree) ≡ true)
     × (begins_once (body_of items tree) ≡ true)
     × (refills_dropped items (body_of items tree) ≡ true)
+
+-- the blocks of a body are no more than 32 times the square of its nodes, and 64 more for each node
+abbrev pub LoweredIsSmall : Type 0
+LoweredIsSmall =
+    (items : ItemTable) (tree : BodyTree) →
+    length (body_of items tree).blocks ≤ 32 * (length (body_nodes tree) * (length (body_nodes tree) + 2))

@@ -1,5 +1,5 @@
 //! The laws of the lowering. Each is a clause of a function without parameters.
-ghost use Rattle.cfg_build.specs.Laws.{LoweredIsPrepared, LoweredIsRanked, LoweredKeepsToCleanup};
+ghost use Rattle.cfg_build.specs.Laws.{LoweredIsPrepared, LoweredIsRanked, LoweredIsSmall, LoweredKeepsToCleanup};
 ghost use Rattle.cfg_build.specs.Laws.{LoweredRunsAsItsSource, LoweredWalksAsItRunsFreely, WellTypedNamesItsLoops};
 
 /// The raw graph of a typed program runs as the program does: with the same numbers to be asked and the same ticks, it
@@ -7,13 +7,14 @@ ghost use Rattle.cfg_build.specs.Laws.{LoweredRunsAsItsSource, LoweredWalksAsItR
 /// it walks as the body of the program runs freely, and meets a refused use of the same node. Each edge leads to a
 /// block that exists, and lowers the rank but for that to a turn block; none leads to the block in which a body begins.
 /// From other blocks exactly unwinding leads to cleanup blocks, which keep to themselves. No statement frees a box, and a
-/// place that may not be left gone gets a value again as soon as it is dropped. All that is asked is that each jump
-/// names a loop around it, as in every well typed program.
+/// place that may not be left gone gets a value again as soon as it is dropped. A body of `k` nodes has at most
+/// `32 * k * (k + 2)` blocks. All that is asked is that each jump names a loop around it, as in every well typed program.
 pub fn law_of_lowering()
     ensures values { LoweredRunsAsItsSource }
     ensures free { LoweredWalksAsItRunsFreely }
     ensures ranked { LoweredIsRanked }
     ensures cleanup { LoweredKeepsToCleanup }
     ensures prepared { LoweredIsPrepared }
+    ensures small { LoweredIsSmall }
     ensures typed { WellTypedNamesItsLoops }
 {}
