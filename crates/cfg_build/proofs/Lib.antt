@@ -3,6 +3,7 @@ mod Examples
 pub mod Forms
 pub mod FormSizes
 pub mod Jumps
+pub mod Lines
 pub mod Rules
 pub mod Scopes
 pub mod Sizes
