@@ -1,6 +1,7 @@
 pub mod Bodies
 mod Examples
 pub mod Forms
+pub mod FormSites
 pub mod FormSizes
 pub mod Jumps
 pub mod Lines
@@ -8,3 +9,4 @@ pub mod Rules
 pub mod Scopes
 pub mod Sizes
 pub mod Typed
+pub mod TypedLines

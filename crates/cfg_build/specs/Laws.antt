@@ -1,20 +1,23 @@
 -- The laws of the lowering: the raw graph of a typed program runs as the program does, and each of its bodies walks
 -- as the body of the program runs freely.
-use Rattle.std.specs.Prelude.{length, ◌<◌, ◌≤◌, ◌+◌, ◌*◌, ◌≡◌, ℕ, ℤ, Bool, true, List, Some, slice_get, Contains}
+use Rattle.std.specs.Prelude.{[], ◌≢◌, length, ◌<◌, ◌≤◌, ◌+◌, ◌*◌, ◌≡◌, ℕ, ℤ, Bool, true, List, Some, slice_get, Contains}
 use Rattle.cfg_graph.specs.declared.graph.Block.{Block}
 use Rattle.cfg_graph.specs.Edges.{IsRanked, targets}
+use Rattle.cfg_graph.specs.declared.statement.Stmt.{Stmt}
+use Rattle.cfg_graph.specs.Uses.{places_of_stmt, places_of_term}
 use Rattle.cfg_graph.specs.Ready.{begins_once, frees_nothing, refills_dropped}
 use Rattle.cfg_graph.specs.WellFormed.Cleanup.{keeps_to_cleanup}
 use Rattle.cfg_meaning.specs.Programs.{raw_graph_run, free_walk}
 use Rattle.cfg_meaning.specs.Walk.{renamed}
 use Rattle.mir_ty.specs.ItemTable.{ItemTable}
-use Rattle.typed_tree.specs.Nodes.{body_nodes}
-use Rattle.typed_tree.specs.Tree.{BodyTree, ProgramTree}
+use Rattle.typed_tree.specs.Nodes.{body_nodes, first_with}
+use Rattle.typed_tree.specs.Tree.{Node, BodyTree, ProgramTree}
 use Rattle.src_meaning.specs.Programs.{source, free_run, reached_by, refused_of}
 use Rattle.well_typed.specs.Program.{WellTyped}
 use Rattle.cfg_code.specs.Laws.{without_place, outcome_without_place}
 use Rattle.cfg_build.specs.Loops.{names_its_loops}
 use Rattle.cfg_build.specs.Lower.{body_of, node_of, graph_of}
+use Rattle.cfg_build.specs.Sites.{site_at, stmt_site, term_site}
 
 -- each jump of a body names a loop around it
 abbrev pub NamesItsLoops : BodyTree → Type 0
@@ -70,3 +73,15 @@ abbrev pub LoweredIsSmall : Type 0
 LoweredIsSmall =
     (items : ItemTable) (tree : BodyTree) →
     length (body_of items tree).blocks ≤ 32 * (length (body_nodes tree) * (length (body_nodes tree) + 2))
+
+-- each line that names a place has a site: with the position, the use and the place in words of the node whose number
+-- the line has, and there is such a node
+abbrev pub LoweredHasSites : Type 0
+LoweredHasSites =
+    (items : ItemTable) (tree : BodyTree) (n : ℕ) (block : Block) → slice_get (body_of items tree).blocks n ≡ Some block →
+    ((line : ℕ) (stmt : Stmt) → slice_get block.stmts line ≡ Some stmt → places_of_stmt stmt ≢ [] →
+    (found : Node) × (first_with (node_of items tree n line) (body_nodes tree) ≡ Some found)
+    × (site_at items tree n line ≡ Some (stmt_site items tree stmt found)))
+    × (places_of_term block.term ≢ [] →
+    (found : Node) × (first_with (node_of items tree n (length block.stmts)) (body_nodes tree) ≡ Some found)
+    × (site_at items tree n (length block.stmts) ≡ Some (term_site items tree block.term found)))
