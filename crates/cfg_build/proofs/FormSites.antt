@@ -1,13 +1,13 @@
 -- Each line has the number of a node of its body: the rules of `Lower`, and one line a form.
-use Rattle.std.proofs.Common.{◌≡◌, ◌≢◌, ◌⊎◌, inl, inr, ℕ, zero, suc, ◌<◌, ◌==◌, ◌&&◌, ◌||◌, not, Bool, true, false, List, [], ◌∷◌, ◌++◌, length, map, Option, Some, None, slice_get, unwrap_or, cond, refl, sym, ap, ◌∙◌, subst, arith}
+use Rattle.std.proofs.Common.{◌≡◌, ◌≢◌, inl, inr, ℕ, zero, suc, ◌==◌, ◌||◌, not, Bool, true, false, List, [], ◌∷◌, ◌++◌, length, map, Option, Some, None, slice_get, unwrap_or, cond, refl, sym, ap, subst, arith}
 use Rattle.std.proofs.lemmas.Option.{none-some, same_Some}
 use Rattle.std.proofs.lemmas.Bool.Decides.{eqb_tells}
 use Rattle.std.specs.List.{find}
 use Rattle.cfg_graph.specs.declared.graph.Block.{Block}
 use Rattle.cfg_graph.specs.declared.graph.Kind.{Kind}
+use Rattle.cfg_graph.specs.declared.place.Place as graph_place
 use Rattle.cfg_graph.specs.declared.statement.Stmt.{Stmt}
 use Rattle.cfg_graph.specs.declared.terminator.Term.{Term}
-use Rattle.cfg_graph.specs.declared.terminator.Unwind.{Unwind}
 use Rattle.cfg_graph.specs.Uses.{places_of_stmt, places_of_term}
 use Rattle.mir_base.specs.declared.trace.Why.{Why}
 use Rattle.mir_ty.specs.Facts.{needs_drop}
@@ -19,10 +19,10 @@ use Rattle.typed_tree.specs.Nodes.{number_of, nodes_of, nodes_in, nodes_among, n
 use Rattle.typed_tree.specs.Tree as tree
 use Rattle.typed_tree.specs.Tree.{Form, Nodes, no_node, a_node, Fields, no_field, a_field, MaybeNode, absent, present, ParamTree, BodyTree}
 use Rattle.src_meaning.specs.Evaluation.{in_number_order, to_own_key}
-use Rattle.src_meaning.specs.Forms.{Destination, Into, Coerced, coerced, Around, in_loop, loop_destination, in_guard, entry_of, bound_entry, site_in, site_of_key, moved, is_never, changed_if}
+use Rattle.src_meaning.specs.Forms.{Destination, Into, Coerced, coerced, Around, in_loop, loop_destination, in_guard, entry_of, bound_entry, site_in, site_of_key, moved, is_never}
 use Rattle.src_meaning.specs.Locals.OfBody.{param_key, answer_key}
-use Rattle.src_meaning.specs.Scopes.{Entry, Scope, Scopes, with_scope, innermost, around_innermost, nearest_temporary, with_entry, with_pending, without_pending, becomes_entry, Exit, Breaks, Continues, Returns}
-use Rattle.src_meaning.specs.Shape.{Head, head, Shape, Bound, PatternTests, no_test, a_test, Alternatives, no_alternative, an_alternative, followed_by, kind_of, shape, shape_of, in_fields, in_parts, alternatives_at, extended, site_at, operand_of_bound, operand_at}
+use Rattle.src_meaning.specs.Scopes.{Scope, Scopes, innermost, around_innermost, nearest_temporary, with_entry, with_pending, without_pending, becomes_entry, Breaks, Continues, Returns}
+use Rattle.src_meaning.specs.Shape.{Head, head, Shape, Bound, PatternTests, no_test, a_test, followed_by, kind_of, shape, shape_of, in_fields, in_parts, alternatives_at, extended, site_at, operand_of_bound, operand_at}
 use Rattle.cfg_code.specs.Code.{field_keys, moved_fields}
 use Rattle.cfg_code.specs.Spots.{Ways, body_ways}
 use Rattle.cfg_build.specs.Build as build
@@ -642,3 +642,81 @@ module _ (items : ItemTable) (body : BodyTree) where
   term_in [] term (n ∷ nodes) h = h
   term_in (x ∷ stmts) term [] h = absurd h
   term_in (x ∷ stmts) term (n ∷ nodes) h = term_in stmts term nodes h.1
+
+  term_named : (term : Term) (n : ℕ) → places_of_term term ≢ [] → TermIn F (body_nodes body) term n → In F (body_nodes body) n
+  term_named (Term.Goto block) n some i = absurd (some refl)
+  term_named (Term.If on if_yes if_no) n some i = i
+  term_named (Term.Case on variant if_yes if_no) n some i = i
+  term_named (Term.Math to op left right next unwind) n some i = i
+  term_named (Term.Negate to of next unwind) n some i = i
+  term_named (Term.Bounds index count next unwind) n some i = i
+  term_named (Term.Call to g args next unwind) n some i = i
+  term_named (Term.Virtual to trait_no method args next unwind) n some i = i
+  term_named (Term.Ask to next unwind) n some i = i
+  term_named (Term.DropAt place next unwind) n some i = i
+  term_named (Term.Panic why unwind) n some i = absurd (some refl)
+  term_named Term.Return n some i = absurd (some refl)
+  term_named Term.Resume n some i = absurd (some refl)
+
+  from_mapped : {X Y : Type 0} (g : X → Y) (xs : List X) (n : ℕ) (y : Y) → slice_get (map g xs) n ≡ Some y → (x : X) × (slice_get xs n ≡ Some x) × (g x ≡ y)
+  from_mapped g [] n y e = absurd (none-some y e)
+  from_mapped g (x ∷ xs) zero y e = (x, refl, same_Some (g x) y e)
+  from_mapped g (x ∷ xs) (suc n) y e = from_mapped g xs n y e
+
+  mapped : {X Y : Type 0} (g : X → Y) (xs : List X) (n : ℕ) (x : X) → slice_get xs n ≡ Some x → slice_get (map g xs) n ≡ Some (g x)
+  mapped g [] n x e = absurd (none-some x e)
+  mapped g (y ∷ xs) zero x e = ap (λ o. Some (g (unwrap_or o y))) e
+  mapped g (y ∷ xs) (suc n) x e = mapped g xs n x e
+
+  past_end : {X : Type 0} (xs : List X) → slice_get xs (length xs) ≡ None
+  past_end [] = refl
+  past_end (x ∷ xs) = past_end xs
+
+  some_place : {X : Type 0} (xs : List X) → xs ≢ [] → (x : X) × (rest : List X) × (xs ≡ x ∷ rest)
+  some_place [] some = absurd (some refl)
+  some_place (x ∷ xs) some = (x, xs, refl)
+
+  abbrev found_node : ℕ → Option tree.Node
+  found_node n = first_with n (body_nodes body)
+
+  abbrev HasSites : ℕ → Block → Type 0
+  HasSites n block =
+      ((line : ℕ) (stmt : Stmt) → slice_get block.stmts line ≡ Some stmt → places_of_stmt stmt ≢ [] → In F (body_nodes body) (lower.node_of items body n line))
+      × (places_of_term block.term ≢ [] → In F (body_nodes body) (lower.node_of items body n (length block.stmts)))
+
+  node_at : (n line : ℕ) (nodes : List ℕ) → slice_get (lower.nodes_of (lower.built F body)) n ≡ Some nodes → lower.node_of items body n line ≡ unwrap_or (slice_get nodes line) 0
+  node_at n line nodes e = ap (λ o. unwrap_or (slice_get (unwrap_or o []) line) 0) e
+
+  has_sites : (n : ℕ) (block : Block) → slice_get (lower.body_of items body).blocks n ≡ Some block → HasSites n block
+  has_sites n block e = let h = from_mapped _ (lower.built F body).blocks n block e in by_made h.0 h.1 h.2
+    where
+      by_made : (o : Option Made) → slice_get (lower.built F body).blocks n ≡ Some o → (unwrap_or o lower.unmade).block ≡ block → HasSites n block
+      by_made None e h = subst (HasSites n) h ((λ line stmt d some. absurd (none-some stmt d)), λ some. absurd (some refl))
+      by_made (Some m) e h =
+          let ok = built_ok.blocks n m e in
+          let nodes = λ (line : ℕ). node_at n line m.nodes (mapped _ (lower.built F body).blocks n (Some m) e) in
+          subst (HasSites n) h (
+            (λ line stmt d some. subst (In F (body_nodes body)) (sym (nodes line)) (line_in m.block.stmts m.block.term m.nodes ok line stmt d)),
+            λ some. subst (In F (body_nodes body)) (sym (nodes (length m.block.stmts))) (term_named m.block.term _ some (term_in m.block.stmts m.block.term m.nodes ok)),
+          )
+
+pub lowered_has_sites : LoweredHasSites
+lowered_has_sites items body n block e =
+    let h = has_sites items body n block e in (
+      (λ line stmt d some.
+          let i = h.0 line stmt d some in
+          let p = some_place items body (places_of_stmt stmt) some in
+          (i.0, i.1, stmt_at line stmt d i.0 i.1 p.0 p.1 p.2)),
+      λ some.
+          let i = h.1 some in
+          let p = some_place items body (places_of_term block.term) some in
+          (i.0, i.1, term_at i.0 i.1 p.0 p.1 p.2),
+    )
+  where
+    stmt_at : (line : ℕ) (stmt : Stmt) → slice_get block.stmts line ≡ Some stmt → (found : tree.Node) → first_with (lower.node_of items body n line) (body_nodes body) ≡ Some found →
+        (p : graph_place.Place) (rest : List graph_place.Place) → places_of_stmt stmt ≡ p ∷ rest → sites.site_at items body n line ≡ Some (sites.stmt_site items body stmt found)
+    stmt_at line stmt d found i p rest some = simp (e, d, i, some)
+
+    term_at : (found : tree.Node) → first_with (lower.node_of items body n (length block.stmts)) (body_nodes body) ≡ Some found →
+        (p : graph_place.Place) (rest : List graph_place.Place) → places_of_term block.term ≡ p ∷ rest → sites.site_at items body n (length block.stmts) ≡ Some (sites.term_site items body block.term found)
+    term_at found i p rest some = simp (e, past_end items body block.stmts, i, some)

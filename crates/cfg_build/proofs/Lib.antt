@@ -9,4 +9,3 @@ pub mod Rules
 pub mod Scopes
 pub mod Sizes
 pub mod Typed
-pub mod TypedLines

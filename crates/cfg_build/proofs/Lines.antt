@@ -1,6 +1,6 @@
 -- What holds of each line that is made, given what holds of the lines of effects, tests and drops: one lemma a rule of
 -- `Build`. Code behind code without an end is not built, so nothing is asked of it.
-use Rattle.std.proofs.Common.{◌≡◌, ◌⊎◌, inl, inr, ℕ, zero, suc, ◌==◌, ◌&&◌, ◌||◌, not, nat_lt, Bool, true, false, List, [], ◌∷◌, ◌++◌, length, map, Option, Some, None, slice_get, slice_set, if◌then◌else◌, refl, sym, ap, ◌∙◌, subst}
+use Rattle.std.proofs.Common.{◌≡◌, ◌⊎◌, inl, inr, ℕ, zero, suc, ◌==◌, ◌&&◌, ◌||◌, not, nat_lt, Bool, true, false, List, [], ◌∷◌, ◌++◌, length, map, Option, Some, None, slice_get, slice_set, if◌then◌else◌, refl, subst}
 use Rattle.std.proofs.lemmas.Option.{none-some, same_Some}
 use Rattle.cfg_graph.specs.declared.graph.Kind.{Kind}
 use Rattle.cfg_graph.specs.declared.statement.Stmt.{Stmt}
@@ -8,15 +8,13 @@ use Rattle.cfg_graph.specs.declared.terminator.Term.{Term}
 use Rattle.cfg_graph.specs.declared.terminator.Unwind.{Unwind}
 use Rattle.mir_base.specs.declared.trace.Why.{Why}
 use Rattle.mir_ty.specs.Facts.{needs_drop}
-use Rattle.mir_ty.specs.ItemTable.{ItemTable}
 use Rattle.store_model.specs.Effects as effects
 use Rattle.store_model.specs.Effects.{Site, Action}
 use Rattle.src_meaning.specs.Forms.{moved}
 use Rattle.src_meaning.specs.Scopes.{Entry, Scope, Scopes, with_scope, innermost, around_innermost, nearest_from, nearest_temporary, with_entry, with_pending, without_pending, without_key, without_keys, becomes_entry, without_operands, all_entries, needing_drop, entry_site, Exit}
 use Rattle.src_meaning.specs.Shape.{PatternTest, IsVariant, IsNumber, IsTruth, AnyOf, PatternTests, no_test, a_test, Alternatives, no_alternative, an_alternative}
 use Rattle.cfg_code.specs.Spots.{Way, Ways, ways_in_loop}
-use Rattle.cfg_build.specs.Build as build
-use Rattle.cfg_build.specs.Build.{Frame, Line, Rest, Made, Building, ending, with_line, made, next_number, closed, closing, reserved, filled, chain_among, kept_chain, chain_or, way_of, is_left_by, Lowers, Done, ByStmt, ByTerm, change, nothing, from_changed, back_in, then_build, then_lower, joined, after_either, branches, with_exit, looped, place_of, operand_of, done_by, chain, unwind_to, unwinding, done, is_last, act_by, act, panic_drops, drop_one, drop_all, outer, leave_from, leave, in_scope, leaves_one, leaves_to, exits, jump, panics, if_true, compared, equals, tests, test, any_test, taken, put_into, replaces_from, stores, replaces}
+use Rattle.cfg_build.specs.Build.{Frame, Line, Rest, Made, Building, ending, with_line, made, closed, reserved, filled, chain_among, kept_chain, chain_or, way_of, is_left_by, Lowers, Done, ByStmt, ByTerm, change, nothing, from_changed, back_in, then_build, then_lower, joined, after_either, branches, with_exit, looped, place_of, operand_of, done_by, chain, unwind_to, unwinding, done, is_last, act_by, act, panic_drops, drop_one, drop_all, outer, leave_from, leave, in_scope, leaves_one, leaves_to, exits, jump, panics, if_true, compared, tests, test, any_test, taken, put_into, replaces}
 
 -- what is to hold of a statement and of a terminator with the numbers of their nodes, and of an entry
 pub record Wanted (f : Frame) : Type 1 where

@@ -1,6 +1,6 @@
 -- Where the uses of places stand in the text, and what they are called where one is refused (rustc's errors E0381 and
 -- E0382). Each line of a graph has the number of a node; the node gives the position and the use.
-use Rattle.std.specs.Prelude.{ℕ, ◌==◌, Bool, true, false, ◌&&◌, List, [], ◌∷◌, ◌++◌, codes, Option, Some, None, slice_get, option_and_then}
+use Rattle.std.specs.Prelude.{ℕ, ◌==◌, Bool, false, ◌&&◌, List, [], ◌∷◌, ◌++◌, codes, Option, Some, None, slice_get, option_and_then}
 use Rattle.std.specs.Fmt.{decimal}
 use Rattle.std.specs.List.{find}
 use Rattle.std.specs.Option.{option_map_or}
@@ -18,7 +18,7 @@ use Rattle.mir_ty.specs.ItemTable.{ItemTable, type_at}
 use Rattle.store_model.specs.Places.Place.{Step, ToPart, ToField, ToContent, ToElement, Place, step_ty}
 use Rattle.typed_tree.specs.declared.node.Use.{Use}
 use Rattle.typed_tree.specs.Nodes.{body_nodes, first_with}
-use Rattle.typed_tree.specs.Tree.{Node, node, Form, Binding, Captured, BodyTree}
+use Rattle.typed_tree.specs.Tree.{Node, node, Binding, Captured, BodyTree}
 use Rattle.src_meaning.specs.Locals.OfBody.{local_keys, local_tys}
 use Rattle.cfg_build.specs.Lower.{body_of, node_of}
 
