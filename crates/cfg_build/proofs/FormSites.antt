@@ -451,7 +451,7 @@ module _ (f : Frame) (known : List tree.Node) where
     form_sites (tree.Captured closure part name) h j a s = place_sites h (S_of (tree.Captured closure part name) h) j s (λ around. nothing) (λ around. lines.nothing_sound f wanted)
     form_sites (tree.Field base part) h j a s = place_sites h (S_of (tree.Field base part) h) j s (L base).reaches (node_sites base a).reaches
     form_sites (tree.Deref base) h j a s = place_sites h (S_of (tree.Deref base) h) j s (L base).reaches (node_sites base a).reaches
-    form_sites (tree.Index base index count) h j a s = 
+    form_sites (tree.Index base index count) h j a s =
         let sb = node_sites base (in_first (nodes_of base) (nodes_of index) a) in
         let si = node_sites index (in_second (nodes_of base) (nodes_of index) a) in
         place_sites h (S_of (tree.Index base index count) h) j s (lower.reach_element f h (S_of (tree.Index base index count) h) (L base) (L index) count)
@@ -465,7 +465,7 @@ module _ (f : Frame) (known : List tree.Node) where
     form_sites (tree.Comparison operator left right) h j a s = on_operands_sites h (S_of (tree.Comparison operator left right) h) j s _ (one_sites _ _ (node_sites left (in_first (nodes_of left) (nodes_of right) a)) (one_sites _ _ (node_sites right (in_second (nodes_of left) (nodes_of right) a)) none_sites)) (λ site. effects.Compare site operator (moved h.id (L left).head.id) (moved h.id (L right).head.id))
     form_sites (tree.And left right) h j a s = scoped_sites h (S_of (tree.And left right) h) j s _ (λ around to. condition_sites _ (node_sites left (in_first (nodes_of left) (nodes_of right) a)) around _ _ (alone_sites _ (node_sites right (in_second (nodes_of left) (nodes_of right) a)) around to) (deliver_sites h.id h (λ site. effects.Put site (effects.Truth false)) to j j))
     form_sites (tree.Or left right) h j a s = scoped_sites h (S_of (tree.Or left right) h) j s _ (λ around to. condition_sites _ (node_sites left (in_first (nodes_of left) (nodes_of right) a)) around _ _ (deliver_sites h.id h (λ site. effects.Put site (effects.Truth true)) to j j) (alone_sites _ (node_sites right (in_second (nodes_of left) (nodes_of right) a)) around to))
-    form_sites (tree.Assign target value) h j a s = 
+    form_sites (tree.Assign target value) h j a s =
         let st = node_sites target (in_first (nodes_of target) (nodes_of value) a) in
         let sv = node_sites value (in_second (nodes_of target) (nodes_of value) a) in
         value_sites h (S_of (tree.Assign target value) h) j s _ (λ around own to. lines.scope_sound f wanted h.id own _ (and_then _ _ (operand_sites _ sv around) (and_then _ _ (st.reaches around)
@@ -483,37 +483,37 @@ module _ (f : Frame) (known : List tree.Node) where
     form_sites tree.Ask h j a s = scoped_sites h (S_of tree.Ask h) j s _ (λ around to. deliver_sites h.id h (effects.Ask) to j j)
     form_sites (tree.DropValue operand) h j a s = value_sites h (S_of (tree.DropValue operand) h) j s _ (λ around own to. lines.scope_sound f wanted h.id own _ (and_then _ _ (operand_sites _ (node_sites operand a) around) (unit_sites h to j)))
     form_sites tree.Panic h j a s = value_sites h (S_of tree.Panic h) j s _ (λ around own to. lines.panics_sound f wanted h.id Why.Explicit (λ u. tt))
-    form_sites (tree.Borrow unique base) h j a s = 
+    form_sites (tree.Borrow unique base) h j a s =
         let sb = node_sites base a in
         value_sites h (S_of (tree.Borrow unique base) h) j s _ (λ around own to. own_sites h own _ (and_then _ _ (sb.reaches around)
         (deliver_sites (L base).head.id h (λ site. effects.Borrow (record site { node = (L base).head.id }) unique (lower.site_of (L base) around)) to sb.here j)))
     form_sites (tree.Unsize trait_no operand) h j a s = value_sites h (S_of (tree.Unsize trait_no operand) h) j s _ (λ around own to. (node_sites operand a).evaluates around own (coerced (L operand).head.id trait_no to))
-    form_sites (tree.Block stmts tail) h j a s = 
+    form_sites (tree.Block stmts tail) h j a s =
         value_sites h (S_of (tree.Block stmts tail) h) j s _ (λ around own to. lines.scope_sound f wanted h.id own _
         (and_then _ _ (statements_sites _ (all_sites stmts (in_first (nodes_among stmts) (nodes_if_any tail) a)) around) (tail_sites h j _ (if_any_sites tail (in_second (nodes_among stmts) (nodes_if_any tail) a)) around to)))
-    form_sites (tree.Let pattern initialiser) h j a s = 
+    form_sites (tree.Let pattern initialiser) h j a s =
         value_sites h (S_of (tree.Let pattern initialiser) h) j s _ (λ around own to.
         let_sites h j _ (node_sites pattern (in_first (nodes_of pattern) (nodes_if_any initialiser) a)) _ (if_any_sites initialiser (in_second (nodes_of pattern) (nodes_if_any initialiser) a)) around)
-    form_sites (tree.Evaluate expression) h j a s = 
+    form_sites (tree.Evaluate expression) h j a s =
         value_sites h (S_of (tree.Evaluate expression) h) j s _ (λ around own to. lines.scope_sound f wanted h.id true _
         (pended true innermost (L expression).head _ inner (node_sites expression a).here ((node_sites expression a).evaluates around false (Into (L expression).head.id))))
-    form_sites (tree.If c consequent otherwise) h j a s = 
+    form_sites (tree.If c consequent otherwise) h j a s =
         let a1 = in_first (nodes_of c ++ nodes_of consequent) (nodes_if_any otherwise) a in
         let so = if_any_sites otherwise (in_second (nodes_of c ++ nodes_of consequent) (nodes_if_any otherwise) a) in
         scoped_sites h (S_of (tree.If c consequent otherwise) h) j s _ (λ around to. condition_sites _ (node_sites c (in_first (nodes_of c) (nodes_of consequent) a1)) around _ _
         (alone_sites _ (node_sites consequent (in_second (nodes_of c) (nodes_of consequent) a1)) around to) (otherwise_sites h j _ so around to))
-    form_sites (tree.IfLet pattern scrutinee consequent otherwise) h j a s = 
+    form_sites (tree.IfLet pattern scrutinee consequent otherwise) h j a s =
         let a1 = in_first (nodes_of pattern ++ nodes_of scrutinee ++ nodes_of consequent) (nodes_if_any otherwise) a in
         let a2 = in_first (nodes_of pattern ++ nodes_of scrutinee) (nodes_of consequent) a1 in
         let so = if_any_sites otherwise (in_second (nodes_of pattern ++ nodes_of scrutinee ++ nodes_of consequent) (nodes_if_any otherwise) a) in
         scoped_sites h (S_of (tree.IfLet pattern scrutinee consequent otherwise) h) j s _ (λ around to.
         if_taken_sites h around _ _ (node_sites pattern (in_first (nodes_of pattern) (nodes_of scrutinee) a2)) (node_sites scrutinee (in_second (nodes_of pattern) (nodes_of scrutinee) a2)) _ _
         (alone_sites _ (node_sites consequent (in_second (nodes_of pattern ++ nodes_of scrutinee) (nodes_of consequent) a1)) around to) (otherwise_sites h j _ so around to))
-    form_sites (tree.Match scrutinee arms) h j a s = 
+    form_sites (tree.Match scrutinee arms) h j a s =
         let ss = node_sites scrutinee (in_first (nodes_of scrutinee) (nodes_among arms) a) in
         value_sites h (S_of (tree.Match scrutinee arms) h) j s _ (λ around own to. own_sites h own _ (and_then _ _ (scrutinised_sites _ ss around)
         (arms_sites h.id _ (all_sites arms (in_second (nodes_of scrutinee) (nodes_among arms) a)) (lower.place_in (L scrutinee) around) around to)))
-    form_sites (tree.Arm pattern guard m) h j a s = 
+    form_sites (tree.Arm pattern guard m) h j a s =
         let a1 = in_first (nodes_of pattern ++ nodes_if_any guard) (nodes_of m) a in
         let sm = node_sites m (in_second (nodes_of pattern ++ nodes_if_any guard) (nodes_of m) a) in
         let sp = node_sites pattern (in_first (nodes_of pattern) (nodes_if_any guard) a1) in
@@ -521,10 +521,10 @@ module _ (f : Frame) (known : List tree.Node) where
         let v = pattern_sites h (S_of (tree.Arm pattern guard m) h) j s in
         record { here = j; evaluates = v.evaluates; reaches = v.reaches; arm = arm_sites h _ _ _ sp sg sm; shaped = s }
     form_sites (tree.Loop m) h j a s = scoped_sites h (S_of (tree.Loop m) h) j s _ (λ around to. lines.looped_sound f wanted h.id _ (alone_sites _ (node_sites m a) (in_loop h.id to around) (Into (L m).head.id)))
-    form_sites (tree.While c m) h j a s = 
+    form_sites (tree.While c m) h j a s =
         scoped_sites h (S_of (tree.While c m) h) j s _ (λ around to. lines.looped_sound f wanted h.id _ (condition_sites _ (node_sites c (in_first (nodes_of c) (nodes_of m) a)) (in_loop h.id to around) _ _
         (alone_sites _ (node_sites m (in_second (nodes_of c) (nodes_of m) a)) (in_loop h.id to around) (Into (L m).head.id)) (ends_loop_sites h to j)))
-    form_sites (tree.WhileLet pattern scrutinee m) h j a s = 
+    form_sites (tree.WhileLet pattern scrutinee m) h j a s =
         let a1 = in_first (nodes_of pattern ++ nodes_of scrutinee) (nodes_of m) a in
         scoped_sites h (S_of (tree.WhileLet pattern scrutinee m) h) j s _ (λ around to. lines.looped_sound f wanted h.id _
         (if_taken_sites h (in_loop h.id to around) _ _ (node_sites pattern (in_first (nodes_of pattern) (nodes_of scrutinee) a1)) (node_sites scrutinee (in_second (nodes_of pattern) (nodes_of scrutinee) a1)) _ _

@@ -760,7 +760,7 @@ module _ (f : Frame) (W B : ℕ) (enough : 12 * (W + 2) ≤ B) where
         let e3 = two pattern scrutinee in
         let e4 = counted consequent in
         let e = (let i = e1 in let j = e2 in let k = e3 in let l = e4 in
-            let z : n ≡ length (nodes_of pattern ++ nodes_of scrutinee ++ nodes_of consequent ++ nodes_if_any otherwise) = omega arith in z) in
+        let z : n ≡ length (nodes_of pattern ++ nodes_of scrutinee ++ nodes_of consequent ++ nodes_if_any otherwise) = omega arith in z) in
         let a1 = times_add (B + 12) (suc mp) (suc ms + (suc mt + o)) in
         let a2 = times_add (B + 12) (suc ms) (suc mt + o) in
         let a3 = times_add (B + 12) (suc mt) o in

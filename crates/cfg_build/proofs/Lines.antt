@@ -150,7 +150,6 @@ module _ (f : Frame) (w : Wanted f) where
   made_ok : (kind : Kind) (rank : ℕ) (k : Rest) → RestOk k → MadeOk (made kind rank k)
   made_ok kind rank k h = lines_ok k.lines k.term k.node h.0 h.1
 
-
   pub closed_ok : (kind : Kind) (k : Rest) (s : Building) → Ok s → RestOk k → Ok (closed kind k s)
   closed_ok kind k s h l = record { blocks = λ n m e. by_place n m (push_cases s.blocks (Some (made kind (length s.blocks) k)) n (Some m) e) }
     where
