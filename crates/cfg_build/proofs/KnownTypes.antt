@@ -142,7 +142,6 @@ module _ (items : ItemTable) where
       by (Some (Ty.Unique to)) e = absurd (none-some x (rw e at h))
       by (Some (Ty.Closure n)) e = absurd (none-some x (rw e at h))
 
-
   pub boxed_known : (id : TyId) (x : TyId) → types.boxed_of items id ≡ Some x → type_at items id ≡ Some (Ty.Boxed x)
   boxed_known id x h = by (type_at items id) refl
     where

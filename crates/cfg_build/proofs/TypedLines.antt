@@ -289,8 +289,8 @@ module _ (items : ItemTable) (bodies : ℕ) (body : Body) where
     l,
     term_places Exist (λ p i t b. b.there) to a.there g n u os sig.params h,
     both _ _ (both _ _ (both _ _ (term_places _ (λ p i t b. simp (b.is, b.known, b.indices)) to (simp (a.is, a.known, a.indices)) g n u os sig.params h) (simp (a.is, a.known, sized)))
-    (all_operands _ (λ p i t b d. simp (b.is, b.known, d)) os sig.params h))
-    (simp (e, a.is, d, r, equal_itself) (both _ _ (both _ _ (all_typed _ (λ p i t b. simp (b.is, equal_itself)) os sig.params h) refl) refl)),
+        (all_operands _ (λ p i t b d. simp (b.is, b.known, d)) os sig.params h))
+        (simp (e, a.is, d, r, equal_itself) (both _ _ (both _ _ (all_typed _ (λ p i t b. simp (b.is, equal_itself)) os sig.params h) refl) refl)),
   )
 
   pub virtual_ok : (to : Place) (id : TyId) (ty : Ty) (trait_no method : ℕ) (sig : Sig) (os : List Operand) → PlaceIs to id ty → Sized ty → method_at items trait_no method ≡ Some sig → sig.result.0 ≡ id.0 →
@@ -299,6 +299,6 @@ module _ (items : ItemTable) (bodies : ℕ) (body : Body) where
     ap is_some e,
     term_places Exist (λ p i t b. b.there) to a.there 0 n u os sig.params h,
     both _ _ (both _ _ (both _ _ (term_places _ (λ p i t b. simp (b.is, b.known, b.indices)) to (simp (a.is, a.known, a.indices)) 0 n u os sig.params h) (simp (a.is, a.known, sized)))
-    (all_operands _ (λ p i t b d. simp (b.is, b.known, d)) os sig.params h))
-    (simp (e, a.is, r, equal_itself) (both _ _ (all_typed _ (λ p i t b. simp (b.is, equal_itself)) os sig.params h) refl)),
+        (all_operands _ (λ p i t b d. simp (b.is, b.known, d)) os sig.params h))
+        (simp (e, a.is, r, equal_itself) (both _ _ (all_typed _ (λ p i t b. simp (b.is, equal_itself)) os sig.params h) refl)),
   )

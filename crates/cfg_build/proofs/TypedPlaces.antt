@@ -150,10 +150,13 @@ module _ (f : Frame) (bodies : ℕ) where
           (i : TyId) × (ty : Ty) × At (record place { steps = before_element place.steps }) i ty
       by None d x = absurd (none-some j x)
       by (Some k) d x =
-          let h = array_along place.steps k j t x a.known in
-          (h.0, h.1, record {
-            is = ap (option_and_then (ty_along f.items (named (map (step_of f) (before_element place.steps))))) d ∙ h.2;
-            known = h.3;
-            there = both _ _ (first (nat_lt (f.local_of place.local) (length f.tys)) _ a.there) (before_none _ place.steps);
-            indices = before_none _ place.steps;
-          })
+          let h = array_along place.steps k j t x a.known in (
+            h.0,
+            h.1,
+            record {
+              is = ap (option_and_then (ty_along f.items (named (map (step_of f) (before_element place.steps))))) d ∙ h.2;
+              known = h.3;
+              there = both _ _ (first (nat_lt (f.local_of place.local) (length f.tys)) _ a.there) (before_none _ place.steps);
+              indices = before_none _ place.steps;
+            },
+          )
