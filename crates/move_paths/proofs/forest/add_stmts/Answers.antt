@@ -1,0 +1,25 @@
+use Rattle.std.proofs.Common.{◌≡◌, ◌+◌, ◌++◌, ◌∷◌, [], List, take, get_or, flat_map, ap, sym, ◌∙◌, subst}
+use Rattle.cfg_graph.specs.declared.place.Place.{Place}
+use Rattle.cfg_graph.specs.declared.statement.Stmt.{Stmt}
+use Rattle.cfg_graph.specs.Uses.{Use, stmt_uses}
+use Rattle.move_paths.specs.Forest.{Names}
+use Rattle.move_paths.specs.Uses.{listed}
+use Rattle.move_paths.proofs.Naming.{names-more, locals-kept, flat_map-more}
+use Rattle.move_paths.proofs.forest.add_stmts.Goals as goal
+
+pub add_uses-requires : goal.add_uses-requires
+add_uses-requires c =
+    locals-kept c.args.items.now c.args.body.now c.args.trie.now c.loop-stmt.trie (flat_map stmt_uses (take c.loop-stmt.stmt-index c.args.stmts.now)) c.loop-stmt.invariant c.requires
+
+pub loop-stmt-preserved : goal.loop-stmt-preserved
+loop-stmt-preserved c =
+    let item : Stmt = c.stmt-item.result in
+    let i = c.loop-stmt.stmt-index in
+    let before : List (Use × Place) = flat_map stmt_uses (take i c.args.stmts.now) in
+    let uses : listed c.as_slice.result.now ≡ stmt_uses item = ap listed c.as_slice.ensures ∙ c.in_ok-uses.ensures in
+    let more : flat_map stmt_uses (take (i + 1) c.args.stmts.now) ≡ before ++ stmt_uses item =
+    flat_map-more stmt_uses c.args.stmts.now i item c.loop-stmt-test.true
+    ∙ ap (λ (stmt : Stmt). before ++ stmt_uses stmt) (sym c.stmt-item.is) in
+    subst (Names c.args.items.now c.args.body.now c.args.trie.now c.add_uses.new.trie) (sym more)
+    (names-more c.args.items.now c.args.body.now c.args.trie.now c.loop-stmt.trie c.add_uses.new.trie before (stmt_uses item) c.loop-stmt.invariant
+    (subst (Names c.args.items.now c.args.body.now c.loop-stmt.trie c.add_uses.new.trie) uses c.in_ok-add_uses.ensures))

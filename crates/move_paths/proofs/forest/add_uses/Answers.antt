@@ -1,0 +1,24 @@
+use Rattle.std.proofs.Common.{◌≡◌, ◌+◌, ◌++◌, ◌∷◌, [], List, take, get_or, ap, sym, ◌∙◌, subst}
+use Rattle.std.proofs.lemmas.List.{map_more}
+use Rattle.cfg_graph.specs.declared.place.Place.{Place}
+use Rattle.cfg_graph.specs.Uses.{Use}
+use Rattle.move_paths.specs.declared.uses.Used.{Used}
+use Rattle.move_paths.specs.Forest.{Names}
+use Rattle.move_paths.specs.Uses.{listed, use_of}
+use Rattle.move_paths.proofs.Naming.{names-more, locals-kept}
+use Rattle.move_paths.proofs.forest.add_uses.Goals as goal
+
+pub add_use-requires : goal.add_use-requires
+add_use-requires c =
+    locals-kept c.args.items.now c.args.body.now c.args.trie.now c.loop-used.trie (listed (take c.loop-used.used-index c.args.uses.now)) c.loop-used.invariant c.requires
+
+pub loop-used-preserved : goal.loop-used-preserved
+loop-used-preserved c =
+    let item : Used = c.used-item.result in
+    let i = c.loop-used.used-index in
+    let before : List (Use × Place) = listed (take i c.args.uses.now) in
+    let more : listed (take (i + 1) c.args.uses.now) ≡ before ++ (use_of item.how, item.place.now) ∷ [] =
+    map_more (λ (used : Used). (use_of used.how, used.place.now)) c.args.uses.now i item c.loop-used-test.true
+    ∙ ap (λ (used : Used). before ++ (use_of used.how, used.place.now) ∷ []) (sym c.used-item.is) in
+    subst (Names c.args.items.now c.args.body.now c.args.trie.now c.add_use.new.trie) (sym more)
+    (names-more c.args.items.now c.args.body.now c.args.trie.now c.loop-used.trie c.add_use.new.trie before ((use_of item.how, item.place.now) ∷ []) c.loop-used.invariant c.in_ok-add_use.ensures)

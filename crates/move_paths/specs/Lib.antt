@@ -1,0 +1,4 @@
+pub mod Forest
+pub mod Trie
+pub mod Uses
+pub mod Watch

@@ -1,0 +1,91 @@
+//! The paths that are not locals, each by the path above it and the step from there.
+ghost use Rattle.std.specs.Prelude.{◌≡◌, [], ◌∷◌, ◌++◌, Contains, length, slice_get, MatchOption, IfOk, OnOk, OnErr, Some};
+ghost use Rattle.std.specs.Option.{option_copied};
+ghost use Rattle.move_paths.specs.Trie.{AreOnce, Adds};
+
+use cfg_graph::Step;
+use indexmap::IndexSet;
+use mir_base::NoMemory;
+use std::alloc::Global;
+use std::marker::Model;
+
+/// A path below another: the number of that one, and the step from it.
+#[derive(Clone, Copy, Debug, PartialEq, Eq, Hash)]
+pub struct Part {
+    pub of: u32,
+    pub step: Step,
+}
+
+/// The parts in the order of their numbers, each of them once.
+#[derive(Debug, Drop)]
+pub struct Parts {
+    parts: IndexSet<Part>,
+}
+
+impl Model for Parts {
+    ghost use Rattle.std.specs.Prelude.{List};
+    ghost use Rattle.move_paths.specs.declared.parts.Part.{Part};
+    ghost use Rattle.move_paths.specs.Trie.{AreOnce};
+
+    ghost Value = { List Part };
+
+    ghost view = { λ parts. parts.parts.keys };
+
+    ghost invariant = { λ parts. AreOnce parts.parts.keys };
+}
+
+impl Parts {
+    pub fn new(alloc: Global) -> Parts
+        ensures { result ≡ [] }
+    {
+        Parts {
+            parts: IndexSet::new(alloc),
+        }
+    }
+
+    pub fn len(&self) -> usize
+        ensures { result ≡ length self.now }
+    {
+        self.parts.len()
+    }
+
+    /// The part with a number.
+    pub fn get(&self, n: usize) -> Option<&Part>
+        ensures { option_copied result ≡ slice_get self.now n }
+    {
+        self.parts.get_index(n)
+    }
+
+    /// The number of a part, if it has one.
+    pub fn find(&self, part: &Part) -> Option<usize>
+        ensures found { MatchOption result (¬ Contains self.now part.now) (λ n. slice_get self.now n ≡ Some part.now) }
+        ensures once { AreOnce self.now }
+    {
+        self.parts.get_index_of(part)
+    }
+
+    fn push(&mut self, part: Part) -> Result<(), NoMemory>
+        requires { ¬ Contains self.old part }
+        ensures pushed { OnOk result (self.new ≡ self.old ++ part ∷ []) }
+        ensures refused { OnErr result (self.new ≡ self.old) }
+    {
+        self.parts.insert(part)?;
+        Ok(())
+    }
+
+    /// The number of a part, which is the next one where the part had none.
+    pub fn number(&mut self, part: Part) -> Result<usize, NoMemory>
+        ensures number { IfOk result (λ n. slice_get self.new n ≡ Some part) }
+        ensures parts { OnOk result (Adds self.old self.new part) }
+        ensures refused { OnErr result (self.new ≡ self.old) }
+    {
+        match self.find(&part) {
+            Some(n) => Ok(n),
+            None => {
+                let n = self.len();
+                self.push(part)?;
+                Ok(n)
+            }
+        }
+    }
+}
