@@ -1,5 +1,5 @@
 -- What a forest has of a place, and which places a forest has.
-use Rattle.std.proofs.Common.{◌≡◌, ◌≢◌, ◌↔◌, ◌⊎◌, inl, inr, ℕ, zero, suc, ◌<◌, ◌≤◌, Bool, true, false, ◌&&◌, ◌||◌, List, [], ◌∷◌, map, flat_map, take, length, nat_lt, slice_get, Some, Contains, refl, sym, ap, subst, ◌∙◌, arith}
+use Rattle.std.proofs.Common.{◌≡◌, ◌≢◌, ◌⊎◌, inl, inr, ℕ, zero, suc, ◌<◌, ◌≤◌, Bool, true, ◌||◌, List, [], ◌∷◌, flat_map, take, length, nat_lt, slice_get, Some, Contains, refl, sym, ap, subst, ◌∙◌, arith}
 use Rattle.std.specs.Prelude.{◌==◌}
 use Rattle.std.specs.List.{list_any}
 use Rattle.std.specs.Cmp.{first_so, second_so}
@@ -15,7 +15,7 @@ use Rattle.cfg_graph.specs.Moves.Gone.{are_first, is_at_or_above}
 use Rattle.cfg_graph.proofs.WholePlaces.{same_step-sound, same_step-refl}
 use Rattle.move_paths.specs.declared.trie.Near.{Near}
 use Rattle.move_paths.specs.Trie.{AreOnce, Reaches, roots, upto}
-use Rattle.move_paths.specs.Forest.{PathForest, IsForest, IsNearest, IsRooted, Names, HasLocals, is_local, is_path, is_named, is_above_change}
+use Rattle.move_paths.specs.Forest.{IsForest, IsNearest, IsRooted, Names, HasLocals, is_local, is_path, is_named, is_above_change}
 use Rattle.move_paths.specs.Uses.{block_uses}
 use Rattle.move_paths.proofs.Above.{upto-all}
 use Rattle.move_paths.proofs.Growth.{same_places, length-roots, root-get}

@@ -1,13 +1,13 @@
 -- Forests of places as they grow: which places the parts are, that each is there once, and with each its containers.
-use Rattle.std.proofs.Common.{◌≡◌, ◌⊎◌, inl, inr, ℕ, zero, suc, ◌+◌, ◌-◌, ◌^◌, ◌<◌, ◌≤◌, Bool, true, false, List, [], ◌∷◌, ◌++◌, map, take, length, slice_get, Option, Some, None, Contains, refl, sym, ap, subst, ◌∙◌, arith}
+use Rattle.std.proofs.Common.{◌≡◌, ◌⊎◌, inl, inr, ℕ, zero, suc, ◌+◌, ◌-◌, ◌^◌, ◌<◌, ◌≤◌, List, [], ◌∷◌, ◌++◌, take, length, slice_get, Some, Contains, refl, sym, ap, subst, ◌∙◌, arith}
 use Rattle.std.specs.Prelude.{slice_index_or}
 use Rattle.std.specs.List.{range_with_len}
 use Rattle.std.specs.Option.{option_map}
 use Rattle.std.proofs.lemmas.List.FromFn.{length-range_with_len, get_or-range_with_len}
 use Rattle.std.proofs.lemmas.Bool.{cases_lt}
 use Rattle.std.proofs.lemmas.Option.{none-some, same_Some, slice_get_within, slice_get-get_or, get_or_from_slice_get, slice_get-map}
-use Rattle.std.proofs.lemmas.List.{append_assoc, append-nil, length-append, length-map, same_from_push, take-append-le, take_all, take_more, take-take, length-take-le}
-use Rattle.mir_ty.proofs.ListLemmas.{slice_get-append_left, slice_get-below, slice_get-last, slice_get-push_cases, Contains-slice_get, slice_get-Contains}
+use Rattle.std.proofs.lemmas.List.{length-append, length-map, same_from_push, take-append-le, take_all, take_more, take-take, length-take-le}
+use Rattle.mir_ty.proofs.ListLemmas.{slice_get-append_left, slice_get-last, slice_get-push_cases, Contains-slice_get, slice_get-Contains}
 use Rattle.store_model.specs.Places.Place.{Place, Step, ToPart, ToField, ToContent, ToElement, whole_local}
 use Rattle.cfg_graph.specs.declared.place.Step.{Step as GraphStep}
 use Rattle.cfg_graph.specs.Places.{named_step}

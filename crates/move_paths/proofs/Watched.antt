@@ -1,9 +1,9 @@
 -- The places that count are those that are neither behind a reference nor within an element by an index.
-use Rattle.std.proofs.Common.{◌≡◌, ℕ, Bool, true, false, not, ◌&&◌, ◌||◌, List, [], ◌∷◌, map, Option, Some, None, slice_get, refl, sym, ap, ◌∙◌}
+use Rattle.std.proofs.Common.{◌≡◌, Bool, true, false, not, ◌&&◌, ◌||◌, List, [], ◌∷◌, Option, Some, None, slice_get, refl}
 use Rattle.std.specs.Prelude.{option_and_then}
 use Rattle.mir_ty.specs.declared.ty.TyId.{TyId}
 use Rattle.mir_ty.specs.ItemTable.{ItemTable, type_at}
-use Rattle.store_model.specs.Places.Place.{Step, ToPart, ToField, ToContent, ToElement, Whole, ThroughReference, ByElement, Watched, watched, watched_content, watched_step, step_ty, ty_along, content_of, is_reference}
+use Rattle.store_model.specs.Places.Place.{Step, ToPart, ToField, ToContent, ToElement, Whole, ThroughReference, ByElement, Watched, watched, watched_content, step_ty, ty_along, content_of, is_reference}
 use Rattle.cfg_graph.specs.declared.graph.Body.{Body}
 use Rattle.cfg_graph.specs.declared.place.Place.{Place}
 use Rattle.cfg_graph.specs.Places.{named}

@@ -1,6 +1,6 @@
 -- The paths of a body that are watched for moves (the rustc development guide, "Move paths"): its locals, the places
 -- that it moves, drops, frees or stores into, and the containers of these.
-use Rattle.std.specs.Prelude.{◌≡◌, ◌↔◌, ◌⊎◌, ℕ, ◌<◌, ◌==◌, Bool, true, false, ◌&&◌, ◌||◌, List, [], ◌∷◌, ◌++◌, flat_map, length, nat_lt, slice_get, Option, Some, None, Contains}
+use Rattle.std.specs.Prelude.{◌≡◌, ◌↔◌, ◌⊎◌, ℕ, ◌<◌, Bool, true, false, ◌&&◌, ◌||◌, List, [], ◌∷◌, flat_map, length, nat_lt, slice_get, Some, Contains}
 use Rattle.std.specs.List.{list_any}
 use Rattle.std.specs.Option.{is_some}
 use Rattle.mir_ty.specs.declared.ty.TyId.{TyId}

@@ -1,10 +1,10 @@
 -- How a forest of places is kept: its locals, and then parts, each of which is a path above it and a step. What places
 -- these are; no public contract speaks of it.
-use Rattle.std.specs.Prelude.{◌≡◌, ◌⊎◌, ℕ, ◌+◌, ◌<◌, ◌≤◌, ◌^◌, take, List, [], ◌∷◌, ◌++◌, map, length, Option, Some, slice_get, slice_index_or, Contains}
+use Rattle.std.specs.Prelude.{◌≡◌, ◌⊎◌, ℕ, ◌+◌, ◌<◌, ◌≤◌, ◌^◌, take, List, [], ◌∷◌, ◌++◌, map, length, Some, slice_get, slice_index_or, Contains}
 use Rattle.std.specs.List.{range_with_len}
-use Rattle.store_model.specs.Places.Place.{Place, Step, whole_local}
+use Rattle.store_model.specs.Places.Place.{Place, whole_local}
 use Rattle.cfg_graph.specs.Places.{named_step}
-use Rattle.cfg_graph.specs.Moves.Gone.{below, has_index}
+use Rattle.cfg_graph.specs.Moves.Gone.{below}
 use Rattle.move_paths.specs.declared.parts.Part.{Part}
 use Rattle.move_paths.specs.declared.trie.Near.{Near}
 

@@ -1,5 +1,5 @@
 -- Which places are watched for moves: those that are not behind a reference and take no element by an index.
-use Rattle.std.specs.Prelude.{ℕ, Bool, true, false, not, ◌&&◌, ◌||◌, List, [], ◌∷◌, map, Option, slice_get, option_and_then}
+use Rattle.std.specs.Prelude.{Bool, true, false, not, ◌&&◌, ◌||◌, List, [], ◌∷◌, map, Option, slice_get, option_and_then}
 use Rattle.mir_ty.specs.declared.ty.TyId.{TyId}
 use Rattle.mir_ty.specs.ItemTable.{ItemTable, type_at}
 use Rattle.store_model.specs.Places.Place.{Step, ToContent, step_ty, is_reference}

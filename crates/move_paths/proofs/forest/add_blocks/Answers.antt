@@ -1,10 +1,9 @@
-use Rattle.std.proofs.Common.{◌≡◌, ◌+◌, ◌++◌, ◌∷◌, [], ◌<◌, List, length, take, get_or, map, flat_map, ap, sym, ◌∙◌, subst, arith}
+use Rattle.std.proofs.Common.{◌≡◌, ◌+◌, ◌++◌, ◌<◌, List, length, take, get_or, map, flat_map, ap, sym, ◌∙◌, subst, arith}
 use Rattle.cfg_graph.specs.declared.place.Place.{Place}
 use Rattle.cfg_graph.specs.declared.statement.Stmt.{Stmt}
 use Rattle.cfg_graph.specs.declared.graph.Block.{Block}
 use Rattle.cfg_graph.specs.Uses.{Use, Stores, stmt_uses, term_uses, stored_by_term}
-use Rattle.store_model.specs.Places.Place.{Place as Named}
-use Rattle.move_paths.specs.Forest.{Names, HasLocals}
+use Rattle.move_paths.specs.Forest.{Names}
 use Rattle.move_paths.specs.Uses.{block_uses}
 use Rattle.move_paths.proofs.Naming.{names-more, locals-kept, flat_map-more}
 use Rattle.move_paths.proofs.forest.add_blocks.Goals as goal

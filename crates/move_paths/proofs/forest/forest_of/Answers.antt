@@ -1,4 +1,4 @@
-use Rattle.std.proofs.Common.{◌≡◌, List, length, map, flat_map, slice_get, ap, sym, ◌∙◌, subst, arith}
+use Rattle.std.proofs.Common.{◌≡◌, List, length, flat_map, ap, sym, ◌∙◌, subst}
 use Rattle.mir_ty.specs.declared.ty.TyId.{TyId}
 use Rattle.store_model.specs.Places.Place.{Place}
 use Rattle.move_paths.specs.Trie.{AreOnce, places, roots}

@@ -1,4 +1,4 @@
-use Rattle.std.proofs.Common.{◌≡◌, ◌≢◌, List, false, length, map, slice_get, ap, sym, ◌∙◌, subst, arith}
+use Rattle.std.proofs.Common.{◌≡◌, ◌≢◌, List, false, length, map, slice_get, ap, sym, ◌∙◌}
 use Rattle.std.proofs.lemmas.List.{length-map}
 use Rattle.mir_ty.specs.declared.ty.TyId.{TyId}
 use Rattle.cfg_graph.specs.Places.{named, named_step}

@@ -1,5 +1,4 @@
-use Rattle.std.proofs.Common.{length, ap, sym, ◌∙◌, arith, subst}
-use Rattle.move_paths.specs.Trie.{AreOnce}
+use Rattle.std.proofs.Common.{arith}
 use Rattle.move_paths.proofs.Growth.{length-all, once-all}
 use Rattle.move_paths.proofs.trie.Trie.len.Goals as goal
 

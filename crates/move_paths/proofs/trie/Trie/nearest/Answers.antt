@@ -1,12 +1,10 @@
-use Rattle.std.proofs.Common.{◌≡◌, ◌+◌, ◌<◌, ◌≤◌, ℕ, List, [], ◌∷◌, map, length, slice_get, slice_index_or, Contains, Some, ap, sym, refl, ◌∙◌, arith, subst}
+use Rattle.std.proofs.Common.{◌≡◌, ◌<◌, ℕ, List, map, length, slice_get, slice_index_or, Some, ap, sym, ◌∙◌, arith}
 use Rattle.std.specs.Option.{option_map}
 use Rattle.std.proofs.lemmas.Option.{slice_get_within, slice_get-map, slice_get-get_or}
-use Rattle.std.proofs.lemmas.List.{length-map}
 use Rattle.store_model.specs.Places.Place.{Place}
 use Rattle.cfg_graph.specs.Places.{named, named_step}
 use Rattle.cfg_graph.specs.declared.place.Step.{Step}
-use Rattle.move_paths.specs.declared.trie.Near.{Near}
-use Rattle.move_paths.specs.Trie.{places, upto, Reaches}
+use Rattle.move_paths.specs.Trie.{upto}
 use Rattle.move_paths.proofs.Growth.{step-at, upto-more, none-past}
 use Rattle.move_paths.proofs.trie.Trie.nearest.Goals as goal
 

@@ -1,4 +1,4 @@
-use Rattle.std.proofs.Common.{◌≡◌, ◌-◌, ◌<◌, length, ap, sym, ◌∙◌, arith, slice_get, Some, None, Option, get_or}
+use Rattle.std.proofs.Common.{◌≡◌, ◌-◌, ◌<◌, length, ap, sym, ◌∙◌, arith, slice_get, None, get_or}
 use Rattle.std.specs.Option.{option_copied}
 use Rattle.cfg_graph.specs.declared.place.Step.{Step}
 use Rattle.move_paths.specs.Trie.{places}

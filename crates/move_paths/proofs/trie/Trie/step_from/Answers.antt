@@ -1,8 +1,8 @@
-use Rattle.std.proofs.Common.{◌≡◌, ◌+◌, ◌<◌, ◌^◌, List, length, slice_get, Some, ap, sym, ◌∙◌, arith, subst}
+use Rattle.std.proofs.Common.{◌+◌, ◌<◌, ◌^◌, length, sym, arith, subst}
 use Rattle.std.proofs.lemmas.Option.{slice_get_within}
 use Rattle.move_paths.specs.declared.parts.Part.{Part}
-use Rattle.move_paths.specs.Trie.{IsTrie, Adds, Grows, places, place_of}
-use Rattle.move_paths.proofs.Growth.{length-all, trie-adds, grows-adds, added-here}
+use Rattle.move_paths.specs.Trie.{IsTrie, Adds, places}
+use Rattle.move_paths.proofs.Growth.{trie-adds, grows-adds, added-here}
 use Rattle.move_paths.proofs.trie.Trie.step_from.Goals as goal
 use Rattle.move_paths.proofs.trie.Trie.step_from.Goals.{In_ok-n}
 
