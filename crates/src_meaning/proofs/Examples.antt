@@ -1,5 +1,4 @@
 -- Programs that were worked out by hand, and runs of them closed by computation.
-mod AreWellTyped
 pub mod Assignments
 pub mod Boxes
 pub mod Closures

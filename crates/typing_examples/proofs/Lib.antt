@@ -1,2 +1,3 @@
+mod AreWellTyped
 mod Bare
 mod SameTrees

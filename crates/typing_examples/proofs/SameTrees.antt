@@ -1,6 +1,7 @@
 -- The typed trees of the worked programs, typed from their texts, are those whose runs are computed in `src_meaning`.
 use Rattle.std.proofs.Common.{◌≡◌, List, [], ◌∷◌, ℕ, refl}
 use Rattle.std.specs.Prelude.{codes}
+use Rattle.typing_rules.proofs.Accepted as accepted
 use Rattle.typing_rules.proofs.Words.{text}
 use Rattle.typing_examples.proofs.Bare.{trees, trees_of}
 use Rattle.src_meaning.proofs.Examples.Closures as closures
@@ -12,142 +13,22 @@ use Rattle.src_meaning.proofs.Examples.Patterns as patterns
 use Rattle.src_meaning.proofs.Examples.Temporaries as temporaries
 use Rattle.src_meaning.proofs.Examples.TraitObjects as trait_objects
 
-abbrev locals_two_text : List ℕ
-locals_two_text = text (
-    codes "struct D(i32);" ∷
-    codes "impl Drop for D { fn drop(&mut self) {} }" ∷
-    codes "fn take(x: D) {}" ∷
-    codes "fn main() { let a = D(1); let b = D(2); }" ∷
-    [])
-
-locals_two : trees_of locals.two locals_two_text ≡ trees locals.two
+locals_two : trees_of locals.two accepted.two_locals ≡ trees locals.two
 locals_two = refl
 
-abbrev locals_again_text : List ℕ
-locals_again_text = text (
-    codes "struct D(i32);" ∷
-    codes "impl Drop for D { fn drop(&mut self) {} }" ∷
-    codes "fn take(x: D) {}" ∷
-    codes "fn main() { let mut x = D(1); take(x); x = D(2); take(x); }" ∷
-    [])
-
-locals_again : trees_of locals.again locals_again_text ≡ trees locals.again
+locals_again : trees_of locals.again accepted.assigned_again ≡ trees locals.again
 locals_again = refl
 
-abbrev conditions_moved_if_text : List ℕ
-conditions_moved_if_text = text (
-    codes "struct D(i32);" ∷
-    codes "impl Drop for D { fn drop(&mut self) {} }" ∷
-    codes "fn take(x: D) {}" ∷
-    codes "fn main() { let x = D(1); if ask() == 0 { take(x); } }" ∷
-    [])
-
-conditions_moved_if : trees_of conditions.moved_if conditions_moved_if_text ≡ trees conditions.moved_if
+conditions_moved_if : trees_of conditions.moved_if accepted.moved_if ≡ trees conditions.moved_if
 conditions_moved_if = refl
 
-abbrev trait_objects_shown_text : List ℕ
-trait_objects_shown_text = text (
-    codes "struct D(i32);" ∷
-    codes "impl Drop for D { fn drop(&mut self) {} }" ∷
-    codes "fn take(x: D) {}" ∷
-    codes "struct E(i32);" ∷
-    codes "impl Drop for E { fn drop(&mut self) {} }" ∷
-    codes "trait Show { fn show(&self); }" ∷
-    codes "impl Show for D { fn show(&self) { print(self.0); } }" ∷
-    codes "impl Show for E { fn show(&self) { print(9); } }" ∷
-    codes "fn pick() -> Box<dyn Show> { if ask() == 0 { Box::new(D(1)) } else { Box::new(E(2)) } }" ∷
-    codes "fn run(b: Box<dyn Show>) { b.show(); panic!(); }" ∷
-    codes "fn main() { run(pick()); }" ∷
-    [])
-
-trait_objects_shown : trees_of trait_objects.shown trait_objects_shown_text ≡ trees trait_objects.shown
+trait_objects_shown : trees_of trait_objects.shown accepted.trait_objects ≡ trees trait_objects.shown
 trait_objects_shown = refl
 
-abbrev job_queue_job_queue_text : List ℕ
-job_queue_job_queue_text = text (
-    codes "struct Buf(i32);" ∷
-    codes "impl Drop for Buf {" ∷
-    codes "    fn drop(&mut self) { print(self.0); }" ∷
-    codes "}" ∷
-    codes "trait Job {" ∷
-    codes "    fn cost(&self) -> i32;" ∷
-    codes "    fn run(&mut self, turn: i32) -> bool;" ∷
-    codes "}" ∷
-    codes "struct Send { head: Buf, body: Buf, sent: i32 }" ∷
-    codes "struct Fail(Buf);" ∷
-    codes "impl Send {" ∷
-    codes "    fn new(n: i32) -> Self {" ∷
-    codes "        Send { head: Buf(n), body: Buf(n + 1), sent: 0 }" ∷
-    codes "    }" ∷
-    codes "}" ∷
-    codes "impl Job for Send {" ∷
-    codes "    fn cost(&self) -> i32 { 2 - self.sent }" ∷
-    codes "    fn run(&mut self, turn: i32) -> bool {" ∷
-    codes "        self.sent = self.sent + 1;" ∷
-    codes "        if self.sent == 1 {" ∷
-    codes "            self.body = Buf(turn);" ∷
-    codes "            return false;" ∷
-    codes "        }" ∷
-    codes "        true" ∷
-    codes "    }" ∷
-    codes "}" ∷
-    codes "impl Job for Fail {" ∷
-    codes "    fn cost(&self) -> i32 { 1 }" ∷
-    codes "    fn run(&mut self, turn: i32) -> bool {" ∷
-    codes "        if turn > 2 { panic!() }" ∷
-    codes "        true" ∷
-    codes "    }" ∷
-    codes "}" ∷
-    codes "enum Slot { Free, Ready(Box<dyn Job>), Done(i32) }" ∷
-    codes "struct Queue { a: Slot, b: Slot }" ∷
-    codes "fn step(slot: Slot, turn: i32) -> Slot {" ∷
-    codes "    match slot {" ∷
-    codes "        Slot::Ready(mut job) => {" ∷
-    codes "            if job.cost() > 3 {" ∷
-    codes "                return Slot::Free;" ∷
-    codes "            }" ∷
-    codes "            if job.run(turn) {" ∷
-    codes "                return Slot::Done(turn);" ∷
-    codes "            }" ∷
-    codes "            Slot::Ready(job)" ∷
-    codes "        }" ∷
-    codes "        other => other," ∷
-    codes "    }" ∷
-    codes "}" ∷
-    codes "fn is_done(slot: &Slot) -> bool {" ∷
-    codes "    match *slot {" ∷
-    codes "        Slot::Done(_) => true," ∷
-    codes "        _ => false," ∷
-    codes "    }" ∷
-    codes "}" ∷
-    codes "fn main() {" ∷
-    codes "    let mut q = Queue {" ∷
-    codes "        a: Slot::Ready(Box::new(Send::new(10)))," ∷
-    codes "        b: Slot::Ready(Box::new(Fail(Buf(20))))," ∷
-    codes "    };" ∷
-    codes "    let mut turn = ask();" ∷
-    codes "    while !(is_done(&q.a) && is_done(&q.b)) {" ∷
-    codes "        q.a = step(q.a, turn);" ∷
-    codes "        q.b = step(q.b, turn);" ∷
-    codes "        turn = turn + 1;" ∷
-    codes "    }" ∷
-    codes "    print(turn);" ∷
-    codes "}" ∷
-    [])
-
-job_queue_job_queue : trees_of job_queue.job_queue job_queue_job_queue_text ≡ trees job_queue.job_queue
+job_queue_job_queue : trees_of job_queue.job_queue accepted.job_queue ≡ trees job_queue.job_queue
 job_queue_job_queue = refl
 
-abbrev closures_called_text : List ℕ
-closures_called_text = text (
-    codes "struct D(i32);" ∷
-    codes "impl Drop for D { fn drop(&mut self) {} }" ∷
-    codes "fn take(x: D) {}" ∷
-    codes "fn main() { let a = D(1); let b = D(2); let c = move [b, a] |n: i32| { print(n); take(a);" ∷
-    codes "}; c(4); }" ∷
-    [])
-
-closures_called : trees_of closures.called closures_called_text ≡ trees closures.called
+closures_called : trees_of closures.called accepted.closure ≡ trees closures.called
 closures_called = refl
 
 abbrev closures_dropped_text : List ℕ
