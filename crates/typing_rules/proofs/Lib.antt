@@ -2,4 +2,5 @@ pub mod Accepted
 mod Forms
 pub mod LeastSet
 mod Refusals
+pub mod Sound
 pub mod Words

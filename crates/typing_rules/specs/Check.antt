@@ -73,7 +73,7 @@ body_number = λ s. Ok (s.next_body, record s { next_body = suc s.next_body })
 abbrev pub ty_no : ℕ → TyId
 ty_no n = record { 0 = n }
 
-abbrev interned_at : Ty → Option ℕ → Check TyId
+abbrev pub interned_at : Ty → Option ℕ → Check TyId
 interned_at ty (Some n) = pure (ty_no n)
 interned_at ty None = λ s. Ok (ty_no (length s.items.types), record s { items = with_type s.items ty })
 

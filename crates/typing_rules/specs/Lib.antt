@@ -9,6 +9,7 @@ pub mod Numbered
 pub mod Patterns
 pub mod Places
 pub mod Program
+pub mod Promises
 pub mod Replaced
 pub mod Rows
 pub mod Scope

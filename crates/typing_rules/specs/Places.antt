@@ -55,7 +55,7 @@ pub data Fit : Type 0 where
   Coerced : (trait_no : ℕ) → Fit
   Differs : Fit
 
-abbrev coerced : ItemTable → Option ℕ → Option ℕ → Fit
+abbrev pub coerced : ItemTable → Option ℕ → Option ℕ → Fit
 coerced items (Some trait_no) (Some adt) = if implements items adt trait_no then Coerced trait_no else Differs
 coerced items _ _ = Differs
 
@@ -93,15 +93,15 @@ abbrev mutual
   is_fixed_form items in_guard (Deref base) = is_reference items (ty_of base) || is_fixed items in_guard base
   is_fixed_form items in_guard _ = false
 
-abbrev names_shared : Option (Bool × TyId) → Bool
+abbrev pub names_shared : Option (Bool × TyId) → Bool
 names_shared None = false
 names_shared (Some r) = not r.0
 
 abbrev mutual
-  is_shared_root : ItemTable → Node → Bool
+  pub is_shared_root : ItemTable → Node → Bool
   is_shared_root items (node id at ty by form) = is_shared_form items ty form
 
-  is_shared_form : ItemTable → TyId → Form → Bool
+  pub is_shared_form : ItemTable → TyId → Form → Bool
   is_shared_form items ty (Variable key) = names_shared (reference_of items ty)
   is_shared_form items ty (Field base part) = is_shared_root items base
   is_shared_form items ty (Index base index count) = is_shared_root items base
@@ -113,7 +113,7 @@ abbrev pub is_behind_shared : ItemTable → Node → Bool
 is_behind_shared items (node id at ty by form) = is_place form && is_shared_form items ty form
 
 -- the keys of the bindings in whose own guard the expression stands
-abbrev guard_key : Meaning → List ℕ → List ℕ
+abbrev pub guard_key : Meaning → List ℕ → List ℕ
 guard_key (InGuard key) keys = key ∷ keys
 guard_key _ keys = keys
 
@@ -122,7 +122,7 @@ in_own_guard [] = []
 in_own_guard (x ∷ xs) = guard_key x.meaning (in_own_guard xs)
 
 -- what a name that is in scope stands for
-abbrev meaning_form : Word → Meaning → Form
+abbrev pub meaning_form : Word → Meaning → Form
 meaning_form name (Local key) = Variable key
 meaning_form name (Capture closure part) = Captured closure part name
 meaning_form name (InGuard key) = Variable key
@@ -135,11 +135,11 @@ variable_place at x = do
 -- ---- members
 
 -- what a type has of a name, found by going through each reference and box up to the first type that has it
-abbrev Member : Type 0 → Type 0
+abbrev pub Member : Type 0 → Type 0
 Member A = ItemTable → TyId → Option A
 
 module _ {A : Type 0} (member : Member A) (at : Pos) where
-  abbrev through_at : (Node → Check (Node × Option A)) → Node → Option A → Option TyId → Check (Node × Option A)
+  abbrev pub through_at : (Node → Check (Node × Option A)) → Node → Option A → Option TyId → Check (Node × Option A)
   through_at on base (Some found) _ = pure (base, Some found)
   through_at on base None None = pure (base, None)
   through_at on base None (Some ty) = do
@@ -147,7 +147,7 @@ module _ {A : Type 0} (member : Member A) (at : Pos) where
     on (a_node_of id at ty (Deref base))
 
   -- a type leads through no more boxes and references than there are types
-  abbrev through_in : ℕ → ItemTable → Node → Check (Node × Option A)
+  abbrev pub through_in : ℕ → ItemTable → Node → Check (Node × Option A)
   through_in zero items base = pure (base, None)
   through_in (suc n) items base =
       through_at (through_in n items) base (member items (ty_of base)) (inside_of items (ty_of base))
@@ -157,7 +157,7 @@ module _ {A : Type 0} (member : Member A) (at : Pos) where
     items ← the_items
     through_in (suc (length items.types)) items base
 
-abbrev part_with : List TyId → ℕ → Option (ℕ × TyId)
+abbrev pub part_with : List TyId → ℕ → Option (ℕ × TyId)
 part_with tys n = option_map (λ ty. (n, ty)) (slice_get tys n)
 
 -- the number and the type of a field of a struct by its name
@@ -168,7 +168,7 @@ struct_field name items ty =
     (adt_of items ty)
 
 -- a part of a tuple or of a struct by its number
-abbrev either_part : Option (ℕ × TyId) → Option (ℕ × TyId) → Option (ℕ × TyId)
+abbrev pub either_part : Option (ℕ × TyId) → Option (ℕ × TyId) → Option (ℕ × TyId)
 either_part (Some a) b = Some a
 either_part None b = b
 

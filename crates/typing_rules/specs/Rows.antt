@@ -29,7 +29,7 @@ Typer = Option TyId → Check Node
 
 -- ---- required types
 
-abbrev unsized : TyId → ℕ → Node → Check Node
+abbrev pub unsized : TyId → ℕ → Node → Check Node
 unsized want trait_no n = do
   id ← number
   pure (a_node_of id (place_in_text n) want (tree.Unsize trait_no n))
@@ -55,13 +55,13 @@ settled want n = do
 
 -- ---- literals
 
-abbrev chosen : Option IntKind → Option IntKind → IntKind
+abbrev pub chosen : Option IntKind → Option IntKind → IntKind
 chosen (Some suffix) want = suffix
 chosen None (Some kind) = kind
 chosen None None = IntKind.I32
 
 -- a number, and the number with a `-` before it
-abbrev negative : ℕ → ℤ
+abbrev pub negative : ℕ → ℤ
 negative zero = pos 0
 negative (suc n) = negsuc n
 
@@ -155,7 +155,7 @@ not_row at operand want = do
   obeys Rule.T03 at (fits items bool (ty_of n))
   fitted want (a_node_of id at bool (tree.Not n))
 
-abbrev if_int : ItemTable → TyId → Option TyId
+abbrev pub if_int : ItemTable → TyId → Option TyId
 if_int items ty = if is_int items ty then Some ty else None
 
 abbrev pub negate : Pos → Typer → Typer
@@ -166,12 +166,12 @@ negate at operand want = do
   obeys Rule.T03 at (is_same (ty_of n) (int IntKind.I32) || is_same (ty_of n) (int IntKind.I64))
   fitted want (a_node_of id at (ty_of n) (tree.Negate n))
 
-abbrev unless_never : ItemTable → TyId → Option TyId
+abbrev pub unless_never : ItemTable → TyId → Option TyId
 unless_never items ty = if is_never items ty then None else Some ty
 
 -- Where the left operand is a literal without a suffix and no type is required of it, the right one is typed first and
 -- requires its type of the left.
-abbrev left_last : Typer → Typer → Check (Node × Node)
+abbrev pub left_last : Typer → Typer → Check (Node × Node)
 left_last left right = do
   r ← right None
   items ← the_items
@@ -179,7 +179,7 @@ left_last left right = do
   pure (l, r)
 
 -- The type of the left operand, where it is an integer type, is required of the right one.
-abbrev left_first : Option TyId → Typer → Typer → Check (Node × Node)
+abbrev pub left_first : Option TyId → Typer → Typer → Check (Node × Node)
 left_first want left right = do
   l ← left want
   items ← the_items
@@ -199,7 +199,7 @@ abbrev pub one_type : ItemTable → List TyId → Option TyId
 one_type items [] = Some never
 one_type items (ty ∷ tys) = option_and_then (one_of_two items ty) (one_type items tys)
 
-abbrev int_or_bool : ItemTable → TyId → Option TyId
+abbrev pub int_or_bool : ItemTable → TyId → Option TyId
 int_or_bool items ty = if is_bool items ty then Some ty else if_int items ty
 
 abbrev pub arithmetic : Pos → Math → Bool → Typer → Typer → Typer
@@ -229,7 +229,7 @@ logic at form left right want = do
   obeys Rule.T03 at (fits items bool (ty_of l) && fits items bool (ty_of r))
   fitted want (a_node_of id at bool (form l r))
 
-abbrev own_in : List ℕ → Form → Bool
+abbrev pub own_in : List ℕ → Form → Bool
 own_in keys (tree.Variable key) = is_any key keys
 own_in keys _ = false
 
@@ -265,7 +265,7 @@ is_same_truth a b = if a then b else not b
 abbrev pub Referrer : Type 0
 Referrer = TyId → Bool → TyId → Check Node
 
-abbrev borrow_of : ℕ → Pos → Bool → Node → Check Node
+abbrev pub borrow_of : ℕ → Pos → Bool → Node → Check Node
 borrow_of id at unique base = do
   ty ← interned (reference_ty unique (ty_of base))
   pure (a_node_of id at ty (tree.Borrow unique (used_if_place (borrow_by unique) base)))
@@ -280,7 +280,7 @@ borrow at unique base want is_unique to = do
   obeys Rule.T08 (place_in_text b) (not (unique && is_behind_shared items b))
   borrow_of id at unique b
 
-abbrev passes : Bool → TyId → Option (Bool × TyId) → Bool
+abbrev pub passes : Bool → TyId → Option (Bool × TyId) → Bool
 passes is_unique to None = false
 passes is_unique to (Some r) = is_same r.1 to && (r.0 || not is_unique)
 
@@ -294,7 +294,7 @@ passed_on at x want is_unique to = do
   v ← variable_place at x
   borrow_of id at is_unique (a_node_of through_id at to (tree.Deref v))
 
-abbrev argument_by : TyId → Typer → Referrer → Option (Bool × TyId) → Check Node
+abbrev pub argument_by : TyId → Typer → Referrer → Option (Bool × TyId) → Check Node
 argument_by ty by_value by_reference None = by_value (Some ty)
 argument_by ty by_value by_reference (Some r) = by_reference ty r.0 r.1
 
@@ -325,35 +325,35 @@ pub data Method : Type 0 where
   OfAdt : (body : ℕ) (is_drop : Bool) (head : Sig) → Method
   OfTrait : (trait_no method : ℕ) (head : Sig) → Method
 
-abbrev head_of : Method → Sig
+abbrev pub head_of : Method → Sig
 head_of (OfAdt body is_drop head) = head
 head_of (OfTrait trait_no method head) = head
 
-abbrev is_drop_method : Method → Bool
+abbrev pub is_drop_method : Method → Bool
 is_drop_method (OfAdt body is_drop head) = is_drop
 is_drop_method (OfTrait trait_no method head) = false
 
-abbrev method_form : Method → Node → Nodes → Form
+abbrev pub method_form : Method → Node → Nodes → Form
 method_form (OfAdt body is_drop head) receiver args = tree.MethodCall body receiver args
 method_form (OfTrait trait_no method head) receiver args = tree.VirtualCall trait_no method receiver args
 
-abbrev received_by : Env → Pos → Node → Option (Bool × TyId) → Check Node
+abbrev pub received_by : Env → Pos → Node → Option (Bool × TyId) → Check Node
 received_by env at base None = if is_place (form_of base) then taken env None base else pure base
 received_by env at base (Some r) = do
   id ← number
   borrow_of id at r.0 base
 
 -- `self` by reference borrows the place that was found, `self` by value takes it
-abbrev received : Env → Pos → Node → TyId → Check Node
+abbrev pub received : Env → Pos → Node → TyId → Check Node
 received env at base self = do
   items ← the_items
   received_by env at base (reference_of items self)
 
-abbrev is_unique_borrow : Form → Bool
+abbrev pub is_unique_borrow : Form → Bool
 is_unique_borrow (tree.Borrow unique base) = unique
 is_unique_borrow _ = false
 
-abbrev with_self : Env → Pos → ℕ → Node → Method → ℕ → (List TyId → Check Nodes) → Option TyId → List TyId → Check Node
+abbrev pub with_self : Env → Pos → ℕ → Node → Method → ℕ → (List TyId → Check Nodes) → Option TyId → List TyId → Check Node
 with_self env at id base method count args want [] = args [] >> breaks Rule.T12 at
 with_self env at id base method count args want (self ∷ params) = do
   receiver ← received env at base self
@@ -366,12 +366,12 @@ with_self env at id base method count args want (self ∷ params) = do
   pure n
 
 -- a function of the type that has no `self` is no method of a value
-abbrev takes_self : ItemTable → TyId → List TyId → Bool
+abbrev pub takes_self : ItemTable → TyId → List TyId → Bool
 takes_self items own [] = false
 takes_self items own (self ∷ params) =
     is_same self own || option_map_or (λ r. is_same r.1 own) (reference_of items self) false
 
-abbrev with_method : Env → Pos → ℕ → Node → Option Method → ℕ → (List TyId → Check Nodes) → Option TyId → Check Node
+abbrev pub with_method : Env → Pos → ℕ → Node → Option Method → ℕ → (List TyId → Check Nodes) → Option TyId → Check Node
 with_method env at id base None count args want = args [] >> breaks Rule.T12 at
 with_method env at id base (Some method) count args want = do
   items ← the_items
@@ -387,7 +387,7 @@ method_call env at named count receiver args want = do
   found ← through named at base
   with_method env at id found.0 found.1 count args want
 
-abbrev with_closure : Pos → ℕ → Node → ℕ → (List TyId → Check Nodes) → Option TyId → ℕ → Option Sig → Check Node
+abbrev pub with_closure : Pos → ℕ → Node → ℕ → (List TyId → Check Nodes) → Option TyId → ℕ → Option Sig → Check Node
 with_closure at id c count args want body None = args [] >> breaks Rule.T13 at
 with_closure at id c count args want body (Some head) = do
   given ← args (drop 1 head.params)
@@ -407,7 +407,7 @@ closure_call at count callee args want = do
 
 -- ---- built-in calls
 
-abbrev with_one : Nodes → (Node → Form) → Form
+abbrev pub with_one : Nodes → (Node → Form) → Form
 with_one (a_node first rest) form = form first
 with_one no_node form = tree.UnitValue
 
@@ -435,18 +435,18 @@ ask_form ns = tree.Ask
 -- ---- constructors
 
 -- a part has the type that is required of it, else its own
-abbrev part_ty : Option TyId → Node → TyId
+abbrev pub part_ty : Option TyId → Node → TyId
 part_ty None n = ty_of n
 part_ty (Some ty) n = ty
 
-abbrev box_wanted : ItemTable → TyId → Option TyId
+abbrev pub box_wanted : ItemTable → TyId → Option TyId
 box_wanted items ty = option_and_then (λ inside. if is_dyn items inside then None else Some inside) (boxed_of items ty)
 
-abbrev first_node : Nodes → Option Node
+abbrev pub first_node : Nodes → Option Node
 first_node no_node = None
 first_node (a_node first rest) = Some first
 
-abbrev box_by : Pos → ℕ → ℕ → Option TyId → Option TyId → Option Node → Check Node
+abbrev pub box_by : Pos → ℕ → ℕ → Option TyId → Option TyId → Option Node → Check Node
 box_by at id count want content None = breaks Rule.T04 at
 box_by at id count want content (Some c) = do
   ty ← interned (Ty.Boxed (part_ty content c))
@@ -467,7 +467,7 @@ new_box at count args want = do
     listed None = []
     listed (Some ty) = ty ∷ []
 
-abbrev numbered_fields : ℕ → Nodes → Fields
+abbrev pub numbered_fields : ℕ → Nodes → Fields
 numbered_fields k no_node = no_field
 numbered_fields k (a_node first rest) = a_field k first (numbered_fields (suc k) rest)
 
@@ -479,7 +479,7 @@ make adt variant given = tree.Make adt variant (numbered_fields 0 given)
 abbrev pub Given : Type 0
 Given = List (Option ℕ)
 
-abbrev is_given : ℕ → Given → Bool
+abbrev pub is_given : ℕ → Given → Bool
 is_given k [] = false
 is_given k (None ∷ given) = is_given k given
 is_given k (Some n ∷ given) = k == n || is_given k given
@@ -517,10 +517,10 @@ tuple_row at count parts want = do
   obeys Rule.T19 at (nat_le count 12)
   pure n
 
-abbrev element_wanted : ItemTable → TyId → Option TyId
+abbrev pub element_wanted : ItemTable → TyId → Option TyId
 element_wanted items ty = option_map (λ a. a.0) (array_of items ty)
 
-abbrev element_ty : ItemTable → Option TyId → List TyId → Option TyId
+abbrev pub element_ty : ItemTable → Option TyId → List TyId → Option TyId
 element_ty items None tys = one_type items tys
 element_ty items (Some ty) tys = Some ty
 
@@ -631,7 +631,7 @@ match_row env at scrutinee arms want = do
 
 -- ---- loops and jumps
 
-abbrev loop_around : Option Word → ℕ → Bool → Option TyId → Around
+abbrev pub loop_around : Option Word → ℕ → Bool → Option TyId → Around
 loop_around label id has_value want = record { label = label; loop = id; has_value = has_value; want = want }
 
 -- the type of its breaks, `!` without any
@@ -663,15 +663,15 @@ while_let_row env at label scrutinee pattern body want = do
   settled want (a_node_of id at unit (tree.WhileLet p.0 s b))
 
 -- what a `break` carries: nothing is required outside a loop and in a `while`
-abbrev carried : Option Around → Option TyId
+abbrev pub carried : Option Around → Option TyId
 carried None = None
 carried (Some a) = a.want
 
-abbrev ty_carried : MaybeNode → TyId
+abbrev pub ty_carried : MaybeNode → TyId
 ty_carried absent = unit
 ty_carried (present n) = ty_of n
 
-abbrev may_carry : MaybeNode → Around → Bool
+abbrev pub may_carry : MaybeNode → Around → Bool
 may_carry absent a = true
 may_carry (present n) a = a.has_value
 
@@ -690,7 +690,7 @@ continue_row at to want = do
   a ← known Rule.T06 at to
   settled want (a_node_of id at never (tree.Continue a.loop))
 
-abbrev is_some_node : MaybeNode → Bool
+abbrev pub is_some_node : MaybeNode → Bool
 is_some_node absent = false
 is_some_node (present n) = true
 
@@ -706,7 +706,7 @@ return_row at answer value want = do
 
 -- the initialiser of a pattern with parts: a place that is taken apart where it stands, unless it is coerced; or a
 -- value
-abbrev as_part : Env → Option TyId → Node → Fit → Check Node
+abbrev pub as_part : Env → Option TyId → Node → Fit → Check Node
 as_part env want place Fits = no_reference place
 as_part env want place how = taken env want place
 
@@ -716,20 +716,20 @@ place_for_parts env (Some want) place = do
   items ← the_items
   as_part env (Some want) place (fit items want (ty_of place))
 
-abbrev let_ty : Option TyId → MaybeNode → Option TyId
+abbrev pub let_ty : Option TyId → MaybeNode → Option TyId
 let_ty (Some ty) value = Some ty
 let_ty None absent = None
 let_ty None (present n) = Some (ty_of n)
 
-abbrev is_unused_place : Node → Bool
+abbrev pub is_unused_place : Node → Bool
 is_unused_place (node id at ty by form) = is_place form && is_none by
 
-abbrev ends_by : ItemTable → MaybeNode → Bool
+abbrev pub ends_by : ItemTable → MaybeNode → Bool
 ends_by items absent = false
 ends_by items (present n) = is_never items (ty_of n) && not (is_unused_place n)
 
 -- what the pattern of a `let` is told: one name takes the whole value
-abbrev of_value : Env → Bool → MaybeNode → ItemTable → Expected
+abbrev pub of_value : Env → Bool → MaybeNode → ItemTable → Expected
 of_value env is_one_name absent items = record { is_fixed = false; takes_all = true }
 of_value env true (present n) items = record { is_fixed = false; takes_all = true }
 of_value env false (present n) items = expected env true n items

@@ -123,7 +123,7 @@ are_same_self (a ∷ as_) = and_true (is_same a a) (are_same as_ as_) (same_self
 number_self : (n : ℕ) → IsTrue (n == n)
 number_self n = grind (arith, common_steps)
 
-equal_self : (ty : Ty) → IsTrue (is_equal ty ty)
+pub equal_self : (ty : Ty) → IsTrue (is_equal ty ty)
 equal_self (Ty.Int IntKind.I32) = refl
 equal_self (Ty.Int IntKind.I64) = refl
 equal_self (Ty.Int IntKind.U32) = refl

@@ -16,7 +16,7 @@ use Rattle.well_typed.specs.Places.{InScope, LoopAround, Context, with_entries, 
 use Rattle.well_typed.specs.Types.{is_same, is_unit, is_bool, is_never, is_int, is_signed, is_i32, is_usize, is_number_of, is_dyn, fits, is_common, adt_of, tuple_of, array_of, boxed_of, closure_of, reference_of, inside_of, is_reference, trait_of, has_fields, variant_at, implements}
 
 -- only what makes a box is coerced: blocks, branches and loops pass the type that is required of them on
-abbrev is_leaf : Form → Bool
+abbrev pub is_leaf : Form → Bool
 is_leaf (Block statements tail) = false
 is_leaf (If condition body otherwise) = false
 is_leaf (IfLet pattern scrutinee body otherwise) = false
@@ -25,45 +25,45 @@ is_leaf (Loop body) = false
 is_leaf (Unsize trait_no operand) = false
 is_leaf _ = true
 
-abbrev is_one_name : Node → Bool
+abbrev pub is_one_name : Node → Bool
 is_one_name (node id at ty by (Binding name)) = true
 is_one_name _ = false
 
 -- a place that a pattern without names takes apart is not used
-abbrev is_unused_place : Node → Bool
+abbrev pub is_unused_place : Node → Bool
 is_unused_place (node id at ty by form) = is_place form && is_none by
 
 -- a statement whose expression or initialiser has the type `!`
-abbrev ends_by : ItemTable → Form → Bool
+abbrev pub ends_by : ItemTable → Form → Bool
 ends_by items (Let p (present value)) = is_never items (ty_of value) && not (is_unused_place value)
 ends_by items (Evaluate expression) = is_never items (ty_of expression)
 ends_by items _ = false
 
-abbrev ends_in : ItemTable → Nodes → Bool
+abbrev pub ends_in : ItemTable → Nodes → Bool
 ends_in items no_node = false
 ends_in items (a_node first rest) = ends_by items (form_of first) || ends_in items rest
 
 -- A block has the type of its tail. Without a tail it has the type `!` where some statement's expression or initialiser
 -- has it, and else `()`.
-abbrev is_block_ty : ItemTable → TyId → Nodes → MaybeNode → Bool
+abbrev pub is_block_ty : ItemTable → TyId → Nodes → MaybeNode → Bool
 is_block_ty items ty statements (present tail) = is_same ty (ty_of tail)
 is_block_ty items ty statements absent = if ends_in items statements then is_never items ty else is_unit items ty
 
 -- what the breaks out of a loop carry
-abbrev carried_by : ℕ → Node → Option MaybeNode
+abbrev pub carried_by : ℕ → Node → Option MaybeNode
 carried_by loop (node id at ty by (Break from value)) = if loop == from then Some value else None
 carried_by loop _ = None
 
-abbrev carried : ℕ → Node → List MaybeNode
+abbrev pub carried : ℕ → Node → List MaybeNode
 carried loop body = filter_map (carried_by loop) (nodes_of body)
 
 -- a break without a value carries `()`
-abbrev carries_ty : ItemTable → TyId → MaybeNode → Bool
+abbrev pub carries_ty : ItemTable → TyId → MaybeNode → Bool
 carries_ty items ty absent = is_unit items ty
 carries_ty items ty (present value) = is_same ty (ty_of value)
 
 -- a loop has the type of its breaks, and `!` without any that has another
-abbrev is_loop_ty : ItemTable → TyId → List MaybeNode → Bool
+abbrev pub is_loop_ty : ItemTable → TyId → List MaybeNode → Bool
 is_loop_ty items ty values = is_never items ty || list_any (carries_ty items ty) values
 
 -- a body that is entered by a call of its function: not that of a `Drop` impl, and not that of a closure
@@ -73,33 +73,33 @@ is_drop_body items body = list_any (λ adt. option_map_or (λ b. b == body) adt.
 abbrev pub is_closure_body : ItemTable → ℕ → Bool
 is_closure_body items body = list_any (λ def. def.body == body) items.closures
 
-abbrev types_in : Nodes → List TyId
+abbrev pub types_in : Nodes → List TyId
 types_in no_node = []
 types_in (a_node first rest) = ty_of first ∷ types_in rest
 
-abbrev matched_in : Bool → Context → Node → Matched
+abbrev pub matched_in : Bool → Context → Node → Matched
 matched_in takes_all c scrutinee = record { takes_all = takes_all; may_move = may_move c scrutinee }
 
-abbrev fits_bool : ItemTable → TyId → Bool
+abbrev pub fits_bool : ItemTable → TyId → Bool
 fits_bool items ty = is_bool items ty || is_never items ty
 
-abbrev fits_unit : ItemTable → TyId → Bool
+abbrev pub fits_unit : ItemTable → TyId → Bool
 fits_unit items ty = is_unit items ty || is_never items ty
 
 -- operands of one type, where `!` takes the type of the other
-abbrev are_operands : ItemTable → (TyId → Bool) → TyId → TyId → Bool
+abbrev pub are_operands : ItemTable → (TyId → Bool) → TyId → TyId → Bool
 are_operands items test a b = (test a && fits items a b) || (test b && fits items b a)
 
-abbrev int_or_bool : ItemTable → TyId → Bool
+abbrev pub int_or_bool : ItemTable → TyId → Bool
 int_or_bool items ty = is_int items ty || is_bool items ty
 
-abbrev is_variable : Form → Bool
+abbrev pub is_variable : Form → Bool
 is_variable (Variable key) = true
 is_variable (Captured closure part name) = true
 is_variable _ = false
 
 -- the entries of a statement
-abbrev entries_in : Form → List InScope
+abbrev pub entries_in : Form → List InScope
 entries_in (Let pattern value) = entries_of pattern
 entries_in _ = []
 
@@ -107,7 +107,7 @@ abbrev loop_around : ℕ → TyId → Bool → LoopAround
 loop_around id ty has_value = record { loop = id; ty = ty; has_value = has_value }
 
 -- a struct or enum of a type, and an impl of a trait by the content of a box
-abbrev box_implements : ItemTable → TyId → TyId → ℕ → Bool
+abbrev pub box_implements : ItemTable → TyId → TyId → ℕ → Bool
 box_implements items to from trait_no =
     option_map_or (λ n. n == trait_no) (option_and_then (trait_of items) (boxed_of items to)) false &&
     option_map_or (λ adt. implements items adt trait_no) (option_and_then (adt_of items) (boxed_of items from)) false
@@ -118,18 +118,18 @@ first_and_rest first rest [] = fact false
 first_and_rest first rest (ty ∷ tys) = first ty & rest tys
 
 -- a pattern of `if let` or `while let`
-abbrev of_scrutinee : Context → Node → Node → Claim
+abbrev pub of_scrutinee : Context → Node → Node → Claim
 of_scrutinee c p scrutinee =
     fact (are_distinct (names_of p)) & pattern c.items (matched_in false c scrutinee) (ty_of scrutinee) p
 
 -- One name takes the value of the initialiser. Another pattern takes its place apart, or a temporary.
-abbrev as_initialiser : Node → Standing
+abbrev pub as_initialiser : Node → Standing
 as_initialiser p = if is_one_name p then Wanted (ty_of p) else Base
 
-abbrev whole : Matched
+abbrev pub whole : Matched
 whole = record { takes_all = true; may_move = true }
 
-abbrev of_let : Context → Node → Node → Claim
+abbrev pub of_let : Context → Node → Node → Claim
 of_let c p value =
     fact (are_distinct (names_of p)) &
     pattern c.items (if is_one_name p then whole else matched_in true c value) (ty_of p) p &

@@ -14,11 +14,11 @@ use Rattle.well_typed.specs.Names.{are_distinct_numbers}
 use Rattle.well_typed.specs.Places.{InScope, is_by, taking}
 use Rattle.well_typed.specs.Types.{is_same, is_unit, is_bool, is_dyn, is_number_of, adt_of, tuple_of, array_of, is_enum, adt_at}
 
-abbrev binding_name : Node → Option (List ℕ)
+abbrev pub binding_name : Node → Option (List ℕ)
 binding_name (node id at ty by (Binding name)) = Some name
 binding_name _ = None
 
-abbrev binding_entry : Node → Option InScope
+abbrev pub binding_entry : Node → Option InScope
 binding_entry (node id at ty by (Binding name)) = Some record { key = id; ty = ty; is_in_guard = false }
 binding_entry _ = None
 
@@ -35,7 +35,7 @@ pub record Matched : Type 0 where
   pub takes_all : Bool
   pub may_move : Bool
 
-abbrev within : Bool → Matched → Matched
+abbrev pub within : Bool → Matched → Matched
 within drops m = record m { may_move = not drops && m.may_move }
 
 abbrev pub field_numbers : Fields → List ℕ
@@ -49,19 +49,19 @@ count_of (a_node first rest) = suc (count_of rest)
 abbrev is_same_truth : Bool → Bool → Bool
 is_same_truth a b = if a then b else not b
 
-abbrev has_no_names : List (List ℕ) → Bool
+abbrev pub has_no_names : List (List ℕ) → Bool
 has_no_names [] = true
 has_no_names (name ∷ names) = false
 
 -- `()` and `(..)` stand for `()` as for a tuple
-abbrev tuple_types : ItemTable → TyId → Option (List TyId)
+abbrev pub tuple_types : ItemTable → TyId → Option (List TyId)
 tuple_types items ty = if is_unit items ty then Some [] else tuple_of items ty
 
 module _ (items : ItemTable) where
-  abbrev variant_count : ℕ → ℕ
+  abbrev pub variant_count : ℕ → ℕ
   variant_count n = option_map_or (λ def. length def.variants) (adt_at items n) 0
 
-  abbrev is_test_by : Bool → Option Use → Bool
+  abbrev pub is_test_by : Bool → Option Use → Bool
   is_test_by true by = is_by Use.Test by
   is_test_by false by = is_none by
 
@@ -97,16 +97,16 @@ module _ (items : ItemTable) where
     pattern_row m ty by _ = fact false
 
     -- patterns of numbered fields of a variant; what is left out is not looked at
-    field_patterns : Matched → TyId → ℕ → Fields → Claim
+    pub field_patterns : Matched → TyId → ℕ → Fields → Claim
     field_patterns m ty variant no_field = nothing
     field_patterns m ty variant (a_field number value rest) =
         some (field_ty items ty variant number) (λ want. pattern m want value) & field_patterns m ty variant rest
 
-    part_patterns : Matched → List TyId → Nodes → Claim
+    pub part_patterns : Matched → List TyId → Nodes → Claim
     part_patterns m tys no_node = nothing
     part_patterns m [] (a_node first rest) = fact false
     part_patterns m (ty ∷ tys) (a_node first rest) = pattern m ty first & part_patterns m tys rest
 
-    each_pattern : Matched → TyId → Nodes → Claim
+    pub each_pattern : Matched → TyId → Nodes → Claim
     each_pattern m ty no_node = nothing
     each_pattern m ty (a_node first rest) = pattern m ty first & each_pattern m ty rest

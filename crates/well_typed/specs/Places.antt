@@ -94,7 +94,7 @@ abbrev is_storing : Use → Bool
 is_storing Use.Store = true
 is_storing _ = false
 
-abbrev is_use : Use → Use → Bool
+abbrev pub is_use : Use → Use → Bool
 is_use Use.Move = is_move
 is_use Use.Copy = is_copying
 is_use Use.Borrow = is_borrowing
@@ -113,7 +113,7 @@ taking items ty = if is_copy items ty then Use.Copy else Use.Move
 abbrev pub borrow_by : Bool → Use
 borrow_by unique = if unique then Use.BorrowMut else Use.Borrow
 
-abbrev is_guarded : List InScope → ℕ → Bool
+abbrev pub is_guarded : List InScope → ℕ → Bool
 is_guarded entries key = option_map_or (λ x. x.is_in_guard) (entry_with key entries) false
 
 -- a binding inside its own guard, by itself
@@ -121,7 +121,7 @@ abbrev pub is_own_binding : Context → Form → Bool
 is_own_binding c (Variable key) = is_guarded c.entries key
 is_own_binding c _ = false
 
-abbrev names_shared : Option (Bool × TyId) → Bool
+abbrev pub names_shared : Option (Bool × TyId) → Bool
 names_shared None = false
 names_shared (Some r) = not r.0
 
@@ -142,10 +142,10 @@ module _ (c : Context) where
 
   -- a place with a variable of type `&T` at its root
   abbrev mutual
-    is_rooted : Node → Bool
+    pub is_rooted : Node → Bool
     is_rooted (node id at ty by form) = is_rooted_by ty form
 
-    is_rooted_by : TyId → Form → Bool
+    pub is_rooted_by : TyId → Form → Bool
     is_rooted_by ty (Variable key) = names_shared (reference_of c.items ty)
     is_rooted_by ty (Field base part) = is_rooted base
     is_rooted_by ty (Index base index length) = is_rooted base
@@ -156,7 +156,7 @@ module _ (c : Context) where
   abbrev pub is_behind_shared : Node → Bool
   is_behind_shared (node id at ty by form) = is_place form && is_rooted_by ty form
 
-  abbrev may_take : Bool → TyId → Form → Bool
+  abbrev pub may_take : Bool → TyId → Form → Bool
   may_take copies ty form = copies || (may_move_by form && not (is_dyn c.items ty))
 
 -- How a node stands in the one around it.

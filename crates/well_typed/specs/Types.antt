@@ -19,52 +19,52 @@ are_same [] [] = true
 are_same (a ∷ as_) (b ∷ bs) = is_same a b && are_same as_ bs
 are_same _ _ = false
 
-abbrev is_unit_ty : Ty → Bool
+abbrev pub is_unit_ty : Ty → Bool
 is_unit_ty Ty.Unit = true
 is_unit_ty _ = false
 
-abbrev is_bool_ty : Ty → Bool
+abbrev pub is_bool_ty : Ty → Bool
 is_bool_ty Ty.Bool = true
 is_bool_ty _ = false
 
-abbrev is_never_ty : Ty → Bool
+abbrev pub is_never_ty : Ty → Bool
 is_never_ty Ty.Never = true
 is_never_ty _ = false
 
-abbrev kind_in : Ty → Option IntKind
+abbrev pub kind_in : Ty → Option IntKind
 kind_in (Ty.Int kind) = Some kind
 kind_in _ = None
 
-abbrev adt_in : Ty → Option ℕ
+abbrev pub adt_in : Ty → Option ℕ
 adt_in (Ty.Adt n) = Some n
 adt_in _ = None
 
-abbrev tuple_in : Ty → Option (List TyId)
+abbrev pub tuple_in : Ty → Option (List TyId)
 tuple_in (Ty.Tuple parts) = Some parts
 tuple_in _ = None
 
-abbrev array_in : Ty → Option (TyId × ℕ)
+abbrev pub array_in : Ty → Option (TyId × ℕ)
 array_in (Ty.Array element count) = Some (element, count)
 array_in _ = None
 
-abbrev boxed_in : Ty → Option TyId
+abbrev pub boxed_in : Ty → Option TyId
 boxed_in (Ty.Boxed content) = Some content
 boxed_in _ = None
 
-abbrev dyn_in : Ty → Option ℕ
+abbrev pub dyn_in : Ty → Option ℕ
 dyn_in (Ty.Dyn n) = Some n
 dyn_in _ = None
 
-abbrev closure_in : Ty → Option ℕ
+abbrev pub closure_in : Ty → Option ℕ
 closure_in (Ty.Closure n) = Some n
 closure_in _ = None
 
-abbrev reference_in : Ty → Option (Bool × TyId)
+abbrev pub reference_in : Ty → Option (Bool × TyId)
 reference_in (Ty.Shared to) = Some (false, to)
 reference_in (Ty.Unique to) = Some (true, to)
 reference_in _ = None
 
-abbrev inside_in : Ty → Option TyId
+abbrev pub inside_in : Ty → Option TyId
 inside_in (Ty.Boxed content) = Some content
 inside_in (Ty.Shared to) = Some to
 inside_in (Ty.Unique to) = Some to
@@ -144,7 +144,7 @@ module _ (items : ItemTable) where
   is_enum n = option_map_or (λ def. def.is_enum) (adt_at n) false
 
   -- a type whose fields stand behind a `.`: a struct or a tuple
-  abbrev fields_in : Ty → Bool
+  abbrev pub fields_in : Ty → Bool
   fields_in (Ty.Adt n) = not (is_enum n)
   fields_in (Ty.Tuple parts) = true
   fields_in _ = false
@@ -156,14 +156,14 @@ module _ (items : ItemTable) where
   abbrev pub implements : ℕ → ℕ → Bool
   implements adt trait_no = list_any (λ def. def.trait_no == trait_no && def.adt == adt) items.impls
 
-abbrev is_within : ℤ → IntKind → Bool
+abbrev pub is_within : ℤ → IntKind → Bool
 is_within value kind = int_le (least_of kind) value && int_le value (greatest_of kind)
 
 -- a number of an integer type
 abbrev pub is_number_of : ItemTable → TyId → ℤ → Bool
 is_number_of items ty value = option_map_or (is_within value) (kind_of items ty) false
 
-abbrev is_signed_kind : IntKind → Bool
+abbrev pub is_signed_kind : IntKind → Bool
 is_signed_kind IntKind.I32 = true
 is_signed_kind IntKind.I64 = true
 is_signed_kind _ = false
@@ -171,7 +171,7 @@ is_signed_kind _ = false
 abbrev pub is_signed : ItemTable → TyId → Bool
 is_signed items ty = option_map_or is_signed_kind (kind_of items ty) false
 
-abbrev is_kind : IntKind → IntKind → Bool
+abbrev pub is_kind : IntKind → IntKind → Bool
 is_kind IntKind.I32 IntKind.I32 = true
 is_kind IntKind.Usize IntKind.Usize = true
 is_kind _ _ = false

@@ -1,0 +1,11 @@
+-- What the checks of expressions give is well typed.
+pub mod Arguments
+pub mod Branches
+pub mod Calls
+pub mod Fitted
+pub mod Gives
+pub mod Interned
+pub mod Later
+pub mod Operators
+pub mod Parts
+pub mod Places

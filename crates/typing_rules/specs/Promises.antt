@@ -1,0 +1,176 @@
+-- What the checks of expressions promise: what a check gives is well typed in each later state of the walk, wherever a
+-- node may stand in the end whose names and loops are those of the environment.
+use Rattle.std.specs.Prelude.{◌≡◌, ℕ, suc, ◌≤◌, Bool, true, false, not, List, Option, Some, Result, Ok, Err, IsTrue, Contains, slice_get, is_some}
+use Rattle.mir_ty.specs.declared.def.ClosureDef.{ClosureDef}
+use Rattle.mir_ty.specs.declared.def.Sig.{Sig}
+use Rattle.mir_ty.specs.declared.def.TraitDef.{TraitDef}
+use Rattle.mir_ty.specs.declared.ty.Ty.{Ty}
+use Rattle.mir_ty.specs.declared.ty.TyId.{TyId}
+use Rattle.mir_ty.specs.AreItems.{AreDistinct}
+use Rattle.mir_ty.specs.ItemTable.{ItemTable, type_at}
+use Rattle.mir_ty.specs.Parts.{field_ty, held_by}
+use Rattle.typed_tree.specs.Tree.{Node}
+use Rattle.well_typed.specs.Claim.{Holds}
+use Rattle.well_typed.specs.Nodes.{typed}
+use Rattle.well_typed.specs.Places.{InScope, LoopAround, Context, entry_with, loop_with, may_move, ty_of, form_of, is_place, Taken, Base}
+use Rattle.well_typed.specs.Types.{fits, inside_of, is_unit}
+use Rattle.typing_rules.specs.Check.{Check, State, Broken}
+use Rattle.typing_rules.specs.Places.{scalars, agrees, is_fixed, is_shared_root, in_own_guard}
+use Rattle.typing_rules.specs.Rows.{Typer}
+use Rattle.typing_rules.specs.Scope.{Env, Entry, Around, Meaning, Local, Capture, InGuard}
+
+-- ---- later states
+
+-- later items: more types, more closures, and all else as it was
+pub record Extends (old new : ItemTable) : Type 0 where
+  pub types : (n : ℕ) (ty : Ty) → slice_get old.types n ≡ Some ty → slice_get new.types n ≡ Some ty
+  pub closures : (n : ℕ) (def : ClosureDef) → slice_get old.closures n ≡ Some def → slice_get new.closures n ≡ Some def
+  pub adts : new.adts ≡ old.adts
+  pub traits : new.traits ≡ old.traits
+  pub impls : new.impls ≡ old.impls
+  pub bodies : new.bodies ≡ old.bodies
+
+-- a type in the table that is no closure still to come
+abbrev pub IsThere : ItemTable → Ty → Type 0
+IsThere items (Ty.Closure n) = IsTrue (is_some (slice_get items.closures n))
+IsThere items ty = Unit {0}
+
+abbrev pub IsReady : ItemTable → TyId → Type 0
+IsReady items id = (ty : Ty) × (type_at items id ≡ Some ty) × IsThere items ty
+
+-- a type of values: neither `dyn` nor a reference, and ready
+abbrev pub IsValueType : ItemTable → Ty → Type 0
+IsValueType items (Ty.Dyn n) = ⊥
+IsValueType items (Ty.Shared to) = ⊥
+IsValueType items (Ty.Unique to) = ⊥
+IsValueType items ty = IsThere items ty
+
+abbrev pub IsAlone : ItemTable → TyId → Type 0
+IsAlone items id = (ty : Ty) × (type_at items id ≡ Some ty) × IsValueType items ty
+
+-- a type in the table
+abbrev pub IsKnown : ItemTable → TyId → Type 0
+IsKnown items id = (ty : Ty) × (type_at items id ≡ Some ty)
+
+-- the table begins with the types that have fixed numbers, and what it says of types and heads is ready
+pub record AreReady (items : ItemTable) : Type 0 where
+  pub begins : (n : ℕ) (ty : Ty) → slice_get scalars n ≡ Some ty → slice_get items.types n ≡ Some ty
+  pub distinct : AreDistinct items.types
+  pub held : (id part : TyId) (ty : Ty) → type_at items id ≡ Some ty → Contains (held_by items ty) part → IsReady
+      items part
+  pub parts : (id part : TyId) (variant n : ℕ) → field_ty items id variant n ≡ Some part → IsReady items part
+  pub inside : (id to : TyId) → inside_of items id ≡ Some to → IsReady items to
+  pub results : (n : ℕ) (sig : Sig) → slice_get items.bodies n ≡ Some sig → IsAlone items sig.result
+  pub methods : (n k : ℕ) (def : TraitDef) (sig : Sig) → slice_get items.traits n ≡ Some def →
+      slice_get def.methods k ≡ Some sig → IsAlone items sig.result
+  pub params : (n : ℕ) (sig : Sig) (ty : TyId) → slice_get items.bodies n ≡ Some sig → Contains sig.params ty →
+      IsKnown items ty
+  pub method_params : (n k : ℕ) (def : TraitDef) (sig : Sig) (ty : TyId) → slice_get items.traits n ≡ Some def →
+      slice_get def.methods k ≡ Some sig → Contains sig.params ty → IsKnown items ty
+
+-- from a state to a later one
+pub record Grows (s t : State) : Type 0 where
+  pub items : Extends s.items t.items
+  pub ready : AreReady s.items → AreReady t.items
+  pub breaks : (b : ℕ × TyId) → Contains s.breaks b → Contains t.breaks b
+  pub numbers : s.next_node ≤ t.next_node
+
+-- ---- what a check gives
+
+-- what is so of a value and the state after it, where no rule is broken
+abbrev pub Then : {A : Type 0} → Result (A × State) Broken → (A → State → Type 0) → Type 0
+Then (Ok a) P = P a.0 a.1
+Then (Err e) P = Unit {0}
+
+-- a fact on a value, in a later state
+abbrev pub Fact : Type 0 → Type 1
+Fact A = State → A → Type 0
+
+abbrev pub Given : {A : Type 0} → State → Fact A → A → State → Type 0
+Given s Q a t = Grows s t × ((w : State) → Grows t w → Q w a)
+
+pub record Gives {A : Type 0} (s : State) (Q : Fact A) (r : Result (A × State) Broken) : Type 0 where
+  pub so : AreReady s.items → Then r (Given s Q)
+
+-- ---- where a node stands
+
+-- the entries in scope, in the body of a closure the closure's value, and the loops around
+pub record Spot : Type 0 where
+  pub entries : List InScope
+  pub closure : Option InScope
+  pub loops : List LoopAround
+
+abbrev pub at_spot : ItemTable → TyId → Spot → Context
+at_spot items answer p =
+    record { items = items; entries = p.entries; closure = p.closure; loops = p.loops; answer = answer }
+
+abbrev in_scope : ℕ → TyId → Bool → InScope
+in_scope key ty is_in_guard = record { key = key; ty = ty; is_in_guard = is_in_guard }
+
+-- what a variable is, is there
+abbrev pub Means : ItemTable → Spot → TyId → Meaning → Type 0
+Means items p ty (Local key) = entry_with key p.entries ≡ Some (in_scope key ty false)
+Means items p ty (InGuard key) = entry_with key p.entries ≡ Some (in_scope key ty true)
+Means items p ty (Capture closure part) =
+    (x : InScope) × (p.closure ≡ Some x) × (x.key ≡ closure) × (field_ty items x.ty 0 part ≡ Some ty)
+
+-- the breaks out of a loop that may carry a value fit its type; another loop is `()`
+abbrev pub Carries : State → LoopAround → Bool → Type 0
+Carries w l true = (b : ℕ × TyId) → Contains w.breaks b → b.0 ≡ l.loop → IsTrue (fits w.items l.ty b.1)
+Carries w l false = IsTrue (is_unit w.items l.ty)
+
+abbrev pub IsAround : State → Spot → Around → Type 0
+IsAround w p a = (l : LoopAround) × (loop_with a.loop p.loops ≡ Some l) × (l.loop ≡ a.loop) × (l.has_value ≡
+    a.has_value) × Carries w l a.has_value
+
+-- a spot whose names and loops are those of an environment
+pub record Stands (env : Env) (w : State) (p : Spot) : Type 0 where
+  pub variables : (x : Entry) → Contains env.variables x → Means w.items p x.ty x.meaning
+  pub loops : (a : Around) → Contains env.loops a → IsAround w p a
+
+-- numbers of a body are given out in their order, so those in an environment are below the next
+abbrev pub IsBelow : ℕ → Meaning → Type 0
+IsBelow n (Local key) = suc key ≤ n
+IsBelow n (InGuard key) = suc key ≤ n
+IsBelow n (Capture closure part) = Unit {0}
+
+pub record Knows (env : Env) (s : State) : Type 0 where
+  pub types : (x : Entry) → Contains env.variables x → IsReady s.items x.ty
+  pub keys : (x : Entry) → Contains env.variables x → IsBelow s.next_node x.meaning
+  pub loops : (a : Around) → Contains env.loops a → suc a.loop ≤ s.next_node
+
+-- ---- nodes
+
+-- a value of a type that fits the required one
+pub record IsValue (env : Env) (want : Option TyId) (w : State) (n : Node) : Type 0 where
+  pub alone : IsAlone w.items (ty_of n)
+  pub fit : IsTrue (agrees w.items want (ty_of n))
+  pub holds : (p : Spot) → Stands env w p → Holds (typed (at_spot w.items env.answer p) Taken n)
+
+-- a value that is no place
+pub record IsTemporary (env : Env) (want : Option TyId) (w : State) (n : Node) : Type 0 where
+  pub value : IsValue env want w n
+  pub is_no_place : is_place (form_of n) ≡ false
+
+-- a place, or a value that becomes a temporary; what is asked of places is so in each later state
+pub record IsBase (env : Env) (w : State) (n : Node) : Type 0 where
+  pub ready : IsReady w.items (ty_of n)
+  pub holds : (p : Spot) → Stands env w p → Holds (typed (at_spot w.items env.answer p) Base n)
+  pub moves : (p : Spot) → Stands env w p → IsTrue (not (is_fixed w.items (in_own_guard env.variables) n)) →
+      IsTrue (may_move (at_spot w.items env.answer p) n)
+  pub is_fixed : (v : State) → Grows w v → is_fixed v.items (in_own_guard env.variables) n ≡ is_fixed w.items
+      (in_own_guard env.variables) n
+  pub is_shared : (v : State) → Grows w v → is_shared_root v.items n ≡ is_shared_root w.items n
+
+-- ---- checks
+
+-- the check of a value gives what is well typed, whatever is required of it
+abbrev pub Sound : Env → Typer → Type 0
+Sound env check = (want : Option TyId) (s : State) → Knows env s → Gives s (IsValue env want) (check want s)
+
+abbrev pub SoundTemporary : Env → Typer → Type 0
+SoundTemporary env check = (want : Option TyId) (s : State) → Knows env s → Gives s (IsTemporary env want) (check
+    want s)
+
+abbrev pub SoundBase : Env → Check Node → Type 0
+SoundBase env check = (s : State) → Knows env s → Gives s (IsBase env) (check s)
