@@ -2,6 +2,7 @@
 pub mod Arguments
 pub mod Branches
 pub mod Calls
+pub mod Constructors
 pub mod Fitted
 pub mod Gives
 pub mod Interned

@@ -13,7 +13,7 @@ use Rattle.typed_tree.specs.Tree.{Node}
 use Rattle.well_typed.specs.Claim.{Holds}
 use Rattle.well_typed.specs.Nodes.{typed}
 use Rattle.well_typed.specs.Places.{InScope, LoopAround, Context, entry_with, loop_with, may_move, ty_of, form_of, is_place, Taken, Base}
-use Rattle.well_typed.specs.Types.{fits, inside_of, is_unit}
+use Rattle.well_typed.specs.Types.{fits, inside_of, is_reference, is_unit}
 use Rattle.typing_rules.specs.Check.{Check, State, Broken}
 use Rattle.typing_rules.specs.Places.{scalars, agrees, is_fixed, is_shared_root, in_own_guard}
 use Rattle.typing_rules.specs.Rows.{Typer}
@@ -56,10 +56,10 @@ IsKnown items id = (ty : Ty) × (type_at items id ≡ Some ty)
 pub record AreReady (items : ItemTable) : Type 0 where
   pub begins : (n : ℕ) (ty : Ty) → slice_get scalars n ≡ Some ty → slice_get items.types n ≡ Some ty
   pub distinct : AreDistinct items.types
-  pub held : (id part : TyId) (ty : Ty) → type_at items id ≡ Some ty → Contains (held_by items ty) part → IsReady
+  pub held : (id part : TyId) (ty : Ty) → type_at items id ≡ Some ty → Contains (held_by items ty) part → IsAlone
       items part
-  pub parts : (id part : TyId) (variant n : ℕ) → field_ty items id variant n ≡ Some part → IsReady items part
-  pub inside : (id to : TyId) → inside_of items id ≡ Some to → IsReady items to
+  pub parts : (id part : TyId) (variant n : ℕ) → field_ty items id variant n ≡ Some part → IsAlone items part
+  pub inside : (id to : TyId) → inside_of items id ≡ Some to → IsReady items to × IsTrue (not (is_reference items to))
   pub results : (n : ℕ) (sig : Sig) → slice_get items.bodies n ≡ Some sig → IsAlone items sig.result
   pub methods : (n k : ℕ) (def : TraitDef) (sig : Sig) → slice_get items.traits n ≡ Some def →
       slice_get def.methods k ≡ Some sig → IsAlone items sig.result

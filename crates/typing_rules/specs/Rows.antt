@@ -454,6 +454,10 @@ box_by at id count want content (Some c) = do
   obeys Rule.T04 at (count == 1)
   pure n
 
+abbrev pub listed : Option TyId → List TyId
+listed None = []
+listed (Some ty) = ty ∷ []
+
 -- `Box::new(e)`
 abbrev pub new_box : Pos → ℕ → (List TyId → Check Nodes) → Typer
 new_box at count args want = do
@@ -462,10 +466,6 @@ new_box at count args want = do
   let content = wanted box_wanted items want
   given ← args (listed content)
   box_by at id count want content (first_node given)
-  where
-    listed : Option TyId → List TyId
-    listed None = []
-    listed (Some ty) = ty ∷ []
 
 abbrev pub numbered_fields : ℕ → Nodes → Fields
 numbered_fields k no_node = no_field

@@ -28,7 +28,7 @@ use Rattle.typing_rules.specs.Scope.{Env}
 use Rattle.typing_rules.proofs.Sound.Branches.{unit_is}
 use Rattle.typing_rules.proofs.Sound.Fitted.{Passed as Passes, fitted_gives, passed_ends, or_left, or_right, same_self}
 use Rattle.typing_rules.proofs.Sound.Gives.{◌⋆◌, bind, with_ready, given, obeyed, found, after_number, numbered, grows_trans, grows_refl, weaker, knows_later, knows_number}
-use Rattle.typing_rules.proofs.Sound.Later.{ready_later, in_later, same_in, same_known, same_is, same_reference, same_dyn, some_got, passes_by}
+use Rattle.typing_rules.proofs.Sound.Later.{alone_ready, ready_later, in_later, same_in, same_known, same_is, same_reference, same_dyn, some_got, passes_by}
 use Rattle.typing_rules.proofs.Sound.Operators.{as_wanted, unit_ready, fits_test, int_at, or_cases, same_id}
 use Rattle.typing_rules.proofs.Sound.Places.{IsPlace, not_true, truth_of, or_false, if_holds, else_holds}
 
@@ -74,7 +74,7 @@ element_ready : (items : ItemTable) → AreReady items → (base ty : TyId) (cou
     count) → IsReady items ty
 element_ready items all base ty count h =
     let known = some_got array_in (type_at items base) (ty, count) h in
-    all.held base ty known.0 known.1 (by known.0 known.2)
+    alone_ready items ty (all.held base ty known.0 known.1 (by known.0 known.2))
   where
     by : (t : Ty) → array_in t ≡ Some (ty, count) → Contains (held_by items t) ty
     by (Ty.Array element n) h = (0, omega arith, ap (λ (x : TyId × ℕ). x.0) (same_Some (element, n) (ty, count) h))

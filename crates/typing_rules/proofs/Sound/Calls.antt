@@ -105,7 +105,7 @@ call_sound env at form answer count params args may_be_called a b c good s ready
 
 -- ---- what is built in
 
-from_passed : (c : Context) (param : TyId) (n : Node) → is_reference c.items param ≡ false → Holds (typed c (Passed param)
+pub from_passed : (c : Context) (param : TyId) (n : Node) → is_reference c.items param ≡ false → Holds (typed c (Passed param)
     n) → Holds (typed c Taken n) × IsTrue (fits c.items param (ty_of n))
 from_passed c param (node id at ty by form) e h =
     let so = else_by (is_reference c.items param) e h.0 in ((so.0, h.1), so.1)
@@ -167,11 +167,11 @@ i32_fits items ready ty h = by (or_cases (is_same ty (int IntKind.I32)) (is_neve
     by (inl same) = or_left _ _ (subst (λ id. IsTrue (is_i32 items id)) (sym (same_id ty (int IntKind.I32) same)) has)
     by (inr never) = or_right (is_i32 items ty) _ never
 
-one_known : (items : ItemTable) (ty : TyId) → IsKnown items ty → (t : TyId) → Contains (ty ∷ []) t → IsKnown items t
+pub one_known : (items : ItemTable) (ty : TyId) → IsKnown items ty → (t : TyId) → Contains (ty ∷ []) t → IsKnown items t
 one_known items ty h t (zero, below, is) = subst (IsKnown items) is h
 one_known items ty h t (suc k, below, is) = absurd (omega (arith, below))
 
-none_known : (items : ItemTable) (t : TyId) → Contains [] t → IsKnown items t
+pub none_known : (items : ItemTable) (t : TyId) → Contains [] t → IsKnown items t
 none_known items t c = absurd (omega (arith, c.1))
 
 pub print_sound : (env : Env) (at : Pos) (count : ℕ) (args : List TyId → Check Nodes) → SoundArgs env count args →

@@ -13,13 +13,13 @@ use Rattle.mir_ty.specs.ItemTable.{ItemTable, type_at, with_type}
 use Rattle.mir_ty.specs.Parts.{held_by, parts_of, field_ty}
 use Rattle.mir_ty.proofs.ListLemmas.{slice_get-append_left, slice_get-last, slice_get-push_cases}
 use Rattle.well_typed.specs.Items.{is_equal}
-use Rattle.well_typed.specs.Types.{is_same, are_same, inside_of, inside_in}
+use Rattle.well_typed.specs.Types.{is_same, are_same, inside_of, inside_in, is_reference}
 use Rattle.well_typed.proofs.ClaimLemmas.{true_left, true_right}
 use Rattle.well_typed.proofs.ItemLemmas.{equal_self}
 use Rattle.typing_rules.specs.Check.{Check, State, interned, interned_at, ty_no}
-use Rattle.typing_rules.specs.Promises.{Extends, IsReady, AreReady, Grows, Fact, Given, Gives}
+use Rattle.typing_rules.specs.Promises.{Extends, IsReady, IsAlone, AreReady, Grows, Fact, Given, Gives}
 use Rattle.typing_rules.proofs.Sound.Gives.{given, with_ready, grows_refl}
-use Rattle.typing_rules.proofs.Sound.Later.{some_got, type_later, ready_later, alone_later, known_later}
+use Rattle.typing_rules.proofs.Sound.Later.{some_got, type_later, ready_later, alone_later, known_later, same_reference}
 use Rattle.typing_rules.proofs.Sound.Operators.{same_id}
 
 -- ---- equal types are the same
@@ -96,9 +96,9 @@ not_there ty tys h k is = some_below (is_equal ty) tys (below_if (is_equal ty) t
 
 -- what a type is made of is ready
 pub record IsMade (items : ItemTable) (ty : Ty) : Type 0 where
-  pub held : (part : TyId) → Contains (held_by items ty) part → IsReady items part
-  pub parts : (part : TyId) (variant n : ℕ) → slice_get (parts_of items ty variant) n ≡ Some part → IsReady items part
-  pub inside : (to : TyId) → inside_in ty ≡ Some to → IsReady items to
+  pub held : (part : TyId) → Contains (held_by items ty) part → IsAlone items part
+  pub parts : (part : TyId) (variant n : ℕ) → slice_get (parts_of items ty variant) n ≡ Some part → IsAlone items part
+  pub inside : (to : TyId) → inside_in ty ≡ Some to → IsReady items to × IsTrue (not (is_reference items to))
 
 module _ (items : ItemTable) (ty : Ty) where
   more_types : Extends items (with_type items ty)
@@ -126,7 +126,7 @@ module _ (items : ItemTable) (ty : Ty) where
     abbrev Two : ℕ → Ty → Type 0
     Two n t = (slice_get items.types n ≡ Some t) ⊎ ((n ≡ length items.types) × (ty ≡ t))
 
-    held_more : (id part : TyId) (t : Ty) → Two id.0 t → Contains (held_by (with_type items ty) t) part → IsReady items
+    held_more : (id part : TyId) (t : Ty) → Two id.0 t → Contains (held_by (with_type items ty) t) part → IsAlone items
         part
     held_more id part t (inl is) has = all.held id part t is (subst (λ xs. Contains xs part) (held_same t) has)
     held_more id part t (inr new_) has =
@@ -134,7 +134,7 @@ module _ (items : ItemTable) (ty : Ty) where
         u) part) (sym new_.1) has))
 
     parts_more : (id part : TyId) (variant n : ℕ) (t : Ty) → Two id.0 t → slice_get (parts_of (with_type items ty) t
-        variant) n ≡ Some part → IsReady items part
+        variant) n ≡ Some part → IsAlone items part
     parts_more id part variant n t (inl is) h =
         all.parts id part variant n (ap (λ o. option_and_then (λ u. slice_get (parts_of items u variant) n) o) is ∙ (ap
         (λ xs. slice_get xs n) (sym (parts_same t variant)) ∙ h))
@@ -142,7 +142,8 @@ module _ (items : ItemTable) (ty : Ty) where
         made.parts part variant n (ap (λ xs. slice_get xs n) (sym (parts_same ty variant)) ∙ (ap (λ u. slice_get
         (parts_of (with_type items ty) u variant) n) new_.1 ∙ h))
 
-    inside_more : (id to : TyId) (t : Ty) → Two id.0 t → inside_in t ≡ Some to → IsReady items to
+    inside_more : (id to : TyId) (t : Ty) → Two id.0 t → inside_in t ≡ Some to → IsReady items to × IsTrue
+        (not (is_reference items to))
     inside_more id to t (inl is) h = all.inside id to (ap (option_and_then inside_in) is ∙ h)
     inside_more id to t (inr new_) h = made.inside to (ap inside_in new_.1 ∙ h)
 
@@ -160,14 +161,16 @@ module _ (items : ItemTable) (ty : Ty) where
         record {
           begins = λ n t h. more_types.types n t (all.begins n t h);
           distinct = λ i j t a b. distinct_more absent i j t (two i t a) (two j t b);
-          held = λ id part t at has. ready_later more_types part (held_more id part t (two id.0 t at) has);
+          held = λ id part t at has. alone_later more_types part (held_more id part t (two id.0 t at) has);
           parts = λ id part variant n h.
               let known = some_got (λ u. slice_get (parts_of (with_type items ty) u variant) n) (type_at (with_type items
               ty) id) part h in
-              ready_later more_types part (parts_more id part variant n known.0 (two id.0 known.0 known.1) known.2);
+              alone_later more_types part (parts_more id part variant n known.0 (two id.0 known.0 known.1) known.2);
           inside = λ id to h.
               let known = some_got inside_in (type_at (with_type items ty) id) to h in
-              ready_later more_types to (inside_more id to known.0 (two id.0 known.0 known.1) known.2);
+              let was = inside_more id to known.0 (two id.0 known.0 known.1) known.2 in
+              (ready_later more_types to was.0, subst (λ b. IsTrue (not b)) (sym (same_reference more_types to was.0))
+              was.1);
           results = λ n sig h. alone_later more_types sig.result (all.results n sig h);
           methods = λ n k def sig h g. alone_later more_types sig.result (all.methods n k def sig h g);
           params = λ n sig t h has. known_later more_types t (all.params n sig t h has);

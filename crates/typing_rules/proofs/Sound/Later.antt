@@ -226,17 +226,17 @@ module _ {old new : ItemTable} (e : Extends old new) where
       derives (is_type id (Ty.Adt n) h is) (ap (λ adts. slice_get adts n) (sym e.adts) ∙ at) d
   copy_back all id h (tuple {parts = parts} is each) =
       let was = is_type id (Ty.Tuple parts) h is in
-      tuple was (λ part has. copy_back all part (all.held id part (Ty.Tuple parts) was has) (each part has))
+      tuple was (λ part has. copy_back all part (alone_ready old part (all.held id part (Ty.Tuple parts) was has)) (each part has))
   copy_back all id h (array {element = element} {count = count} is one) =
       let was = is_type id (Ty.Array element count) h is in
-      array was (copy_back all element (all.held id element (Ty.Array element count) was (0, omega arith, refl)) one)
+      array was (copy_back all element (alone_ready old element (all.held id element (Ty.Array element count) was (0, omega arith, refl))) one)
   copy_back all id h (closure {n = n} {def = def} is at each) =
       let was = is_type id (Ty.Closure n) h is in
       let here_ = is_some_got (slice_get old.closures n) (there_at id n h was) in
       let same : here_.0 ≡ def = same_Some here_.0 def (sym (e.closures n here_.0 here_.1) ∙ at) in
       let old_at : slice_get old.closures n ≡ Some def = here_.1 ∙ ap Some same in
-      closure was old_at (λ part has. copy_back all part (all.held id part (Ty.Closure n) was (held_at n def part old_at
-      has)) (each part has))
+      closure was old_at (λ part has. copy_back all part (alone_ready old part (all.held id part (Ty.Closure n) was
+      (held_at n def part old_at has))) (each part has))
     where
       held_at : (n : ℕ) (def : ClosureDef) (part : TyId) → slice_get old.closures n ≡ Some def → Contains
           def.captures part → Contains (captures_of (slice_get old.closures n)) part

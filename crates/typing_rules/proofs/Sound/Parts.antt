@@ -27,7 +27,7 @@ use Rattle.typing_rules.specs.Scope.{Env, field_named}
 use Rattle.typing_rules.specs.Syntax.{Word, number_word}
 use Rattle.typing_rules.proofs.Sound.Fitted.{or_left, or_right, same_self}
 use Rattle.typing_rules.proofs.Sound.Gives.{◌⋆◌, bind, with_ready, given, obeyed, found, after_number, numbered, grows_trans, grows_refl, knows_later, knows_number, grows_number}
-use Rattle.typing_rules.proofs.Sound.Later.{extends_refl, ready_later, type_later, in_later, same_in, same_is, same_reference, same_drop_impl, some_got, passes_by, passes_got}
+use Rattle.typing_rules.proofs.Sound.Later.{alone_ready, extends_refl, ready_later, type_later, in_later, same_in, same_is, same_reference, same_drop_impl, some_got, passes_by, passes_got}
 use Rattle.typing_rules.proofs.Sound.Operators.{or_cases, same_id, int_at, int_ready}
 use Rattle.typing_rules.proofs.Sound.Places.{IsPlace, deref_base, or_false}
 
@@ -194,7 +194,7 @@ field_base : (env : Env) (t w : State) (id : ℕ) (at : Pos) (f : ℕ × TyId) (
 field_base env t w id at f b all base has is =
     record {
       base = record {
-        ready = all.parts (ty_of b) f.1 0 f.0 is;
+        ready = alone_ready w.items f.1 (all.parts (ty_of b) f.1 0 f.0 is);
         holds = λ p stands. (refl, base.holds p stands ⋆ has ⋆ subst (λ o. Holds (some o (λ t. fact (is_same f.1 t))))
             (sym is) (same_self f.1.0));
         moves = λ p stands h. let both_ = or_false _ _ h in and_true _ _ both_.0 (base.moves p stands both_.1);

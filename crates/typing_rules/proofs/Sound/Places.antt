@@ -209,7 +209,7 @@ pub deref_base : (env : Env) (w : State) (id : ℕ) (at : Pos) (ty : TyId) (b : 
 deref_base env w id at ty b all base is =
     record {
       base = record {
-        ready = all.inside (ty_of b) ty is;
+        ready = (all.inside (ty_of b) ty is).0;
         holds = λ p stands. (refl, (base.holds p stands, subst (λ o. Holds (some o (λ t. fact (is_same ty t)))) (sym is)
             (same_self ty.0)));
         moves = λ p stands h. let both_ = or_false _ _ h in and_true _ _ both_.0 (base.moves p stands both_.1);
