@@ -10,3 +10,4 @@ pub mod Later
 pub mod Operators
 pub mod Parts
 pub mod Places
+pub mod References

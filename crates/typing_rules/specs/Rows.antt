@@ -255,10 +255,10 @@ borrow_by unique = if unique then Use.BorrowMut else Use.Borrow
 abbrev pub used_if_place : Use → Node → Node
 used_if_place by n = if is_place (form_of n) then used by n else n
 
-abbrev reference_ty : Bool → TyId → Ty
+abbrev pub reference_ty : Bool → TyId → Ty
 reference_ty unique to = if unique then Ty.Unique to else Ty.Shared to
 
-abbrev is_same_truth : Bool → Bool → Bool
+abbrev pub is_same_truth : Bool → Bool → Bool
 is_same_truth a b = if a then b else not b
 
 -- an argument for a reference parameter: the parameter's type, whether it is unique, and the type that it names

@@ -191,7 +191,7 @@ passed_value c param (node id at ty by form) no_reference h f =
     else_by false no_ h f = (h, f)
 
 -- a borrow of what the reference names
-passed_borrow : (c : Context) (param : TyId) (id : ℕ) (at : Pos) (unique : Bool) (base : Node) → IsTrue (is_reference
+pub passed_borrow : (c : Context) (param : TyId) (id : ℕ) (at : Pos) (unique : Bool) (base : Node) → IsTrue (is_reference
     c.items param) → Holds (row c id param (tree.Borrow unique base)) → IsTrue (not (is_never c.items param)) → Holds
     (typed c (Passed param) (a_node_of id at param (tree.Borrow unique base)))
 passed_borrow c param id at unique base is h no_never =

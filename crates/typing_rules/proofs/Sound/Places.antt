@@ -141,7 +141,7 @@ captured_holds c closure part ty x e k f =
     (subst (λ n. IsTrue (n == closure)) (sym k) (same_self closure) ⋆
     subst (λ o. Holds (some o (λ t. fact (is_same ty t)))) (sym f) (same_self ty.0))
 
-variable_base : (env : Env) (w : State) (id : ℕ) (at : Pos) (x : Entry) (m : Meaning) → m ≡ x.meaning → Contains
+pub variable_base : (env : Env) (w : State) (id : ℕ) (at : Pos) (x : Entry) (m : Meaning) → m ≡ x.meaning → Contains
     env.variables x → IsReady w.items x.ty → IsBase env w (a_node_of id at x.ty (meaning_form x.name m))
 variable_base env w id at x (Local key) e has ready =
     record {
