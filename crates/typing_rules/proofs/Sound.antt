@@ -6,6 +6,7 @@ pub mod Constructors
 pub mod Fitted
 pub mod Gives
 pub mod Interned
+pub mod Jumps
 pub mod Later
 pub mod Operators
 pub mod Parts
