@@ -1,5 +1,6 @@
 -- What the checks of expressions give is well typed.
 pub mod Arguments
+pub mod Blocks
 pub mod Branches
 pub mod Calls
 pub mod Constructors
@@ -12,3 +13,4 @@ pub mod Operators
 pub mod Parts
 pub mod Places
 pub mod References
+pub mod Scopes

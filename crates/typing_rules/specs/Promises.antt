@@ -1,6 +1,6 @@
 -- What the checks of expressions promise: what a check gives is well typed in each later state of the walk, wherever a
 -- node may stand in the end whose names and loops are those of the environment.
-use Rattle.std.specs.Prelude.{◌≡◌, ℕ, suc, ◌≤◌, Bool, true, false, not, List, Option, Some, Result, Ok, Err, IsTrue, Contains, slice_get, is_some}
+use Rattle.std.specs.Prelude.{◌≡◌, ℕ, suc, ◌≤◌, Bool, true, false, not, List, [], ◌∷◌, Option, Some, Result, Ok, Err, IsTrue, Contains, slice_get, is_some}
 use Rattle.mir_ty.specs.declared.def.ClosureDef.{ClosureDef}
 use Rattle.mir_ty.specs.declared.def.Sig.{Sig}
 use Rattle.mir_ty.specs.declared.def.TraitDef.{TraitDef}
@@ -11,12 +11,14 @@ use Rattle.mir_ty.specs.ItemTable.{ItemTable, type_at}
 use Rattle.mir_ty.specs.Parts.{field_ty, held_by}
 use Rattle.typed_tree.specs.Tree.{Node}
 use Rattle.well_typed.specs.Claim.{Holds}
+use Rattle.well_typed.specs.Names.{are_distinct}
 use Rattle.well_typed.specs.Nodes.{typed}
+use Rattle.well_typed.specs.Patterns.{Matched, pattern, names_of, entries_of}
 use Rattle.well_typed.specs.Places.{InScope, LoopAround, Context, entry_with, loop_with, may_move, ty_of, form_of, is_place, Taken, Base}
 use Rattle.well_typed.specs.Types.{fits, inside_of, is_reference, is_unit}
 use Rattle.typing_rules.specs.Check.{Check, State, Broken}
 use Rattle.typing_rules.specs.Places.{scalars, agrees, is_fixed, is_shared_root, in_own_guard}
-use Rattle.typing_rules.specs.Rows.{Typer}
+use Rattle.typing_rules.specs.Rows.{Typer, Expected, Matcher}
 use Rattle.typing_rules.specs.Scope.{Env, Entry, Around, Meaning, Local, Capture, InGuard}
 
 -- ---- later states
@@ -104,7 +106,7 @@ abbrev pub at_spot : ItemTable → TyId → Spot → Context
 at_spot items answer p =
     record { items = items; entries = p.entries; closure = p.closure; loops = p.loops; answer = answer }
 
-abbrev in_scope : ℕ → TyId → Bool → InScope
+abbrev pub in_scope : ℕ → TyId → Bool → InScope
 in_scope key ty is_in_guard = record { key = key; ty = ty; is_in_guard = is_in_guard }
 
 -- what a variable is, is there
@@ -174,3 +176,39 @@ SoundTemporary env check = (want : Option TyId) (s : State) → Knows env s → 
 
 abbrev pub SoundBase : Env → Check Node → Type 0
 SoundBase env check = (s : State) → Knows env s → Gives s (IsBase env) (check s)
+
+-- ---- patterns
+
+abbrev pub key_of : Meaning → ℕ
+key_of (Local key) = key
+key_of (InGuard key) = key
+key_of (Capture closure part) = 0
+
+-- the entries of names that are bound
+abbrev pub are_bound : Bool → List Entry → List InScope
+are_bound is_in_guard [] = []
+are_bound is_in_guard (x ∷ xs) = in_scope (key_of x.meaning) x.ty is_in_guard ∷ are_bound is_in_guard xs
+
+-- names that are bound are entries of the body, by numbers that rise from one number to another
+abbrev pub AreFresh : ℕ → List Entry → ℕ → Type 0
+AreFresh n [] m = n ≤ m
+AreFresh n (x ∷ xs) m =
+    (x.meaning ≡ Local (key_of x.meaning)) × (n ≤ key_of x.meaning) × AreFresh (suc (key_of x.meaning)) xs m
+
+abbrev pub AreReadyTypes : ItemTable → List Entry → Type 0
+AreReadyTypes items [] = Unit {0}
+AreReadyTypes items (x ∷ xs) = IsReady items x.ty × AreReadyTypes items xs
+
+-- a pattern for a place of a type, with its bindings, whose numbers are those from one number to another
+pub record IsPattern (e : Expected) (ty : TyId) (n m : ℕ) (w : State) (b : Node × List Entry) : Type 0 where
+  pub holds : (place : Matched) → place.takes_all ≡ e.takes_all → (IsTrue (not e.is_fixed) → IsTrue place.may_move) →
+      Holds (pattern w.items place ty b.0)
+  pub names : IsTrue (are_distinct (names_of b.0))
+  pub entries : entries_of b.0 ≡ are_bound false b.1
+  pub fresh : AreFresh n b.1 m
+  pub types : AreReadyTypes w.items b.1
+
+-- the check of a pattern gives what is well typed for each place of its type
+abbrev pub SoundMatcher : Matcher → Type 0
+SoundMatcher check = (e : Expected) (ty : TyId) (s : State) → IsReady s.items ty → AreReady s.items → Then (check e ty s) (λ
+    b t. Grows s t × ((w : State) → Grows t w → IsPattern e ty s.next_node t.next_node w b))

@@ -43,13 +43,13 @@ pub record Env : Type 0 where
 abbrev pub variable : List Entry → Word → Option Entry
 variable xs name = find (λ x. bytes_eq x.name name) xs
 
+-- names that come into scope: the last of them is the youngest
+abbrev pub joined : List Entry → List Entry → List Entry
+joined [] old = old
+joined (x ∷ xs) old = joined xs (x ∷ old)
+
 abbrev pub with_variables : List Entry → Env → Env
 with_variables new env = record env { variables = joined new env.variables }
-  where
-    -- names that come into scope: the last of them is the youngest
-    joined : List Entry → List Entry → List Entry
-    joined [] old = old
-    joined (x ∷ xs) old = joined xs (x ∷ old)
 
 -- the loop that a jump leaves: the innermost, or the innermost of that label
 abbrev labelled : Word → Option Word → Bool
@@ -68,7 +68,7 @@ abbrev pub within_loop : Around → Env → Env
 within_loop loop env = record env { loops = loop ∷ env.loops }
 
 -- inside the guard of an arm its names are the parts that they would bind
-abbrev guarded : Meaning → Meaning
+abbrev pub guarded : Meaning → Meaning
 guarded (Local key) = InGuard key
 guarded m = m
 

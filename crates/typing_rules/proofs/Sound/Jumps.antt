@@ -138,7 +138,7 @@ break_sound env at to value is good want s k =
 
 -- ---- loops
 
-other_number : (n m : ℕ) → suc m ≤ n → (n == m) ≡ false
+pub other_number : (n m : ℕ) → suc m ≤ n → (n == m) ≡ false
 other_number n m h = by (n == m) refl
   where
     by : (b : Bool) → (n == m) ≡ b → (n == m) ≡ false
