@@ -11,6 +11,8 @@ pub mod Places
 pub mod Program
 pub mod Promises
 pub mod Replaced
+pub mod RowLaws
+pub mod RowPromises
 pub mod Rows
 pub mod Scope
 pub mod Syntax

@@ -199,16 +199,17 @@ abbrev pub AreReadyTypes : ItemTable → List Entry → Type 0
 AreReadyTypes items [] = Unit {0}
 AreReadyTypes items (x ∷ xs) = IsReady items x.ty × AreReadyTypes items xs
 
--- a pattern for a place of a type, with its bindings, whose numbers are those from one number to another
-pub record IsPattern (e : Expected) (ty : TyId) (n m : ℕ) (w : State) (b : Node × List Entry) : Type 0 where
+-- a pattern for a place of a type, with its bindings, whose numbers begin at one number
+pub record IsPattern (e : Expected) (ty : TyId) (n : ℕ) (w : State) (b : Node × List Entry) : Type 0 where
   pub holds : (place : Matched) → place.takes_all ≡ e.takes_all → (IsTrue (not e.is_fixed) → IsTrue place.may_move) →
       Holds (pattern w.items place ty b.0)
   pub names : IsTrue (are_distinct (names_of b.0))
   pub entries : entries_of b.0 ≡ are_bound false b.1
-  pub fresh : AreFresh n b.1 m
+  pub fresh : AreFresh n b.1 w.next_node
   pub types : AreReadyTypes w.items b.1
 
 -- the check of a pattern gives what is well typed for each place of its type
 abbrev pub SoundMatcher : Matcher → Type 0
-SoundMatcher check = (e : Expected) (ty : TyId) (s : State) → IsReady s.items ty → AreReady s.items → Then (check e ty s) (λ
-    b t. Grows s t × ((w : State) → Grows t w → IsPattern e ty s.next_node t.next_node w b))
+SoundMatcher check = (e : Expected) (ty : TyId) (s : State) → IsReady s.items ty → Gives s (IsPattern e ty
+    s.next_node) (check
+    e ty s)

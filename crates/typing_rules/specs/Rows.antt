@@ -353,7 +353,8 @@ abbrev pub is_unique_borrow : Form → Bool
 is_unique_borrow (tree.Borrow unique base) = unique
 is_unique_borrow _ = false
 
-abbrev pub with_self : Env → Pos → ℕ → Node → Method → ℕ → (List TyId → Check Nodes) → Option TyId → List TyId → Check Node
+abbrev pub with_self : Env → Pos → ℕ → Node → Method → ℕ → (List TyId → Check Nodes) → Option TyId → List TyId → Check
+    Node
 with_self env at id base method count args want [] = args [] >> breaks Rule.T12 at
 with_self env at id base method count args want (self ∷ params) = do
   receiver ← received env at base self

@@ -1,8 +1,7 @@
 -- What is stored into, what is borrowed, and arguments.
-use Rattle.std.proofs.Common.{◌≡◌, ℕ, zero, suc, Bool, true, false, ◌&&◌, ◌||◌, ◌==◌, not, if◌then◌else◌, List, [], ◌∷◌, Option, Some, None, IsTrue, Contains, ◌⊎◌, inl, inr, refl, ap, sym, subst, ◌∙◌, arith}
-use Rattle.std.specs.Prelude.{option_and_then, is_some, is_none, slice_get}
+use Rattle.std.proofs.Common.{◌≡◌, ℕ, Bool, true, false, ◌&&◌, ◌||◌, ◌==◌, not, if◌then◌else◌, List, Option, Some, None, IsTrue, Contains, ◌⊎◌, inl, inr, refl, ap, sym, subst, ◌∙◌, arith}
+use Rattle.std.specs.Prelude.{option_and_then, is_some, is_none}
 use Rattle.std.specs.Option.{option_map_or}
-use Rattle.std.proofs.lemmas.Bool.{false≢true, true≢false}
 use Rattle.std.proofs.lemmas.Option.{none-some, same_Some}
 use Rattle.mir_base.specs.declared.int_kind.IntKind.{IntKind}
 use Rattle.mir_base.specs.declared.place_in_text.Pos.{Pos}
@@ -10,27 +9,28 @@ use Rattle.mir_base.specs.declared.rule.Rule.{Rule}
 use Rattle.mir_ty.specs.declared.ty.Ty.{Ty}
 use Rattle.mir_ty.specs.declared.ty.TyId.{TyId}
 use Rattle.mir_ty.specs.ItemTable.{ItemTable, type_at}
-use Rattle.mir_ty.specs.Parts.{held_by, parts_of}
+use Rattle.mir_ty.specs.Parts.{held_by}
 use Rattle.typed_tree.specs.declared.node.Use.{Use}
 use Rattle.typed_tree.specs.Tree as tree
 use Rattle.typed_tree.specs.Tree.{Node, node, Form, Variable, Captured, Field, Index, Deref}
-use Rattle.well_typed.specs.Claim.{Claim, Holds, some, fact, both}
+use Rattle.well_typed.specs.Claim.{Holds, some, fact, both}
 use Rattle.well_typed.specs.Nodes.{typed, row}
 use Rattle.well_typed.specs.Places as well
 use Rattle.well_typed.specs.Places.{InScope, Context, ty_of, form_of, is_place, is_borrow, is_by, may_move, may_move_by, is_guarded, is_own_binding, is_rooted, is_rooted_by, Taken, Wanted, Base, Used, Stored, Passed}
-use Rattle.well_typed.specs.Types.{fits, is_same, is_never, is_usize, is_kind, is_unit, is_reference, reference_of, reference_in, is_dyn, inside_of, inside_in, array_of, array_in, kind_of, kind_in}
+use Rattle.well_typed.specs.Types.{fits, is_same, is_never, is_usize, is_kind, is_reference, reference_of, reference_in, is_dyn, array_of, array_in, kind_in}
 use Rattle.well_typed.proofs.ClaimLemmas.{and_true, true_left, true_right}
 use Rattle.typing_rules.specs.Check.{Check, State, and_then}
-use Rattle.typing_rules.specs.Places.{unit, int, a_node_of, used, is_any, is_fixed, is_fixed_form, is_shared_root, is_shared_form, is_behind_shared, names_shared, in_own_guard, place_in_text}
-use Rattle.typing_rules.specs.Promises.{Extends, IsReady, IsKnown, AreReady, Grows, Fact, Gives, Spot, at_spot, Stands, Knows, IsValue, IsTemporary, IsBase, Sound, SoundBase, SoundTemporary}
-use Rattle.typing_rules.specs.Rows.{Typer, store, no_reference, own_in, element, used_if_place, borrow_by, Referrer, argument, argument_by}
+use Rattle.typing_rules.specs.Places.{unit, int, a_node_of, used, is_fixed, is_fixed_form, is_shared_root, is_shared_form, is_behind_shared, names_shared, in_own_guard, place_in_text}
+use Rattle.typing_rules.specs.Promises.{IsReady, IsKnown, AreReady, Grows, Gives, at_spot, Knows, IsBase, Sound, SoundBase, SoundTemporary}
+use Rattle.typing_rules.specs.RowPromises.{IsArgument, IsPlace, SoundReferrer}
+use Rattle.typing_rules.specs.Rows.{Typer, store, no_reference, own_in, element, Referrer, argument, argument_by}
 use Rattle.typing_rules.specs.Scope.{Env}
 use Rattle.typing_rules.proofs.Sound.Branches.{unit_is}
-use Rattle.typing_rules.proofs.Sound.Fitted.{Passed as Passes, fitted_gives, passed_ends, or_left, or_right, same_self}
-use Rattle.typing_rules.proofs.Sound.Gives.{◌⋆◌, bind, with_ready, given, obeyed, found, after_number, numbered, grows_trans, grows_refl, weaker, knows_later, knows_number}
-use Rattle.typing_rules.proofs.Sound.Later.{alone_ready, ready_later, in_later, same_in, same_known, same_is, same_reference, same_dyn, some_got, passes_by}
-use Rattle.typing_rules.proofs.Sound.Operators.{as_wanted, unit_ready, fits_test, int_at, or_cases, same_id}
-use Rattle.typing_rules.proofs.Sound.Places.{IsPlace, not_true, truth_of, or_false, if_holds, else_holds}
+use Rattle.typing_rules.proofs.Sound.Fitted.{fitted_gives, passed_ends, or_left, or_right, same_self}
+use Rattle.typing_rules.proofs.Sound.Gives.{◌⋆◌, bind, given, obeyed, found, after_number, numbered, grows_trans, grows_refl, weaker, knows_later, knows_number}
+use Rattle.typing_rules.proofs.Sound.Later.{alone_ready, in_later, same_known, same_reference, same_dyn, some_got}
+use Rattle.typing_rules.proofs.Sound.Operators.{as_wanted, unit_ready, int_at, or_cases, same_id}
+use Rattle.typing_rules.proofs.Sound.Places.{if_holds}
 
 -- a base that is no reference by itself
 pub record IsNamed (env : Env) (w : State) (n : Node) : Type 0 where
@@ -70,8 +70,10 @@ array_holds items base ty count h =
     subst (λ o. Holds (some o (λ (a : TyId × ℕ). fact (is_same ty a.0 && count == a.1)))) (sym h)
     (and_true _ _ (same_self ty.0) (same_self count))
 
-element_ready : (items : ItemTable) → AreReady items → (base ty : TyId) (count : ℕ) → array_of items base ≡ Some (ty,
-    count) → IsReady items ty
+element_ready : (items : ItemTable) → AreReady items → (base ty : TyId) (count : ℕ) → array_of items base ≡ Some (
+  ty,
+  count,
+) → IsReady items ty
 element_ready items all base ty count h =
     let known = some_got array_in (type_at items base) (ty, count) h in
     alone_ready items ty (all.held base ty known.0 known.1 (by known.0 known.2))
@@ -92,8 +94,11 @@ element_sound env at base index good_base good_index s k =
     record {
       base = record {
         ready = element_ready w.items (l.ready ready) (ty_of b) a.0 a.1 is;
-        holds = λ p stands. (refl, base_.holds p stands ⋆ (e w l).holds p stands ⋆ usize_fits w.items (l.ready ready)
-            (ty_of i) (e w l).fit ⋆ array_holds w.items (ty_of b) a.0 a.1 is);
+        holds = λ p stands. (
+          refl,
+          base_.holds p stands ⋆ (e w l).holds p stands ⋆ usize_fits w.items (l.ready ready)
+              (ty_of i) (e w l).fit ⋆ array_holds w.items (ty_of b) a.0 a.1 is,
+        );
         moves = λ p stands h. absurd (let no_ : IsTrue false = h in cc);
         is_fixed = λ v g. refl;
         is_shared = λ v g. base_.is_shared v g;
@@ -138,14 +143,14 @@ stored_so true b ha hb = hb
 stored_so false b ha hb = absurd (cc)
 
 stored_holds : (c : Context) (guards : List ℕ) (n : Node) → Holds (typed c Base n) → (IsTrue (not (is_fixed c.items
-    guards n)) → IsTrue (may_move c n)) → is_place (form_of n) ≡ true → IsTrue (not (own_in guards (form_of n))) → IsTrue
+    guards n)) → IsTrue (may_move c n)) → is_place (form_of n) ≡ true → IsTrue (not (own_in guards (form_of n))) →
+    IsTrue
     (not (is_reference c.items (ty_of n))) → IsTrue (not (is_dyn c.items (ty_of n))) → Holds (typed c Stored (used
     Use.Store n))
-stored_holds c guards (node id at ty by form) base moves is own reference dyn =
-    (
-      stored_so (is_place form) _ is reference ⋆ no_own c guards form moves own ⋆ dyn,
-      base.1,
-    )
+stored_holds c guards (node id at ty by form) base moves is own reference dyn = (
+  stored_so (is_place form) _ is reference ⋆ no_own c guards form moves own ⋆ dyn,
+  base.1,
+)
 
 pub used_ty : (by : Use) (n : Node) → ty_of (used by n) ≡ ty_of n
 used_ty by (node id at ty old form) = refl
@@ -163,15 +168,21 @@ store_sound env at place value good_place good_value want s k =
     let on = grows_trans i l in
     let now = d u h in
     let dn = d w (grows_trans h on) in
-    let ev = e w on in
-    (unit_ready w.items ready, λ q stands.
-    stored_holds (at_spot w.items env.answer q) (in_own_guard env.variables) p (dn.base.holds q stands) (dn.base.moves q
-    stands) (true_left (is_place (form_of p)) _ is) (true_right (is_place (form_of p)) _ is) dn.no_reference (subst (λ b.
-    IsTrue (not b)) (sym (same_dyn on.items (ty_of p) now.base.ready)) dyn) ⋆
-    subst (λ b. IsTrue (not b)) (sym (behind_same (at_spot w.items env.answer q) Use.Store p ∙ behind_later env u w p
-    now.base on)) shared ⋆
-    as_wanted (at_spot w.items env.answer q) (ty_of (used Use.Store p)) v (ev.holds q stands) (subst (λ t. IsTrue (fits
-    w.items t (ty_of v))) (sym (used_ty Use.Store p)) ev.fit) ⋆ unit_is w.items ready))
+    let ev = e w on in (
+      unit_ready w.items ready,
+      λ q stands.
+          stored_holds (at_spot w.items env.answer q) (in_own_guard env.variables) p (dn.base.holds q stands)
+          (dn.base.moves q
+          stands) (true_left (is_place (form_of p)) _ is) (true_right (is_place (form_of p)) _ is) dn.no_reference
+          (subst (λ b.
+          IsTrue (not b)) (sym (same_dyn on.items (ty_of p) now.base.ready)) dyn) ⋆
+          subst (λ b. IsTrue (not b)) (sym (behind_same (at_spot w.items env.answer q) Use.Store p ∙ behind_later env
+          u w p
+          now.base on)) shared ⋆
+          as_wanted (at_spot w.items env.answer q) (ty_of (used Use.Store p)) v (ev.holds q stands) (subst (λ t.
+          IsTrue (fits
+          w.items t (ty_of v))) (sym (used_ty Use.Store p)) ev.fit) ⋆ unit_is w.items ready,
+    ))
   where
     m : ℕ → Node → Node → Node
     m id p v = a_node_of id at unit (tree.Assign (used Use.Store p) v)
@@ -179,7 +190,8 @@ store_sound env at place value good_place good_value want s k =
 -- ---- arguments
 
 -- a value that is passed for a parameter: no reference, or of type `!`
-passed_value : (c : Context) (param : TyId) (n : Node) → IsTrue (not (is_reference c.items param)) → Holds (typed c Taken
+passed_value : (c : Context) (param : TyId) (n : Node) → IsTrue (not (is_reference c.items param)) → Holds (typed c
+    Taken
     n) → IsTrue (fits c.items param (ty_of n)) → Holds (typed c (Passed param) n)
 passed_value c param (node id at ty by form) no_reference h f =
     (else_by (is_reference c.items param) no_reference h.0 f, h.1)
@@ -191,21 +203,15 @@ passed_value c param (node id at ty by form) no_reference h f =
     else_by false no_ h f = (h, f)
 
 -- a borrow of what the reference names
-pub passed_borrow : (c : Context) (param : TyId) (id : ℕ) (at : Pos) (unique : Bool) (base : Node) → IsTrue (is_reference
+pub passed_borrow : (c : Context) (param : TyId) (id : ℕ) (at : Pos) (unique : Bool) (base : Node) → IsTrue
+    (is_reference
     c.items param) → Holds (row c id param (tree.Borrow unique base)) → IsTrue (not (is_never c.items param)) → Holds
     (typed c (Passed param) (a_node_of id at param (tree.Borrow unique base)))
-passed_borrow c param id at unique base is h no_never =
-    (if_holds (is_reference c.items param && not (is_never c.items param)) (fact (is_same param param)) _ (and_true
-    (is_reference c.items param) (not (is_never c.items param)) is no_never) (same_self param.0), h)
-
--- an argument for a parameter of a type
-pub record IsArgument (env : Env) (param : TyId) (w : State) (n : Node) : Type 0 where
-  pub holds : (p : Spot) → Stands env w p → Holds (typed (at_spot w.items env.answer p) (Passed param) n)
-
--- what is passed by reference, where the parameter is a reference
-abbrev pub SoundReferrer : Env → Referrer → Type 0
-SoundReferrer env by_reference = (param to : TyId) (unique : Bool) (s : State) → Knows env s → reference_of s.items param
-    ≡ Some (unique, to) → Gives s (IsArgument env param) (by_reference param unique to s)
+passed_borrow c param id at unique base is h no_never = (
+  if_holds (is_reference c.items param && not (is_never c.items param)) (fact (is_same param param)) _ (and_true
+      (is_reference c.items param) (not (is_never c.items param)) is no_never) (same_self param.0),
+  h,
+)
 
 pub argument_sound : (env : Env) (param : TyId) (by_value : Typer) (by_reference : Referrer) → Sound env by_value →
     SoundReferrer env by_reference → (s : State) → Knows env s → IsKnown s.items param → Gives s (IsArgument env param)
@@ -220,7 +226,8 @@ argument_sound env param by_value by_reference good_value good_reference s k rea
         record {
           holds = λ p stands.
               passed_value (at_spot w.items env.answer p) param n
-              (subst (λ b. IsTrue (not b)) (sym (ap is_some (same_known g.items reference_in param ready) ∙ ap is_some is)) refl)
+              (subst (λ b. IsTrue (not b)) (sym (ap is_some (same_known g.items reference_in param ready) ∙ ap is_some
+              is)) refl)
               (v.holds p stands) v.fit;
         }
     by (Some r) is = good_reference param r.1 r.0 s k is

@@ -1,6 +1,5 @@
 -- Branches, and jumps that carry nothing.
-use Rattle.std.proofs.Common.{◌≡◌, ℕ, suc, Bool, true, false, ◌&&◌, ◌||◌, ◌==◌, not, if◌then◌else◌, List, [], ◌∷◌, Option, Some, None, IsTrue, ◌⊎◌, inl, inr, refl, ap, sym, subst, ◌∙◌}
-use Rattle.std.specs.Prelude.{option_and_then, is_some}
+use Rattle.std.proofs.Common.{◌≡◌, true, false, ◌&&◌, ◌||◌, [], ◌∷◌, Some, IsTrue, ◌⊎◌, inl, inr, refl}
 use Rattle.mir_base.specs.declared.place_in_text.Pos.{Pos}
 use Rattle.mir_base.specs.declared.rule.Rule.{Rule}
 use Rattle.mir_ty.specs.declared.ty.Ty.{Ty}
@@ -12,12 +11,12 @@ use Rattle.well_typed.specs.Nodes.{fits_unit, fits_bool}
 use Rattle.well_typed.specs.Places.{ty_of}
 use Rattle.well_typed.specs.Types.{fits, is_same, is_unit, is_unit_ty, is_bool_ty, is_never, is_common}
 use Rattle.well_typed.proofs.ClaimLemmas.{and_true}
-use Rattle.typing_rules.specs.Check.{Check, State}
-use Rattle.typing_rules.specs.Places.{unit, bool, never}
-use Rattle.typing_rules.specs.Promises.{Extends, IsReady, AreReady, Grows, Fact, Gives, Knows, IsValue, IsTemporary, Sound, SoundTemporary}
-use Rattle.typing_rules.specs.Rows.{Typer, settled, condition, if_alone, if_else, one_of_two}
+use Rattle.typing_rules.specs.Check.{State}
+use Rattle.typing_rules.specs.Places.{unit, bool}
+use Rattle.typing_rules.specs.Promises.{Extends, AreReady, Fact, Knows, IsTemporary, Sound, SoundTemporary}
+use Rattle.typing_rules.specs.Rows.{Typer, if_alone, if_else, one_of_two}
 use Rattle.typing_rules.specs.Scope.{Env}
-use Rattle.typing_rules.proofs.Sound.Fitted.{settled_ends, or_left, or_right, same_self}
+use Rattle.typing_rules.proofs.Sound.Fitted.{settled_ends, or_left, or_right}
 use Rattle.typing_rules.proofs.Sound.Gives.{◌⋆◌, bind, found, after_number, numbered, grows_trans, knows_later, knows_number}
 use Rattle.typing_rules.proofs.Sound.Later.{passes_by, fits_later}
 use Rattle.typing_rules.proofs.Sound.Operators.{unit_ready, fits_test, bool_is, is_one, either_ready, or_cases}
@@ -40,10 +39,13 @@ if_alone_sound env at c body good_c good_body want s k =
     bind (good_body (Some unit) t (knows_later env g (knows_number env k))) λ b u h
     e.
     settled_ends env want u s.next_node at unit (tree.If n b absent) refl (λ w p. refl) λ w ready f.
-    let dn = d w (grows_trans h f) in let eb = e w f in
-    (unit_ready w.items ready, λ p stands.
-    dn.holds p stands ⋆ bool_fits w.items ready (ty_of n) dn.fit ⋆ eb.holds p stands ⋆ unit_fits w.items ready (ty_of
-    b) eb.fit ⋆ unit_is w.items ready))
+    let dn = d w (grows_trans h f) in let eb = e w f in (
+      unit_ready w.items ready,
+      λ p stands.
+          dn.holds p stands ⋆ bool_fits w.items ready (ty_of n) dn.fit ⋆ eb.holds p stands ⋆ unit_fits w.items ready
+          (ty_of
+          b) eb.fit ⋆ unit_is w.items ready,
+    ))
   where
     s' : State
     s' = numbered s
@@ -73,10 +75,13 @@ if_else_sound env at c body otherwise good_c good_body good_otherwise want s k =
     bind (good_otherwise want u (knows_later env (grows_trans g h) k')) λ o v i f.
     found Rule.T03 at (one_of_two v.items (ty_of b) (ty_of o)) _ λ ty one.
     settled_ends env want v s.next_node at ty (tree.If n b (present o)) refl (λ w p. refl) λ w ready l.
-    let dn = d w (grows_trans h (grows_trans i l)) in let eb = e w (grows_trans i l) in let fo = f w l in
-    (either_ready v.items w.items (ty_of b) (ty_of o) ty one eb.alone fo.alone, λ p stands.
-    dn.holds p stands ⋆ bool_fits w.items ready (ty_of n) dn.fit ⋆ eb.holds p stands ⋆ fo.holds p stands ⋆ common_of
-    l.items (ty_of b) (ty_of o) ty one))
+    let dn = d w (grows_trans h (grows_trans i l)) in let eb = e w (grows_trans i l) in let fo = f w l in (
+      either_ready v.items w.items (ty_of b) (ty_of o) ty one eb.alone fo.alone,
+      λ p stands.
+          dn.holds p stands ⋆ bool_fits w.items ready (ty_of n) dn.fit ⋆ eb.holds p stands ⋆ fo.holds p stands ⋆
+          common_of
+          l.items (ty_of b) (ty_of o) ty one,
+    ))
   where
     s' : State
     s' = numbered s

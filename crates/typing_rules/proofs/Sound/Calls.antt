@@ -1,43 +1,39 @@
 -- Leaves, calls and what is built in.
-use Rattle.std.proofs.Common.{◌≡◌, ℕ, zero, suc, Bool, true, false, ◌&&◌, ◌||◌, ◌==◌, not, if◌then◌else◌, List, [], ◌∷◌, length, slice_get, Option, Some, None, IsTrue, Contains, ◌⊎◌, inl, inr, refl, ap, sym, subst, ◌∙◌, arith}
+use Rattle.std.proofs.Common.{◌≡◌, ℕ, zero, suc, Bool, true, false, ◌&&◌, ◌||◌, ◌==◌, not, if◌then◌else◌, List, [], ◌∷◌, length, Option, IsTrue, Contains, ◌⊎◌, inl, inr, refl, ap, sym, subst, ◌∙◌, arith}
 use Rattle.std.specs.Prelude.{option_and_then, is_some, is_none}
-use Rattle.std.specs.List.{list_any}
 use Rattle.std.specs.Option.{option_map_or}
-use Rattle.std.proofs.lemmas.Bool.{eqb-true, false≢true, true≢false}
-use Rattle.std.proofs.lemmas.Option.{none-some, same_Some}
+use Rattle.std.proofs.lemmas.Bool.{eqb-true, true≢false}
 use Rattle.mir_base.specs.declared.int_kind.IntKind.{IntKind}
 use Rattle.mir_base.specs.declared.place_in_text.Pos.{Pos}
 use Rattle.mir_base.specs.declared.rule.Rule.{Rule}
-use Rattle.mir_ty.specs.declared.def.Sig.{Sig}
 use Rattle.mir_ty.specs.declared.ty.Ty.{Ty}
 use Rattle.mir_ty.specs.declared.ty.TyId.{TyId}
-use Rattle.mir_ty.specs.ItemTable.{ItemTable, type_at}
+use Rattle.mir_ty.specs.ItemTable.{ItemTable}
 use Rattle.typed_tree.specs.Tree as tree
 use Rattle.typed_tree.specs.Tree.{Node, node, Form, Nodes, no_node, a_node}
-use Rattle.well_typed.specs.Claim.{Claim, Holds, some, fact, both}
-use Rattle.well_typed.specs.Nodes.{typed, row, arguments, is_leaf, is_closure_body, is_drop_body}
+use Rattle.well_typed.specs.Claim.{Holds, fact, both}
+use Rattle.well_typed.specs.Nodes.{typed, row, arguments, is_leaf}
 use Rattle.well_typed.specs.Patterns.{count_of}
 use Rattle.well_typed.specs.Places as well
 use Rattle.well_typed.specs.Places.{Context, ty_of, form_of, is_place, is_borrow, Taken, Wanted, Passed}
-use Rattle.well_typed.specs.Types.{fits, is_same, is_never, is_i32, is_kind, is_unit, is_bool, is_reference, reference_of, reference_in, kind_of, kind_in}
-use Rattle.well_typed.proofs.ClaimLemmas.{and_true, true_left, true_right}
+use Rattle.well_typed.specs.Types.{fits, is_same, is_never, is_i32, is_kind, is_reference, reference_in, kind_in}
 use Rattle.typing_rules.specs.Check.{Check, State}
 use Rattle.typing_rules.specs.Places.{unit, bool, never, int, a_node_of}
-use Rattle.typing_rules.specs.Promises.{Extends, IsAlone, IsKnown, AreReady, Grows, Fact, Gives, Spot, at_spot, Stands, Knows, IsValue, IsTemporary, Sound, SoundTemporary}
-use Rattle.typing_rules.specs.Rows.{Typer, leaf, call, built_in, print_form, drop_form, forget_form, ask_form, with_one}
+use Rattle.typing_rules.specs.Promises.{IsAlone, IsKnown, AreReady, Grows, Gives, Spot, at_spot, Stands, Knows, IsTemporary, SoundTemporary}
+use Rattle.typing_rules.specs.RowPromises.{AreGiven, SoundArgs}
+use Rattle.typing_rules.specs.Rows.{leaf, call, built_in, print_form, drop_form, forget_form, with_one}
 use Rattle.typing_rules.specs.Scope.{Env}
-use Rattle.typing_rules.proofs.Sound.Arguments.{IsArgument}
 use Rattle.typing_rules.proofs.Sound.Branches.{unit_is}
-use Rattle.typing_rules.proofs.Sound.Fitted.{Is, IsPlain, Passed as Passes, fitted_gives, leaf_ends, passed_ends, or_left, or_right, same_self}
-use Rattle.typing_rules.proofs.Sound.Gives.{◌⋆◌, bind, with_ready, given, obeyed, found, after_number, numbered, grows_trans, grows_refl, knows_later, knows_number, grows_number}
-use Rattle.typing_rules.proofs.Sound.Later.{alone_later, in_later, same_known, some_got, passes_by}
-use Rattle.typing_rules.proofs.Sound.Operators.{unit_ready, bool_ready, never_ready, int_ready, int_at, bool_is, never_is, or_cases, same_id}
-use Rattle.typing_rules.proofs.Sound.Places.{if_holds, else_holds}
+use Rattle.typing_rules.proofs.Sound.Fitted.{Is, IsPlain, fitted_gives, leaf_ends, passed_ends, or_left, or_right}
+use Rattle.typing_rules.proofs.Sound.Gives.{◌⋆◌, bind, with_ready, obeyed, after_number, numbered, grows_trans, knows_number, grows_number}
+use Rattle.typing_rules.proofs.Sound.Later.{alone_later}
+use Rattle.typing_rules.proofs.Sound.Operators.{unit_ready, bool_ready, never_ready, int_at, bool_is, never_is, or_cases, same_id}
 
 -- ---- leaves
 
 -- a leaf of a type of which the table says what the form asks
-pub leaf_sound : (env : Env) (at : Pos) (ty : TyId) (form : Form) → IsTrue (is_leaf form) → is_place form ≡ false → ((w :
+pub leaf_sound : (env : Env) (at : Pos) (ty : TyId) (form : Form) → IsTrue (is_leaf form) → is_place form ≡ false →
+    ((w :
     State) → IsPlain env w ty form) → ((w : State) (id : ℕ) → AreReady w.items → IsAlone w.items ty × Is env w id ty
     form) → SoundTemporary env (leaf at ty form)
 leaf_sound env at ty form a b c so want s k =
@@ -60,21 +56,6 @@ panic_sound env at =
 
 -- ---- arguments
 
--- arguments for parameters, and values past them
-abbrev pub AreGiven : Env → List TyId → State → Nodes → Type 0
-AreGiven env tys w no_node = Unit {0}
-AreGiven env [] w (a_node first rest) = IsValue env None w first × AreGiven env [] w rest
-AreGiven env (ty ∷ tys) w (a_node first rest) = IsArgument env ty w first × AreGiven env tys w rest
-
-pub record IsGiven (env : Env) (params : List TyId) (count : ℕ) (w : State) (ns : Nodes) : Type 0 where
-  pub are : AreGiven env params w ns
-  pub counted : count_of ns ≡ count
-
--- the checks of so many arguments
-abbrev pub SoundArgs : Env → ℕ → (List TyId → Check Nodes) → Type 0
-SoundArgs env count args = (params : List TyId) (s : State) → Knows env s → ((ty : TyId) → Contains params ty → IsKnown
-    s.items ty) → Gives s (IsGiven env params count) (args params s)
-
 pub arguments_hold : (env : Env) (w : State) (p : Spot) → Stands env w p → (params : List TyId) (ns : Nodes) → AreGiven
     env params w ns → count_of ns ≡ length params → Holds (arguments (at_spot w.items env.answer p) params ns)
 arguments_hold env w p stands [] no_node are e = refl
@@ -88,7 +69,8 @@ pub call_sound : (env : Env) (at : Pos) (form : Nodes → Form) (answer : TyId) 
     List TyId → Check Nodes) (may_be_called : Bool) → ((ns : Nodes) → IsTrue (is_leaf (form ns))) → ((ns : Nodes) →
     is_place (form ns) ≡ false) → ((w : State) (ns : Nodes) → IsPlain env w answer (form ns)) → SoundArgs env count args
     → (s₀ : State) → IsAlone s₀.items answer → ((ty : TyId) → Contains params ty → IsKnown s₀.items ty) → (IsTrue
-    may_be_called → (w : State) (id : ℕ) (ns : Nodes) (p : Spot) → AreReady w.items → Grows s₀ w → Stands env w p → Holds
+    may_be_called → (w : State) (id : ℕ) (ns : Nodes) (p : Spot) → AreReady w.items → Grows s₀ w → Stands env w p →
+    Holds
     (arguments (at_spot w.items env.answer p) params ns) → Holds (row (at_spot w.items env.answer p) id answer (form
     ns))) → (want : Option TyId) → Knows env s₀ → Gives s₀ (IsTemporary env want) (call at form answer count params args
     may_be_called want s₀)
@@ -99,13 +81,17 @@ call_sound env at form answer count params args may_be_called a b c good s ready
     obeyed Rule.T13 at may_be_called _ λ may.
     passed_ends env want u s.next_node at answer (form ns) n (b ns) (λ w. c w ns) e λ w all l.
     let on = grows_trans (grows_trans (grows_number s) g) (grows_trans h l) in
-    let given_ = d w (grows_trans h l) in
-    (alone_later on.items answer ready, λ p stands. so may w s.next_node ns p all on stands
-    (arguments_hold env w p stands params ns given_.are (given_.counted ∙ eqb-true count (length params) counted))))
+    let given_ = d w (grows_trans h l) in (
+      alone_later on.items answer ready,
+      λ p stands. so may w s.next_node ns p all on stands
+          (arguments_hold env w p stands params ns given_.are (given_.counted ∙ eqb-true count (length params)
+          counted)),
+    ))
 
 -- ---- what is built in
 
-pub from_passed : (c : Context) (param : TyId) (n : Node) → is_reference c.items param ≡ false → Holds (typed c (Passed param)
+pub from_passed : (c : Context) (param : TyId) (n : Node) → is_reference c.items param ≡ false → Holds (typed c
+    (Passed param)
     n) → Holds (typed c Taken n) × IsTrue (fits c.items param (ty_of n))
 from_passed c param (node id at ty by form) e h =
     let so = else_by (is_reference c.items param) e h.0 in ((so.0, h.1), so.1)
@@ -126,35 +112,43 @@ with_one_place : (form : Node → Form) → ((n : Node) → is_place (form n) �
 with_one_place form a no_node = refl
 with_one_place form a (a_node first rest) = a first
 
-with_one_plain : (env : Env) (w : State) (ty : TyId) (form : Node → Form) → ((n : Node) → IsPlain env w ty (form n)) → (ns
+with_one_plain : (env : Env) (w : State) (ty : TyId) (form : Node → Form) → ((n : Node) → IsPlain env w ty (form n)) →
+    (ns
     : Nodes) → IsPlain env w ty (with_one ns form)
 with_one_plain env w ty form a no_node p = refl
 with_one_plain env w ty form a (a_node first rest) p = a first p
 
-built_in_sound : (env : Env) (at : Pos) (answer : TyId) (form : Node → Form) (count : ℕ) (params : List TyId) (args : List
+built_in_sound : (env : Env) (at : Pos) (answer : TyId) (form : Node → Form) (count : ℕ) (params : List TyId) (args :
+    List
     TyId → Check Nodes) → ((n : Node) → IsTrue (is_leaf (form n))) → ((n : Node) → is_place (form n) ≡ false) → ((w :
-    State) (n : Node) → IsPlain env w answer (form n)) → SoundArgs env count args → ((s : State) → AreReady s.items → (ty
-    : TyId) → Contains params ty → IsKnown s.items ty) → ((w : State) (id : ℕ) (n : Node) (p : Spot) → AreReady w.items →
+    State) (n : Node) → IsPlain env w answer (form n)) → SoundArgs env count args → ((s : State) → AreReady s.items →
+    (ty
+    : TyId) → Contains params ty → IsKnown s.items ty) → ((w : State) (id : ℕ) (n : Node) (p : Spot) → AreReady
+    w.items →
     Stands env w p → AreGiven env params w (a_node n no_node) → IsAlone w.items answer × Holds (row (at_spot w.items
     env.answer p) id answer (form n))) → ((w : State) → AreReady w.items → IsAlone w.items answer) → SoundTemporary env
     (built_in at answer (λ ns. with_one ns form) count 1 (args params))
 built_in_sound env at answer form count params args a b c good known so ready want s k =
     with_ready λ all₀. after_number (bind (good params (numbered s) (knows_number env k) (known s all₀)) λ ns t g d.
-    bind (fitted_gives env want (a_node_of s.next_node at answer (with_one ns form)) t (with_one_leaf form a ns)) λ n u h
+    bind (fitted_gives env want (a_node_of s.next_node at answer (with_one ns form)) t (with_one_leaf form a ns)) λ n
+    u h
     e.
     obeyed Rule.T04 at (count == 1) _ λ counted.
-    passed_ends env want u s.next_node at answer (with_one ns form) n (with_one_place form b ns) (λ w. with_one_plain env w
+    passed_ends env want u s.next_node at answer (with_one ns form) n (with_one_place form b ns) (λ w. with_one_plain
+    env w
     answer form (c w) ns) e λ w all l.
     let given_ = d w (grows_trans h l) in
     (ready w all, λ p stands. by w p all stands ns given_.are (given_.counted ∙ eqb-true count 1 counted)))
   where
-    by : (w : State) (p : Spot) → AreReady w.items → Stands env w p → (ns : Nodes) → AreGiven env params w ns → count_of ns
+    by : (w : State) (p : Spot) → AreReady w.items → Stands env w p → (ns : Nodes) → AreGiven env params w ns →
+        count_of ns
         ≡ 1 → Holds (row (at_spot w.items env.answer p) s.next_node answer (with_one ns form))
     by w p all stands no_node are e = absurd (omega (arith, e))
     by w p all stands (a_node n no_node) are e = (so w s.next_node n p all stands are).1
     by w p all stands (a_node n (a_node m ns)) are e = absurd (omega (arith, e))
 
-i32_fits : (items : ItemTable) → AreReady items → (ty : TyId) → IsTrue (fits items (int IntKind.I32) ty) → IsTrue (is_i32
+i32_fits : (items : ItemTable) → AreReady items → (ty : TyId) → IsTrue (fits items (int IntKind.I32) ty) → IsTrue
+    (is_i32
     items ty || is_never items ty)
 i32_fits items ready ty h = by (or_cases (is_same ty (int IntKind.I32)) (is_never items ty) h)
   where
@@ -180,7 +174,8 @@ print_sound env at count args good =
     built_in_sound env at unit tree.Print count (int IntKind.I32 ∷ []) args (λ n. refl) (λ n. refl) (λ w n p. refl) good
     (λ s all. one_known s.items (int IntKind.I32) (Ty.Int IntKind.I32, int_at s.items all IntKind.I32))
     (λ w id n p all stands are.
-    let so = from_passed (at_spot w.items env.answer p) (int IntKind.I32) n (ap is_some (ap (option_and_then reference_in)
+    let so = from_passed (at_spot w.items env.answer p) (int IntKind.I32) n (ap is_some (ap (option_and_then
+    reference_in)
     (int_at w.items all IntKind.I32))) (are.0.holds p stands) in
     (unit_ready w.items all, so.0 ⋆ i32_fits w.items all (ty_of n) so.1 ⋆ unit_is w.items all))
     (λ w all. unit_ready w.items all)
@@ -189,12 +184,18 @@ pub drop_sound : (env : Env) (at : Pos) (count : ℕ) (args : List TyId → Chec
     SoundTemporary env (built_in at unit drop_form count 1 (args []))
 drop_sound env at count args good =
     built_in_sound env at unit tree.DropValue count [] args (λ n. refl) (λ n. refl) (λ w n p. refl) good
-    (λ s all. none_known s.items) (λ w id n p all stands are. (unit_ready w.items all, are.0.holds p stands ⋆ unit_is
-    w.items all)) (λ w all. unit_ready w.items all)
+    (λ s all. none_known s.items) (λ w id n p all stands are. (
+      unit_ready w.items all,
+      are.0.holds p stands ⋆ unit_is
+          w.items all,
+    )) (λ w all. unit_ready w.items all)
 
 pub forget_sound : (env : Env) (at : Pos) (count : ℕ) (args : List TyId → Check Nodes) → SoundArgs env count args →
     SoundTemporary env (built_in at unit forget_form count 1 (args []))
 forget_sound env at count args good =
     built_in_sound env at unit tree.Forget count [] args (λ n. refl) (λ n. refl) (λ w n p. refl) good
-    (λ s all. none_known s.items) (λ w id n p all stands are. (unit_ready w.items all, are.0.holds p stands ⋆ unit_is
-    w.items all)) (λ w all. unit_ready w.items all)
+    (λ s all. none_known s.items) (λ w id n p all stands are. (
+      unit_ready w.items all,
+      are.0.holds p stands ⋆ unit_is
+          w.items all,
+    )) (λ w all. unit_ready w.items all)

@@ -1,8 +1,7 @@
 -- What passes its required type: a leaf, which may be coerced, and what has passed its required type on.
-use Rattle.std.proofs.Common.{◌≡◌, ℕ, suc, Bool, true, false, ◌&&◌, ◌||◌, ◌==◌, not, if◌then◌else◌, List, [], ◌∷◌, Option, Some, None, Ok, IsTrue, refl, ap, sym, subst, ◌∙◌, arith}
-use Rattle.std.specs.Prelude.{option_and_then, is_none}
+use Rattle.std.proofs.Common.{◌≡◌, ℕ, Bool, true, false, ◌&&◌, ◌||◌, ◌==◌, if◌then◌else◌, Option, Some, None, Ok, IsTrue, refl, ap, sym, subst, ◌∙◌, arith}
+use Rattle.std.specs.Prelude.{option_and_then}
 use Rattle.std.specs.List.{list_any}
-use Rattle.std.specs.Option.{option_map_or}
 use Rattle.std.proofs.lemmas.Grind.{common_steps}
 use Rattle.std.proofs.lemmas.Option.{none-some}
 use Rattle.mir_base.specs.declared.place_in_text.Pos.{Pos}
@@ -10,20 +9,19 @@ use Rattle.mir_base.specs.declared.rule.Rule.{Rule}
 use Rattle.mir_ty.specs.declared.ty.Ty.{Ty}
 use Rattle.mir_ty.specs.declared.ty.TyId.{TyId}
 use Rattle.mir_ty.specs.ItemTable.{ItemTable, type_at}
-use Rattle.typed_tree.specs.declared.node.Use.{Use}
 use Rattle.typed_tree.specs.Tree as tree
 use Rattle.typed_tree.specs.Tree.{Node, node, Form}
 use Rattle.well_typed.specs.Claim.{Holds}
-use Rattle.well_typed.specs.Nodes.{typed, row, is_leaf, box_implements}
-use Rattle.well_typed.specs.Places.{ty_of, form_of, is_place, is_borrow, is_taken, Taken}
-use Rattle.well_typed.specs.Types.{fits, is_same, adt_of, adt_in, boxed_of, boxed_in, trait_of, dyn_in, implements}
+use Rattle.well_typed.specs.Nodes.{row, is_leaf, box_implements}
+use Rattle.well_typed.specs.Places.{ty_of, form_of, is_place, is_taken}
+use Rattle.well_typed.specs.Types.{fits, adt_of, adt_in, boxed_of, boxed_in, trait_of, dyn_in, implements}
 use Rattle.well_typed.proofs.ClaimLemmas.{and_true}
-use Rattle.typing_rules.specs.Check.{Check, State, obeys}
+use Rattle.typing_rules.specs.Check.{State}
 use Rattle.typing_rules.specs.Places.{Fit, Fits, Coerced, Differs, fit, coerced, agrees, place_in_text, a_node_of}
 use Rattle.typing_rules.specs.Promises.{Extends, IsAlone, IsValueType, AreReady, Grows, Fact, Gives, Spot, at_spot, Stands, IsValue, IsTemporary}
-use Rattle.typing_rules.specs.Rows.{fitted, fitted_by, settled, unsized}
+use Rattle.typing_rules.specs.Rows.{fitted, fitted_by, settled}
 use Rattle.typing_rules.specs.Scope.{Env}
-use Rattle.typing_rules.proofs.Sound.Gives.{◌⋆◌, given, after_number, numbered, obeyed, weaker, grows_refl, gives_nothing}
+use Rattle.typing_rules.proofs.Sound.Gives.{◌⋆◌, given, after_number, obeyed, weaker, gives_nothing}
 use Rattle.typing_rules.proofs.Sound.Later.{some_got, passes_by, in_later, agrees_later, alone_later}
 
 pub same_self : (n : ℕ) → IsTrue (n == n)
@@ -121,8 +119,7 @@ fitted_so env want n s _ (it_fits fit_) leaf =
     (record { alone = v.alone; fit = agrees_later g.items (Some want) (ty_of n) fit_; holds = v.holds }, λ h. h)
 fitted_so env want n s _ (is_coerced {trait_no} adt to from has) leaf =
     after_number (given (a_node_of s.next_node (place_in_text n) want (tree.Unsize trait_no n)) λ ready w g v.
-    let box = some_got (trait_of s.items) (boxed_of s.items want) trait_no to in
-    (
+    let box = some_got (trait_of s.items) (boxed_of s.items want) trait_no to in (
       record {
         alone = alone_later g.items want (boxed_alone s.items want box.0 box.1);
         fit = fits_self w.items want;
@@ -156,7 +153,8 @@ leaf_ends env want t id at ty form leaf placeless plain is =
     weaker (IsTemporary env want) (fitted_gives env want n t leaf)
     λ m w ready g passed.
     let so = is w ready g in
-    let v : IsValue env None w n = record { alone = so.0; fit = refl; holds = λ p stands. (plain w p, so.1 p stands) } in
+    let v : IsValue env None w n = record { alone = so.0; fit = refl; holds = λ p stands. (plain w p, so.1 p stands) }
+    in
     record { value = (passed v).0; is_no_place = (passed v).1 placeless }
   where
     n : Node

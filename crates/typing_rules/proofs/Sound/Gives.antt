@@ -1,12 +1,10 @@
 -- Rules for what a check gives, one a step of a row.
-use Rattle.std.proofs.Common.{◌≡◌, ℕ, suc, ◌≤◌, Bool, true, false, List, [], ◌∷◌, ◌++◌, length, Option, Some, None, Result, Ok, Err, IsTrue, Contains, slice_get, ◌⊎◌, inl, inr, refl, ap, sym, subst, ◌∙◌, arith}
-use Rattle.std.specs.List.{position as position_of}
+use Rattle.std.proofs.Common.{◌≡◌, ℕ, suc, ◌≤◌, Bool, true, false, Option, Some, None, Result, Ok, Err, IsTrue, refl, arith}
 use Rattle.mir_base.specs.declared.place_in_text.Pos.{Pos}
 use Rattle.mir_base.specs.declared.rule.Rule.{Rule}
-use Rattle.mir_ty.specs.ItemTable.{ItemTable}
-use Rattle.typing_rules.specs.Check.{Check, State, Broken, and_then, pure, obeys, known, the_items, number, breaks}
-use Rattle.typing_rules.specs.Promises.{Extends, AreReady, Grows, Then, Fact, Given, Gives, Knows, IsBelow, IsReady}
-use Rattle.typing_rules.specs.Scope.{Env, Entry, Around, Meaning, Local, Capture, InGuard}
+use Rattle.typing_rules.specs.Check.{Check, State, Broken, and_then, obeys, known, breaks}
+use Rattle.typing_rules.specs.Promises.{AreReady, Grows, Then, Fact, Gives, Knows, IsBelow}
+use Rattle.typing_rules.specs.Scope.{Env, Meaning, Local, Capture, InGuard}
 use Rattle.typing_rules.proofs.Sound.Later.{extends_refl, extends_trans, ready_later}
 
 -- parts of a claim, one after another
@@ -36,7 +34,7 @@ pub weaker : {A : Type 0} {s : State} {Q : Fact A} (R : Fact A) {r : Result (A �
 weaker {s = s} {Q = Q} R {r} h k =
     record {
       so = λ ready. then_map r (h.so ready) λ a t g.
-      (g.0, λ w l. k a w ((grows_trans g.0 l).ready ready) (grows_trans g.0 l) (g.1 w l));
+          (g.0, λ w l. k a w ((grows_trans g.0 l).ready ready) (grows_trans g.0 l) (g.1 w l));
     }
 
 -- what is known of the items so far may be used
@@ -51,7 +49,7 @@ pub bind : {A B : Type 0} {s : State} {Q : Fact A} {R : Fact B} {r : Result (A �
 bind {r = Ok a} {f = f} h k =
     record {
       so = λ ready. let g = h.so ready in
-      then_map (f a.0 a.1) ((k a.0 a.1 g.0 g.1).so (g.0.ready ready)) (λ b u d. (grows_trans g.0 d.0, d.1));
+          then_map (f a.0 a.1) ((k a.0 a.1 g.0 g.1).so (g.0.ready ready)) (λ b u d. (grows_trans g.0 d.0, d.1));
     }
 bind {r = Err e} h k = record { so = λ ready. tt }
 

@@ -1,24 +1,24 @@
 -- Types that get a number.
-use Rattle.std.proofs.Common.{◌≡◌, ℕ, zero, suc, ◌+◌, ◌<◌, Bool, true, false, ◌&&◌, ◌||◌, ◌==◌, not, if◌then◌else◌, List, [], ◌∷◌, ◌++◌, length, slice_get, Option, Some, None, IsTrue, Contains, ◌⊎◌, inl, inr, refl, ap, sym, subst, ◌∙◌, arith, nat_lt}
+use Rattle.std.proofs.Common.{◌≡◌, ℕ, zero, suc, ◌+◌, ◌<◌, Bool, true, false, ◌==◌, not, if◌then◌else◌, List, [], ◌∷◌, ◌++◌, length, slice_get, Option, Some, None, IsTrue, Contains, ◌⊎◌, inl, inr, refl, ap, sym, subst, ◌∙◌, arith, nat_lt}
 use Rattle.std.specs.Prelude.{option_and_then}
 use Rattle.std.specs.List.{position as position_of, position_or_len}
-use Rattle.std.proofs.lemmas.Bool.{eqb-true, false≢true, true≢false, ltb-true, lt-ltb}
+use Rattle.std.proofs.lemmas.Bool.{eqb-true, false≢true, lt-ltb}
 use Rattle.std.proofs.lemmas.List.Quantifiers.{position-Some}
-use Rattle.std.proofs.lemmas.Option.{none-some, same_Some, slice_get-get_or, slice_get_within}
+use Rattle.std.proofs.lemmas.Option.{none-some, same_Some, slice_get-get_or}
 use Rattle.mir_base.specs.declared.int_kind.IntKind.{IntKind}
 use Rattle.mir_ty.specs.declared.ty.Ty.{Ty}
 use Rattle.mir_ty.specs.declared.ty.TyId.{TyId}
-use Rattle.mir_ty.specs.AreItems.{AreDistinct}
 use Rattle.mir_ty.specs.ItemTable.{ItemTable, type_at, with_type}
-use Rattle.mir_ty.specs.Parts.{held_by, parts_of, field_ty}
+use Rattle.mir_ty.specs.Parts.{held_by, parts_of}
 use Rattle.mir_ty.proofs.ListLemmas.{slice_get-append_left, slice_get-last, slice_get-push_cases}
 use Rattle.well_typed.specs.Items.{is_equal}
-use Rattle.well_typed.specs.Types.{is_same, are_same, inside_of, inside_in, is_reference}
+use Rattle.well_typed.specs.Types.{is_same, are_same, inside_in, is_reference}
 use Rattle.well_typed.proofs.ClaimLemmas.{true_left, true_right}
 use Rattle.well_typed.proofs.ItemLemmas.{equal_self}
-use Rattle.typing_rules.specs.Check.{Check, State, interned, interned_at, ty_no}
-use Rattle.typing_rules.specs.Promises.{Extends, IsReady, IsAlone, AreReady, Grows, Fact, Given, Gives}
-use Rattle.typing_rules.proofs.Sound.Gives.{given, with_ready, grows_refl}
+use Rattle.typing_rules.specs.Check.{State, interned, interned_at, ty_no}
+use Rattle.typing_rules.specs.Promises.{Extends, IsReady, IsAlone, AreReady, Gives}
+use Rattle.typing_rules.specs.RowPromises.{IsMade}
+use Rattle.typing_rules.proofs.Sound.Gives.{given}
 use Rattle.typing_rules.proofs.Sound.Later.{some_got, type_later, ready_later, alone_later, known_later, same_reference}
 use Rattle.typing_rules.proofs.Sound.Operators.{same_id}
 
@@ -52,7 +52,8 @@ equal_is Ty.Never Ty.Never = λ h. refl
 equal_is (Ty.Adt a) (Ty.Adt b) = λ h. ap Ty.Adt (same_number a b h)
 equal_is (Ty.Tuple as_) (Ty.Tuple bs) = λ h. ap Ty.Tuple (same_ids as_ bs h)
 equal_is (Ty.Array a n) (Ty.Array b m) =
-    λ h. λ i. Ty.Array (same_id a b (true_left (is_same a b) (n == m) h) i) (same_number n m (true_right (is_same a b) (n
+    λ h. λ i. Ty.Array (same_id a b (true_left (is_same a b) (n == m) h) i) (same_number n m (true_right (is_same a b)
+    (n
     == m) h) i)
 equal_is (Ty.Boxed a) (Ty.Boxed b) = λ h. ap Ty.Boxed (same_id a b h)
 equal_is (Ty.Dyn a) (Ty.Dyn b) = λ h. ap Ty.Dyn (same_number a b h)
@@ -78,7 +79,8 @@ below_if p (y ∷ ys) zero t is h = by (p y) (subst (λ z. IsTrue (p z)) (sym (s
     by false h = absurd (cc)
 below_if p (y ∷ ys) (suc k) t is h = by (p y) (below_if p ys k t is h)
   where
-    by : (b : Bool) → position_or_len p ys < length ys → (if not b then 1 + position_or_len p ys else 0) < suc (length ys)
+    by : (b : Bool) → position_or_len p ys < length ys → (if not b then 1 + position_or_len p ys else 0) < suc (length
+        ys)
     by true h = omega arith
     by false h = omega (arith, h)
 
@@ -93,12 +95,6 @@ not_there : (ty : Ty) (tys : List Ty) → position_of (is_equal ty) tys ≡ None
 not_there ty tys h k is = some_below (is_equal ty) tys (below_if (is_equal ty) tys k ty is (equal_self ty)) h
 
 -- ---- one more type
-
--- what a type is made of is ready
-pub record IsMade (items : ItemTable) (ty : Ty) : Type 0 where
-  pub held : (part : TyId) → Contains (held_by items ty) part → IsAlone items part
-  pub parts : (part : TyId) (variant n : ℕ) → slice_get (parts_of items ty variant) n ≡ Some part → IsAlone items part
-  pub inside : (to : TyId) → inside_in ty ≡ Some to → IsReady items to × IsTrue (not (is_reference items to))
 
 module _ (items : ItemTable) (ty : Ty) where
   more_types : Extends items (with_type items ty)
@@ -130,7 +126,8 @@ module _ (items : ItemTable) (ty : Ty) where
         part
     held_more id part t (inl is) has = all.held id part t is (subst (λ xs. Contains xs part) (held_same t) has)
     held_more id part t (inr new_) has =
-        made.held part (subst (λ xs. Contains xs part) (held_same ty) (subst (λ u. Contains (held_by (with_type items ty)
+        made.held part (subst (λ xs. Contains xs part) (held_same ty) (subst (λ u. Contains (held_by (with_type items
+        ty)
         u) part) (sym new_.1) has))
 
     parts_more : (id part : TyId) (variant n : ℕ) (t : Ty) → Two id.0 t → slice_get (parts_of (with_type items ty) t
@@ -163,14 +160,17 @@ module _ (items : ItemTable) (ty : Ty) where
           distinct = λ i j t a b. distinct_more absent i j t (two i t a) (two j t b);
           held = λ id part t at has. alone_later more_types part (held_more id part t (two id.0 t at) has);
           parts = λ id part variant n h.
-              let known = some_got (λ u. slice_get (parts_of (with_type items ty) u variant) n) (type_at (with_type items
+              let known = some_got (λ u. slice_get (parts_of (with_type items ty) u variant) n) (type_at (with_type
+              items
               ty) id) part h in
               alone_later more_types part (parts_more id part variant n known.0 (two id.0 known.0 known.1) known.2);
           inside = λ id to h.
               let known = some_got inside_in (type_at (with_type items ty) id) to h in
-              let was = inside_more id to known.0 (two id.0 known.0 known.1) known.2 in
-              (ready_later more_types to was.0, subst (λ b. IsTrue (not b)) (sym (same_reference more_types to was.0))
-              was.1);
+              let was = inside_more id to known.0 (two id.0 known.0 known.1) known.2 in (
+                ready_later more_types to was.0,
+                subst (λ b. IsTrue (not b)) (sym (same_reference more_types to was.0))
+                    was.1,
+              );
           results = λ n sig h. alone_later more_types sig.result (all.results n sig h);
           methods = λ n k def sig h g. alone_later more_types sig.result (all.methods n k def sig h g);
           params = λ n sig t h has. known_later more_types t (all.params n sig t h has);

@@ -1,5 +1,5 @@
 -- What is known of items is known of later ones.
-use Rattle.std.proofs.Common.{◌≡◌, ℕ, suc, Bool, true, false, ◌||◌, not, List, [], ◌∷◌, Option, Some, None, IsTrue, Contains, slice_get, refl, ap, sym, subst, ◌∙◌, arith}
+use Rattle.std.proofs.Common.{◌≡◌, ℕ, Bool, true, false, ◌||◌, not, Option, Some, None, IsTrue, Contains, slice_get, refl, ap, sym, subst, ◌∙◌, arith}
 use Rattle.std.specs.Prelude.{option_and_then, is_some}
 use Rattle.std.specs.Option.{option_map_or}
 use Rattle.std.proofs.lemmas.Option.{none-some, same_Some}
@@ -10,7 +10,7 @@ use Rattle.mir_ty.specs.Facts.{is_scalar, IsCopy, scalar, derives, tuple, array,
 use Rattle.mir_ty.specs.ItemTable.{ItemTable, type_at}
 use Rattle.mir_ty.specs.Parts.{captures_of}
 use Rattle.mir_ty.proofs.LeastRelations.{is_copy-rules}
-use Rattle.well_typed.specs.Types.{is_ty, in_ty, fits, is_never, is_never_ty, is_reference, reference_in, is_dyn, dyn_in}
+use Rattle.well_typed.specs.Types.{fits, is_never, is_never_ty, is_reference, reference_in, is_dyn, dyn_in}
 use Rattle.typing_rules.specs.Places.{agrees}
 use Rattle.typing_rules.specs.Promises.{Extends, IsThere, IsReady, IsAlone, IsValueType, IsKnown, AreReady}
 
@@ -96,9 +96,12 @@ value_type_of items _ h a b = tt
 
 pub alone_from : (items : ItemTable) (id : TyId) → IsReady items id → IsTrue (not (is_dyn items id)) → IsTrue (not
     (is_reference items id)) → IsAlone items id
-alone_from items id h a b =
-    (h.0, h.1, value_type_of items h.0 h.2 (subst (λ o. IsTrue (not (is_some (option_and_then dyn_in o)))) h.1 a) (subst
-    (λ o. IsTrue (not (is_some (option_and_then reference_in o)))) h.1 b))
+alone_from items id h a b = (
+  h.0,
+  h.1,
+  value_type_of items h.0 h.2 (subst (λ o. IsTrue (not (is_some (option_and_then dyn_in o)))) h.1 a) (subst
+      (λ o. IsTrue (not (is_some (option_and_then reference_in o)))) h.1 b),
+)
 
 scalar_no_dyn : (ty : Ty) → IsTrue (is_scalar ty) → IsTrue (not (is_some (dyn_in ty)))
 scalar_no_dyn (Ty.Dyn n) h = no_truth h
@@ -226,10 +229,15 @@ module _ {old new : ItemTable} (e : Extends old new) where
       derives (is_type id (Ty.Adt n) h is) (ap (λ adts. slice_get adts n) (sym e.adts) ∙ at) d
   copy_back all id h (tuple {parts = parts} is each) =
       let was = is_type id (Ty.Tuple parts) h is in
-      tuple was (λ part has. copy_back all part (alone_ready old part (all.held id part (Ty.Tuple parts) was has)) (each part has))
+      tuple was (λ part has. copy_back all part (alone_ready old part (all.held id part (Ty.Tuple parts) was has))
+      (each part has))
   copy_back all id h (array {element = element} {count = count} is one) =
       let was = is_type id (Ty.Array element count) h is in
-      array was (copy_back all element (alone_ready old element (all.held id element (Ty.Array element count) was (0, omega arith, refl))) one)
+      array was (copy_back all element (alone_ready old element (all.held id element (Ty.Array element count) was (
+        0,
+        omega arith,
+        refl,
+      ))) one)
   copy_back all id h (closure {n = n} {def = def} is at each) =
       let was = is_type id (Ty.Closure n) h is in
       let here_ = is_some_got (slice_get old.closures n) (there_at id n h was) in

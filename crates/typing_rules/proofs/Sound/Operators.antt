@@ -1,6 +1,6 @@
 -- Operators, literals and leaves.
-use Rattle.std.proofs.Common.{◌≡◌, ℕ, suc, Bool, true, false, ◌&&◌, ◌||◌, ◌==◌, not, if◌then◌else◌, List, [], ◌∷◌, Option, Some, None, IsTrue, ◌⊎◌, inl, inr, refl, ap, sym, subst, ◌∙◌}
-use Rattle.std.specs.Prelude.{option_and_then, is_some}
+use Rattle.std.proofs.Common.{◌≡◌, ℕ, Bool, true, false, ◌&&◌, ◌||◌, if◌then◌else◌, Option, Some, None, IsTrue, ◌⊎◌, inl, inr, refl, ap, sym, subst, ◌∙◌}
+use Rattle.std.specs.Prelude.{option_and_then}
 use Rattle.std.specs.Option.{option_map_or}
 use Rattle.std.proofs.lemmas.Bool.{eqb-true}
 use Rattle.std.proofs.lemmas.Option.{none-some, same_Some}
@@ -16,16 +16,16 @@ use Rattle.typed_tree.specs.Tree as tree
 use Rattle.typed_tree.specs.Tree.{Node, node, Form}
 use Rattle.well_typed.specs.Claim.{Holds}
 use Rattle.well_typed.specs.Nodes.{typed, row, is_leaf, fits_bool, are_operands, int_or_bool as well_int_or_bool}
-use Rattle.well_typed.specs.Places.{Context, ty_of, form_of, is_place, Taken, Wanted}
+use Rattle.well_typed.specs.Places.{Context, ty_of, is_place, Taken, Wanted}
 use Rattle.well_typed.specs.Types.{fits, is_same, is_bool, is_bool_ty, is_never, is_never_ty, is_int, kind_of, kind_in, is_signed, is_signed_kind}
 use Rattle.well_typed.proofs.ClaimLemmas.{and_true, true_left, true_right}
-use Rattle.typing_rules.specs.Check.{Check, State}
-use Rattle.typing_rules.specs.Places.{unit, bool, never, int, a_node_of, agrees, wanted}
-use Rattle.typing_rules.specs.Promises.{Extends, IsAlone, AreReady, Grows, Fact, Gives, Knows, IsValue, IsTemporary, Sound, SoundTemporary}
-use Rattle.typing_rules.specs.Rows.{Typer, fitted, leaf, not_row, negate, operands, arithmetic, comparison, logic, one_of_two, if_int, int_or_bool, left_first}
+use Rattle.typing_rules.specs.Check.{State}
+use Rattle.typing_rules.specs.Places.{unit, bool, never, int, wanted}
+use Rattle.typing_rules.specs.Promises.{Extends, IsAlone, AreReady, Fact, Gives, Knows, IsValue, IsTemporary, Sound, SoundTemporary}
+use Rattle.typing_rules.specs.Rows.{Typer, leaf, not_row, negate, operands, arithmetic, comparison, logic, one_of_two, if_int, int_or_bool, left_first}
 use Rattle.typing_rules.specs.Scope.{Env}
 use Rattle.typing_rules.proofs.Sound.Fitted.{IsPlain, leaf_ends, or_left, or_right, fits_self, same_self}
-use Rattle.typing_rules.proofs.Sound.Gives.{◌⋆◌, bind, given, obeyed, found, after_number, numbered, grows_number, grows_trans, knows_later, knows_number}
+use Rattle.typing_rules.proofs.Sound.Gives.{◌⋆◌, bind, given, obeyed, found, after_number, numbered, grows_trans, knows_later, knows_number}
 use Rattle.typing_rules.proofs.Sound.Later.{some_got, is_later, fits_later, in_later, passes_by, is_some_got, is_some_by}
 
 -- ---- numbers of types
@@ -91,10 +91,12 @@ pub not_sound : (env : Env) (at : Pos) (operand : Typer) → Sound env operand �
 not_sound env at operand good want s k =
     after_number (bind (good None s' (knows_number env k)) λ n t g d.
     obeyed Rule.T03 at (fits t.items bool (ty_of n)) _ λ is.
-    leaf_ends env want t s.next_node at bool (tree.Not n) refl refl (λ w p. refl) λ w ready l.
-    (bool_ready w.items ready, λ p stands.
-    (d w l).holds p stands ⋆ fits_test w.items ready is_bool_ty bool (ty_of n) (bool_is w.items ready) (fits_later
-    l.items bool (ty_of n) is) ⋆ bool_is w.items ready))
+    leaf_ends env want t s.next_node at bool (tree.Not n) refl refl (λ w p. refl) λ w ready l. (
+      bool_ready w.items ready,
+      λ p stands.
+          (d w l).holds p stands ⋆ fits_test w.items ready is_bool_ty bool (ty_of n) (bool_is w.items ready) (fits_later
+          l.items bool (ty_of n) is) ⋆ bool_is w.items ready,
+    ))
   where
     s' : State
     s' = numbered s
@@ -124,9 +126,11 @@ pub negate_sound : (env : Env) (at : Pos) (operand : Typer) → Sound env operan
 negate_sound env at operand good want s k =
     after_number (bind (good inner s' (knows_number env k)) λ n t g d.
     obeyed Rule.T03 at (is_same (ty_of n) (int IntKind.I32) || is_same (ty_of n) (int IntKind.I64)) _ λ is.
-    leaf_ends env want t s.next_node at (ty_of n) (tree.Negate n) refl refl (λ w p. refl) λ w ready l.
-    ((d w l).alone, λ p stands. (d w l).holds p stands ⋆ same_self (ty_of n).0 ⋆ signed_by w.items ready (ty_of n)
-    is))
+    leaf_ends env want t s.next_node at (ty_of n) (tree.Negate n) refl refl (λ w p. refl) λ w ready l. (
+      (d w l).alone,
+      λ p stands. (d w l).holds p stands ⋆ same_self (ty_of n).0 ⋆ signed_by w.items ready (ty_of n)
+          is,
+    ))
   where
     s' : State
     s' = numbered s
@@ -173,9 +177,12 @@ module _ (items : ItemTable) (a b ty : TyId) where
       (or_right (is_same a b) _ ha, fits_self items b, or_right (is_same b a) _ (same_self b.0))
   one_by false true ha hb h =
       let e : a ≡ ty = same_Some a ty h in
-      subst (λ x. IsTrue (fits items x a) × IsTrue (fits items x b) × IsTrue (is_same x a || is_same x b)) e
-      (fits_self items a, turned (or_cases (is_never items b) (is_same a b) hb), or_left _ (is_same a b) (same_self
-      a.0))
+      subst (λ x. IsTrue (fits items x a) × IsTrue (fits items x b) × IsTrue (is_same x a || is_same x b)) e (
+        fits_self items a,
+        turned (or_cases (is_never items b) (is_same a b) hb),
+        or_left _ (is_same a b) (same_self
+            a.0),
+      )
     where
       turned : IsTrue (is_never items b) ⊎ IsTrue (is_same a b) → IsTrue (fits items a b)
       turned (inl never) = or_right (is_same b a) _ never
@@ -230,13 +237,12 @@ arithmetic_sound env at operator is_literal left right good_left good_right want
     let one = one_int t.items (ty_of both.0) (ty_of both.1) ty h in
     let is = is_one t.items (ty_of both.0) (ty_of both.1) ty one.0 in
     leaf_ends env want t s.next_node at ty (tree.Arithmetic operator both.0 both.1) refl refl (λ w p. refl) λ w ready
-    l.
-    (
+    l. (
       either_ready t.items w.items (ty_of both.0) (ty_of both.1) ty one.0 (d w l).0.alone (d w l).1.alone,
       λ p stands.
-      as_wanted _ ty both.0 ((d w l).0.holds p stands) (fits_later l.items ty (ty_of both.0) is.0) ⋆
-      as_wanted _ ty both.1 ((d w l).1.holds p stands) (fits_later l.items ty (ty_of both.1) is.1) ⋆
-      int_later l.items ty one.1 ⋆ is.2,
+          as_wanted _ ty both.0 ((d w l).0.holds p stands) (fits_later l.items ty (ty_of both.0) is.0) ⋆
+          as_wanted _ ty both.1 ((d w l).1.holds p stands) (fits_later l.items ty (ty_of both.1) is.1) ⋆
+          int_later l.items ty one.1 ⋆ is.2,
     ))
   where
     s' : State
@@ -287,10 +293,12 @@ comparison_sound env at operator is_literal left right good_left good_right want
     found Rule.T03 at (option_and_then (int_or_bool t.items) (one_of_two t.items (ty_of both.0) (ty_of both.1))) _
     λ ty h.
     leaf_ends env want t s.next_node at bool (tree.Comparison operator both.0 both.1) refl refl (λ w p. refl) λ w
-    ready l.
-    (bool_ready w.items ready, λ p stands.
-    (d w l).0.holds p stands ⋆ (d w l).1.holds p stands ⋆ compared l.items (ty_of both.0) (ty_of both.1) ty h ⋆
-    bool_is w.items ready))
+    ready l. (
+      bool_ready w.items ready,
+      λ p stands.
+          (d w l).0.holds p stands ⋆ (d w l).1.holds p stands ⋆ compared l.items (ty_of both.0) (ty_of both.1) ty h ⋆
+          bool_is w.items ready,
+    ))
   where
     s' : State
     s' = numbered s
@@ -316,11 +324,14 @@ logic_sound env at form leaf placeless plain asks left right good_left good_righ
     after_number (bind (good_left None s' (knows_number env k)) λ l t g d.
     bind (good_right None t (knows_later env g (knows_number env k))) λ r u h e.
     obeyed Rule.T03 at (fits u.items bool (ty_of l) && fits u.items bool (ty_of r)) _ λ is.
-    leaf_ends env want u s.next_node at bool (form l r) (leaf l r) (placeless l r) (λ w. plain w l r) λ w ready f.
-    (bool_ready w.items ready, λ p stands.
-    asks _ s.next_node bool l r ((d w (grows_trans h f)).holds p stands) ((e w f).holds p stands)
-    (fits_bool_later f.items ready (ty_of l) (true_left _ _ is)) (fits_bool_later f.items ready (ty_of r) (true_right
-    (fits u.items bool (ty_of l)) _ is)) (bool_is w.items ready)))
+    leaf_ends env want u s.next_node at bool (form l r) (leaf l r) (placeless l r) (λ w. plain w l r) λ w ready f. (
+      bool_ready w.items ready,
+      λ p stands.
+          asks _ s.next_node bool l r ((d w (grows_trans h f)).holds p stands) ((e w f).holds p stands)
+          (fits_bool_later f.items ready (ty_of l) (true_left _ _ is)) (fits_bool_later f.items ready (ty_of r)
+          (true_right
+          (fits u.items bool (ty_of l)) _ is)) (bool_is w.items ready),
+    ))
   where
     s' : State
     s' = numbered s
@@ -331,9 +342,11 @@ logic_sound env at form leaf placeless plain asks left right good_left good_righ
 pub and_sound : (env : Env) (at : Pos) (left right : Typer) → Sound env left → Sound env right → SoundTemporary env
     (logic at tree.And left right)
 and_sound env at =
-    logic_sound env at tree.And (λ l r. refl) (λ l r. refl) (λ w l r p. refl) (λ c id ty l r a b x y z. a ⋆ b ⋆ x ⋆ y ⋆ z)
+    logic_sound env at tree.And (λ l r. refl) (λ l r. refl) (λ w l r p. refl) (λ c id ty l r a b x y z. a ⋆ b ⋆ x ⋆ y
+    ⋆ z)
 
 pub or_sound : (env : Env) (at : Pos) (left right : Typer) → Sound env left → Sound env right → SoundTemporary env
     (logic at tree.Or left right)
 or_sound env at =
-    logic_sound env at tree.Or (λ l r. refl) (λ l r. refl) (λ w l r p. refl) (λ c id ty l r a b x y z. a ⋆ b ⋆ x ⋆ y ⋆ z)
+    logic_sound env at tree.Or (λ l r. refl) (λ l r. refl) (λ w l r p. refl) (λ c id ty l r a b x y z. a ⋆ b ⋆ x ⋆ y ⋆
+    z)

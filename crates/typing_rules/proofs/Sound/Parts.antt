@@ -1,9 +1,8 @@
 -- Fields, parts and elements: what is found by going through boxes and references.
-use Rattle.std.proofs.Common.{◌≡◌, ℕ, zero, suc, Bool, true, false, ◌&&◌, ◌||◌, ◌==◌, not, if◌then◌else◌, List, [], ◌∷◌, length, slice_get, Option, Some, None, IsTrue, ◌⊎◌, inl, inr, refl, ap, sym, subst, ◌∙◌}
-use Rattle.std.specs.Prelude.{option_and_then, option_map, is_some}
+use Rattle.std.proofs.Common.{◌≡◌, ℕ, zero, suc, Bool, true, false, ◌||◌, ◌==◌, not, if◌then◌else◌, List, [], length, slice_get, Option, Some, None, IsTrue, refl, ap, sym, subst, ◌∙◌}
+use Rattle.std.specs.Prelude.{option_and_then, option_map}
 use Rattle.std.specs.Option.{option_map_or}
 use Rattle.std.proofs.lemmas.Option.{none-some, same_Some}
-use Rattle.mir_base.specs.declared.int_kind.IntKind.{IntKind}
 use Rattle.mir_base.specs.declared.place_in_text.Pos.{Pos}
 use Rattle.mir_base.specs.declared.rule.Rule.{Rule}
 use Rattle.mir_ty.specs.declared.adt.Adt.{Adt}
@@ -13,23 +12,22 @@ use Rattle.mir_ty.specs.declared.ty.Ty.{Ty}
 use Rattle.mir_ty.specs.declared.ty.TyId.{TyId}
 use Rattle.mir_ty.specs.ItemTable.{ItemTable, type_at}
 use Rattle.mir_ty.specs.Parts.{field_ty, parts_of, captures_of, fields_of, variants_of}
-use Rattle.typed_tree.specs.Tree as tree
-use Rattle.typed_tree.specs.Tree.{Node, node, Form, Field, Index, Deref}
+use Rattle.typed_tree.specs.Tree.{Node, Field}
 use Rattle.well_typed.specs.Claim.{Holds, some, fact}
 use Rattle.well_typed.specs.Places.{ty_of}
-use Rattle.well_typed.specs.Types.{is_same, is_never, is_usize, is_kind, is_reference, fits, inside_of, inside_in, array_of, array_in, kind_of, kind_in, has_fields, fields_in, is_enum, adt_at, variant_at, adt_of, adt_in, tuple_of, tuple_in}
-use Rattle.well_typed.proofs.ClaimLemmas.{and_true, true_left, true_right}
+use Rattle.well_typed.specs.Types.{is_same, inside_of, inside_in, has_fields, fields_in, is_enum, variant_at, adt_of, adt_in, tuple_of, tuple_in}
+use Rattle.well_typed.proofs.ClaimLemmas.{and_true}
 use Rattle.typing_rules.specs.Check.{Check, State}
-use Rattle.typing_rules.specs.Places.{int, a_node_of, is_fixed, in_own_guard, place_in_text, Member, through, through_in, through_at, struct_field, numbered_part, part_with, either_part}
-use Rattle.typing_rules.specs.Promises.{Extends, IsReady, AreReady, Grows, Fact, Gives, Spot, at_spot, Stands, Knows, IsValue, IsBase, Sound, SoundBase}
-use Rattle.typing_rules.specs.Rows.{Typer, field, element, no_reference}
+use Rattle.typing_rules.specs.Places.{a_node_of, Member, through, through_in, through_at, struct_field, numbered_part, part_with, either_part}
+use Rattle.typing_rules.specs.Promises.{Extends, AreReady, Grows, Fact, Gives, Knows, IsBase, SoundBase}
+use Rattle.typing_rules.specs.RowPromises.{IsMember, IsPlace}
+use Rattle.typing_rules.specs.Rows.{field, element}
 use Rattle.typing_rules.specs.Scope.{Env, field_named}
 use Rattle.typing_rules.specs.Syntax.{Word, number_word}
-use Rattle.typing_rules.proofs.Sound.Fitted.{or_left, or_right, same_self}
-use Rattle.typing_rules.proofs.Sound.Gives.{◌⋆◌, bind, with_ready, given, obeyed, found, after_number, numbered, grows_trans, grows_refl, knows_later, knows_number, grows_number}
-use Rattle.typing_rules.proofs.Sound.Later.{alone_ready, extends_refl, ready_later, type_later, in_later, same_in, same_is, same_reference, same_drop_impl, some_got, passes_by, passes_got}
-use Rattle.typing_rules.proofs.Sound.Operators.{or_cases, same_id, int_at, int_ready}
-use Rattle.typing_rules.proofs.Sound.Places.{IsPlace, deref_base, or_false}
+use Rattle.typing_rules.proofs.Sound.Fitted.{same_self}
+use Rattle.typing_rules.proofs.Sound.Gives.{◌⋆◌, bind, with_ready, given, found, after_number, numbered, grows_trans, grows_refl, knows_number, grows_number}
+use Rattle.typing_rules.proofs.Sound.Later.{alone_ready, extends_refl, type_later, in_later, same_drop_impl, some_got, passes_by, passes_got}
+use Rattle.typing_rules.proofs.Sound.Places.{deref_base, or_false}
 
 -- ---- parts of later types
 
@@ -80,12 +78,8 @@ module _ {old new : ItemTable} (e : Extends old new) where
 
 -- ---- members
 
--- a part that is found is a part of the type
-abbrev pub IsMember : Member (ℕ × TyId) → Type 0
-IsMember member = (items : ItemTable) (id : TyId) (f : ℕ × TyId) → member items id ≡ Some f → IsTrue (has_fields items
-    id) × (field_ty items id 0 f.0 ≡ Some f.1)
-
-part_got : (tys : List TyId) (n : ℕ) (f : ℕ × TyId) → part_with tys n ≡ Some f → (n ≡ f.0) × (slice_get tys n ≡ Some f.1)
+part_got : (tys : List TyId) (n : ℕ) (f : ℕ × TyId) → part_with tys n ≡ Some f → (n ≡ f.0) × (slice_get tys n ≡ Some
+    f.1)
 part_got tys n f h = by (slice_get tys n) refl h
   where
     by : (o : Option TyId) → slice_get tys n ≡ o → option_map (λ ty. (n, ty)) o ≡ Some f → (n ≡ f.0) × (slice_get tys n
@@ -123,11 +117,10 @@ struct_member name items id f h =
         let v = some_got (λ (v : Variant). option_and_then (part_with v.fields) (field_named v name)) (variant_at items
         adt 0) f h in
         let k = some_got (part_with v.0.fields) (field_named v.0 name) f v.2 in
-        let part = part_got v.0.fields k.0 f k.2 in
-        (
+        let part = part_got v.0.fields k.0 f k.2 in (
           passes_by (fields_in items) (type_at items id) (Ty.Adt adt) at (subst (λ b. IsTrue (not b)) (sym is) refl),
           ap (option_and_then (λ ty. slice_get (parts_of items ty 0) f.0)) at ∙
-          (variant_fields adt v.0 f.0 v.1 ∙ (ap (slice_get v.0.fields) (sym part.0) ∙ part.1)),
+              (variant_fields adt v.0 f.0 v.1 ∙ (ap (slice_get v.0.fields) (sym part.0) ∙ part.1)),
         )
       where
         variant_fields : (adt : ℕ) (v : Variant) (k : ℕ) → variant_at items adt 0 ≡ Some v → slice_get (fields_of
@@ -144,17 +137,17 @@ part_member n items id f h =
     by (option_and_then (λ tys. part_with tys n) (tuple_of items id)) refl h
   where
     by : (o : Option (ℕ × TyId)) → option_and_then (λ tys. part_with tys n) (tuple_of items id) ≡ o → either_part o
-        (struct_field (number_word n) items id) ≡ Some f → IsTrue (has_fields items id) × (field_ty items id 0 f.0 ≡ Some
+        (struct_field (number_word n) items id) ≡ Some f → IsTrue (has_fields items id) × (field_ty items id 0 f.0 ≡
+        Some
         f.1)
     by None is h = struct_member (number_word n) items id f h
     by (Some x) is h =
         let tys = some_got (λ tys. part_with tys n) (tuple_of items id) f (is ∙ h) in
         let part = part_got tys.0 n f tys.2 in
-        let at = tuple_type items id tys.0 tys.1 in
-        (
+        let at = tuple_type items id tys.0 tys.1 in (
           passes_by (fields_in items) (type_at items id) (Ty.Tuple tys.0) at refl,
           ap (option_and_then (λ ty. slice_get (parts_of items ty 0) f.0)) at ∙
-          (ap (slice_get tys.0) (sym part.0) ∙ part.1),
+              (ap (slice_get tys.0) (sym part.0) ∙ part.1),
         )
 
 -- ---- through boxes and references
@@ -164,7 +157,8 @@ abbrev pub IsFound : {A : Type 0} → Member A → ItemTable → Env → Fact (N
 IsFound {A} member items env w r = IsBase env w r.0 × ((a : A) → r.1 ≡ Some a → member items (ty_of r.0) ≡ Some a)
 
 module _ {A : Type 0} (member : Member A) (at : Pos) (env : Env) where
-  through_in_sound : (n : ℕ) (items : ItemTable) (base : Node) (s : State) → Extends items s.items → ((w : State) → Grows
+  through_in_sound : (n : ℕ) (items : ItemTable) (base : Node) (s : State) → Extends items s.items → ((w : State) →
+      Grows
       s w → IsBase env w base) → Gives s (IsFound member items env) (through_in member at n items base s)
   through_in_sound zero items base s e is =
       given (base, None) λ ready w g. (is w g, λ a h. absurd (none-some a h))
@@ -195,8 +189,11 @@ field_base env t w id at f b all base has is =
     record {
       base = record {
         ready = alone_ready w.items f.1 (all.parts (ty_of b) f.1 0 f.0 is);
-        holds = λ p stands. (refl, base.holds p stands ⋆ has ⋆ subst (λ o. Holds (some o (λ t. fact (is_same f.1 t))))
-            (sym is) (same_self f.1.0));
+        holds = λ p stands. (
+          refl,
+          base.holds p stands ⋆ has ⋆ subst (λ o. Holds (some o (λ t. fact (is_same f.1 t))))
+              (sym is) (same_self f.1.0),
+        );
         moves = λ p stands h. let both_ = or_false _ _ h in and_true _ _ both_.0 (base.moves p stands both_.1);
         is_fixed = λ v g. λ i. same_drop_impl g.items (ty_of b) base.ready i || base.is_fixed v g i;
         is_shared = λ v g. base.is_shared v g;
@@ -213,5 +210,6 @@ field_sound env at member is base good s k =
     given _ λ ready w l.
     let so = is t.items (ty_of r.0) f ((e u (grows_refl u)).1 f known) in
     let on = (grows_trans h l).items in
-    field_base env t w s.next_node at f r.0 (l.ready ready) (e w l).0 (has_fields_later on (ty_of r.0) so.0) (field_later
+    field_base env t w s.next_node at f r.0 (l.ready ready) (e w l).0 (has_fields_later on (ty_of r.0) so.0)
+    (field_later
     on (ty_of r.0) 0 f.0 f.1 so.1))

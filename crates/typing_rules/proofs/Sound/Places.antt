@@ -1,35 +1,31 @@
 -- Places: variables, parts, elements, what boxes and references lead to; places that are taken.
-use Rattle.std.proofs.Common.{◌≡◌, ℕ, zero, suc, ◌<◌, Bool, true, false, ◌&&◌, ◌||◌, ◌==◌, not, if◌then◌else◌, List, [], ◌∷◌, length, slice_index_or, slice_get, Option, Some, None, IsTrue, Contains, ◌⊎◌, inl, inr, refl, ap, sym, subst, ◌∙◌, arith}
-use Rattle.std.specs.Prelude.{option_and_then, option_map, is_some, is_none}
-use Rattle.std.specs.List.{list_any}
+use Rattle.std.proofs.Common.{◌≡◌, ℕ, zero, suc, Bool, true, false, ◌&&◌, ◌||◌, ◌==◌, not, if◌then◌else◌, List, [], ◌∷◌, Option, Some, None, IsTrue, Contains, ◌⊎◌, inl, inr, refl, ap, sym, subst, ◌∙◌, arith}
+use Rattle.std.specs.Prelude.{is_none}
 use Rattle.std.specs.Option.{option_map_or}
 use Rattle.std.proofs.lemmas.Bool.{false≢true, true≢false}
-use Rattle.std.proofs.lemmas.Option.{none-some, same_Some}
 use Rattle.mir_base.specs.declared.place_in_text.Pos.{Pos}
 use Rattle.mir_base.specs.declared.rule.Rule.{Rule}
-use Rattle.mir_ty.specs.declared.adt.Adt.{Adt}
-use Rattle.mir_ty.specs.declared.ty.Ty.{Ty}
 use Rattle.mir_ty.specs.declared.ty.TyId.{TyId}
-use Rattle.mir_ty.specs.Facts.{is_copy, has_drop_impl}
-use Rattle.mir_ty.specs.ItemTable.{ItemTable, type_at}
-use Rattle.mir_ty.specs.Parts.{field_ty, parts_of, captures_of, fields_of, variants_of}
+use Rattle.mir_ty.specs.Facts.{is_copy}
+use Rattle.mir_ty.specs.ItemTable.{ItemTable}
+use Rattle.mir_ty.specs.Parts.{field_ty}
 use Rattle.typed_tree.specs.declared.node.Use.{Use}
-use Rattle.typed_tree.specs.Tree as tree
 use Rattle.typed_tree.specs.Tree.{Node, node, Form, Variable, Captured, Field, Index, Deref}
 use Rattle.well_typed.specs.Claim.{Claim, Holds, some, fact, both}
-use Rattle.well_typed.specs.Nodes.{typed, row, is_leaf}
+use Rattle.well_typed.specs.Nodes.{typed, is_leaf}
 use Rattle.well_typed.specs.Places as well
 use Rattle.well_typed.specs.Places.{InScope, Context, ty_of, form_of, is_place, is_borrow, is_by, is_use, may_move, may_move_by, is_guarded, is_rooted, is_rooted_by, entry_with, Taken, Base, Wanted, is_taken}
-use Rattle.well_typed.specs.Types.{is_same, is_never, is_usize, is_reference, reference_of, is_dyn, inside_of, inside_in, array_of, array_in}
-use Rattle.well_typed.proofs.ClaimLemmas.{and_true, true_left, true_right}
+use Rattle.well_typed.specs.Types.{is_same, is_reference, is_dyn, inside_of, inside_in}
+use Rattle.well_typed.proofs.ClaimLemmas.{and_true}
 use Rattle.typing_rules.specs.Check.{Check, State}
-use Rattle.typing_rules.specs.Places.{unit, a_node_of, used, is_any, is_fixed, is_fixed_form, is_shared_root, is_shared_form, is_behind_shared, names_shared, in_own_guard, guard_key, meaning_form, variable_place, place_in_text}
-use Rattle.typing_rules.specs.Promises.{Extends, IsReady, IsAlone, AreReady, Grows, Fact, Gives, Spot, at_spot, Means, Stands, Knows, IsValue, IsTemporary, IsBase, SoundBase}
+use Rattle.typing_rules.specs.Places.{a_node_of, used, is_any, is_fixed, is_fixed_form, is_shared_root, is_shared_form, names_shared, in_own_guard, guard_key, meaning_form, variable_place, place_in_text}
+use Rattle.typing_rules.specs.Promises.{IsReady, IsAlone, AreReady, Grows, Gives, Spot, at_spot, Means, Stands, Knows, IsValue, IsTemporary, IsBase, SoundBase}
+use Rattle.typing_rules.specs.RowPromises.{IsPlace}
 use Rattle.typing_rules.specs.Rows.{taking, taken, no_reference, deref}
 use Rattle.typing_rules.specs.Scope.{Env, Entry, Meaning, Local, Capture, InGuard}
-use Rattle.typing_rules.proofs.Sound.Fitted.{Passed, fitted_gives, or_left, or_right, same_self}
-use Rattle.typing_rules.proofs.Sound.Gives.{◌⋆◌, bind, with_ready, given, obeyed, found, after_number, numbered, grows_trans, knows_later, knows_number}
-use Rattle.typing_rules.proofs.Sound.Later.{alone_ready, alone_from, alone_later, copy_no_dyn, ready_later, in_later, same_in, same_is, same_reference, same_dyn, same_drop_impl, same_copy, some_got}
+use Rattle.typing_rules.proofs.Sound.Fitted.{fitted_gives, or_left, or_right, same_self}
+use Rattle.typing_rules.proofs.Sound.Gives.{◌⋆◌, bind, with_ready, given, obeyed, found, after_number, numbered, grows_trans, knows_number}
+use Rattle.typing_rules.proofs.Sound.Later.{alone_ready, alone_from, alone_later, copy_no_dyn, ready_later, in_later, same_in, same_reference, same_dyn, same_copy}
 
 pub not_true : (b : Bool) → IsTrue (not b) → b ≡ false
 not_true true h = absurd (let no_ : IsTrue false = h in cc)
@@ -77,7 +73,8 @@ if_holds false x y e h = absurd (true≢false (sym e))
 
 abbrev place_taken : Context → TyId → Option Use → Form → Claim
 place_taken c ty by form =
-    both (fact (is_by (well.taking c.items ty) by)) (both (fact (is_copy c.items ty || (may_move_by c form && not (is_dyn
+    both (fact (is_by (well.taking c.items ty) by)) (both (fact (is_copy c.items ty || (may_move_by c form && not
+    (is_dyn
     c.items ty)))) (fact (not (is_reference c.items ty))))
 
 temporary_holds : (c : Context) (n : Node) → is_place (form_of n) ≡ false → Holds (typed c Taken n) → Holds (typed c
@@ -126,17 +123,23 @@ guard_of (y ∷ ys) x key c e = by (λ more. guard_of ys x key more e) (contains
     by on (inl same) = first y.meaning (ap (λ (z : Entry). z.meaning) same ∙ e)
     by on (inr more) = later y.meaning (on more)
 
-named_holds : (c : Context) (key : ℕ) (ty : TyId) (in_guard : Bool) → entry_with key c.entries ≡ Some (record { key =
-    key; ty = ty; is_in_guard = in_guard }) → Holds (some (entry_with key c.entries) (λ (x : InScope). fact (is_same
+named_holds : (c : Context) (key : ℕ) (ty : TyId) (in_guard : Bool) → entry_with key c.entries ≡ Some (record {
+  key =
+      key;
+  ty = ty;
+  is_in_guard = in_guard;
+}) → Holds (some (entry_with key c.entries) (λ (x : InScope). fact (is_same
     ty x.ty)))
 named_holds c key ty in_guard e =
     subst (λ o. Holds (some o (λ (x : InScope). fact (is_same ty x.ty)))) (sym e) (same_self ty.0)
 
 captured_holds : (c : Context) (closure part : ℕ) (ty : TyId) (x : InScope) → c.closure ≡ Some x → x.key ≡ closure →
-    field_ty c.items x.ty 0 part ≡ Some ty → Holds (some c.closure (λ (x : InScope). both (fact (x.key == closure)) (some (field_ty
+    field_ty c.items x.ty 0 part ≡ Some ty → Holds (some c.closure (λ (x : InScope). both (fact (x.key == closure))
+    (some (field_ty
     c.items x.ty 0 part) (λ t. fact (is_same ty t)))))
 captured_holds c closure part ty x e k f =
-    subst (λ o. Holds (some o (λ (x : InScope). both (fact (x.key == closure)) (some (field_ty c.items x.ty 0 part) (λ t. fact
+    subst (λ o. Holds (some o (λ (x : InScope). both (fact (x.key == closure)) (some (field_ty c.items x.ty 0 part) (λ
+    t. fact
     (is_same ty t)))))) (sym e)
     (subst (λ n. IsTrue (n == closure)) (sym k) (same_self closure) ⋆
     subst (λ o. Holds (some o (λ t. fact (is_same ty t)))) (sym f) (same_self ty.0))
@@ -170,7 +173,12 @@ variable_base env w id at x (InGuard key) e has ready =
 variable_base env w id at x (Capture closure part) e has ready =
     record {
       ready = ready;
-      holds = λ p stands. let m : (y : InScope) × (p.closure ≡ Some y) × (y.key ≡ closure) × (field_ty w.items y.ty 0 part ≡ Some x.ty) = means p stands in (refl, captured_holds (at_spot w.items env.answer p) closure part x.ty m.0 m.1 m.2 m.3);
+      holds = λ p stands. let m : (y : InScope) × (p.closure ≡ Some y) × (y.key ≡ closure) × (field_ty w.items y.ty 0
+          part ≡ Some x.ty) = means p stands in (
+            refl,
+            captured_holds (at_spot w.items env.answer p) closure part x.ty
+                m.0 m.1 m.2 m.3,
+          );
       moves = λ p stands h. refl;
       is_fixed = λ v g. refl;
       is_shared = λ v g. refl;
@@ -178,11 +186,6 @@ variable_base env w id at x (Capture closure part) e has ready =
   where
     means : (p : Spot) → Stands env w p → Means w.items p x.ty (Capture closure part)
     means p stands = subst (Means w.items p x.ty) (sym e) (stands.variables x has)
-
--- a place of the text
-pub record IsPlace (env : Env) (w : State) (n : Node) : Type 0 where
-  pub base : IsBase env w n
-  pub is : is_place (form_of n) ≡ true
 
 meaning_is_place : (name : List ℕ) (m : Meaning) → is_place (meaning_form name m) ≡ true
 meaning_is_place name (Local key) = refl
@@ -204,14 +207,21 @@ pub or_false : (a b : Bool) → IsTrue (not (a || b)) → IsTrue (not a) × IsTr
 or_false true b h = absurd (let no_ : IsTrue false = h in cc)
 or_false false b h = (refl, h)
 
-pub deref_base : (env : Env) (w : State) (id : ℕ) (at : Pos) (ty : TyId) (b : Node) → AreReady w.items → IsBase env w b →
+pub deref_base : (env : Env) (w : State) (id : ℕ) (at : Pos) (ty : TyId) (b : Node) → AreReady w.items → IsBase env w
+    b →
     inside_of w.items (ty_of b) ≡ Some ty → IsPlace env w (a_node_of id at ty (Deref b))
 deref_base env w id at ty b all base is =
     record {
       base = record {
         ready = (all.inside (ty_of b) ty is).0;
-        holds = λ p stands. (refl, (base.holds p stands, subst (λ o. Holds (some o (λ t. fact (is_same ty t)))) (sym is)
-            (same_self ty.0)));
+        holds = λ p stands. (
+          refl,
+          (
+            base.holds p stands,
+            subst (λ o. Holds (some o (λ t. fact (is_same ty t)))) (sym is)
+                (same_self ty.0),
+          ),
+        );
         moves = λ p stands h. let both_ = or_false _ _ h in and_true _ _ both_.0 (base.moves p stands both_.1);
         is_fixed = λ v g. λ i. same_reference g.items (ty_of b) base.ready i || base.is_fixed v g i;
         is_shared = λ v g. base.is_shared v g;
@@ -236,11 +246,14 @@ use_itself false = refl
 taken_holds : (c : Context) (copies : Bool) (n : Node) → is_place (form_of n) ≡ true → Holds (typed c Base n) → is_copy
     c.items (ty_of n) ≡ copies → IsTrue (copies || (may_move c n && not (is_dyn c.items (ty_of n)))) → IsTrue (not
     (is_reference c.items (ty_of n))) → Holds (typed c Taken (used (if copies then Use.Copy else Use.Move) n))
-taken_holds c copies (node id at ty old form) is base e moves no_ =
-    (if_holds (is_place form) (place_taken c ty (Some (if copies then Use.Copy else Use.Move)) form) _ is
-    (subst (λ b. IsTrue (is_by (if b then Use.Copy else Use.Move) (Some (if copies then Use.Copy else Use.Move)))) (sym e)
-    (use_itself copies) ⋆ subst (λ b. IsTrue (b || (may_move_by c form && not (is_dyn c.items ty)))) (sym e) moves ⋆
-    no_), base.1)
+taken_holds c copies (node id at ty old form) is base e moves no_ = (
+  if_holds (is_place form) (place_taken c ty (Some (if copies then Use.Copy else Use.Move)) form) _ is
+      (subst (λ b. IsTrue (is_by (if b then Use.Copy else Use.Move) (Some (if copies then Use.Copy else Use.Move))))
+      (sym e)
+      (use_itself copies) ⋆ subst (λ b. IsTrue (b || (may_move_by c form && not (is_dyn c.items ty)))) (sym e) moves ⋆
+      no_),
+  base.1,
+)
 
 used_base : (c : Context) (by : Use) (n : Node) → ty_of (used by n) ≡ ty_of n
 used_base c by (node id at ty old form) = refl
@@ -272,8 +285,10 @@ taken_value : (env : Env) (t w : State) (n : Node) → AreReady t.items → Grow
     n))) → IsTrue (not (is_reference t.items (ty_of n))) → IsValue env None w (used (taking t.items (ty_of n)) n)
 taken_value env t w n all g now base moves no_reference =
     record {
-      alone = subst (IsAlone w.items) (sym (used_base (at_spot w.items env.answer none) _ n)) (alone_later g.items (ty_of n)
-          (alone_from t.items (ty_of n) now.base.ready (no_dyn (is_copy t.items (ty_of n)) (copy_no_dyn t.items (ty_of n))
+      alone = subst (IsAlone w.items) (sym (used_base (at_spot w.items env.answer none) _ n)) (alone_later g.items
+          (ty_of n)
+          (alone_from t.items (ty_of n) now.base.ready (no_dyn (is_copy t.items (ty_of n)) (copy_no_dyn t.items (ty_of
+          n))
           moves) no_reference));
       fit = refl;
       holds = λ p stands.
@@ -298,7 +313,8 @@ taken_value env t w n all g now base moves no_reference =
 pub taken_sound : (env : Env) (want : Option TyId) (n : Node) (t : State) → IsPlace env t n → ((w : State) → Grows t w
     → IsPlace env w n) → Gives t (IsValue env want) (taken env want n t)
 taken_sound env want n t now later =
-    with_ready λ ready. bind (fitted_gives env want m t (subst (λ f. IsTrue (is_leaf f)) (sym (same_leaf _ n)) (place_leaf (form_of n)
+    with_ready λ ready. bind (fitted_gives env want m t (subst (λ f. IsTrue (is_leaf f)) (sym (same_leaf _ n))
+    (place_leaf (form_of n)
     now.is))) λ v u g d.
     obeyed Rule.T07 (place_in_text n) (is_copy t.items (ty_of n) || not (is_fixed t.items (in_own_guard env.variables) n
     || is_dyn t.items (ty_of n))) _ λ moves.

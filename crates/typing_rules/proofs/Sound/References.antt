@@ -1,8 +1,7 @@
 -- Borrows, and references that are passed on.
-use Rattle.std.proofs.Common.{◌≡◌, ℕ, zero, suc, Bool, true, false, ◌&&◌, ◌||◌, ◌==◌, not, if◌then◌else◌, List, [], ◌∷◌, slice_get, Option, Some, None, IsTrue, Contains, ◌⊎◌, inl, inr, refl, ap, sym, subst, ◌∙◌, arith}
+use Rattle.std.proofs.Common.{◌≡◌, ℕ, suc, Bool, true, false, ◌&&◌, ◌||◌, not, if◌then◌else◌, Option, Some, None, IsTrue, Contains, refl, ap, sym, subst, ◌∙◌, arith}
 use Rattle.std.specs.Prelude.{option_and_then, is_some, is_none}
 use Rattle.std.specs.Option.{option_map_or}
-use Rattle.std.proofs.lemmas.Bool.{false≢true, true≢false}
 use Rattle.std.proofs.lemmas.Option.{none-some, same_Some}
 use Rattle.mir_base.specs.declared.place_in_text.Pos.{Pos}
 use Rattle.mir_base.specs.declared.rule.Rule.{Rule}
@@ -12,24 +11,25 @@ use Rattle.mir_ty.specs.ItemTable.{ItemTable, type_at}
 use Rattle.typed_tree.specs.declared.node.Use.{Use}
 use Rattle.typed_tree.specs.Tree as tree
 use Rattle.typed_tree.specs.Tree.{Node, node, Form, Deref}
-use Rattle.well_typed.specs.Claim.{Claim, Holds, some, fact, both}
-use Rattle.well_typed.specs.Nodes.{typed, row}
+use Rattle.well_typed.specs.Claim.{Holds, some, fact, both}
+use Rattle.well_typed.specs.Nodes.{typed}
 use Rattle.well_typed.specs.Places as well
 use Rattle.well_typed.specs.Places.{Context, ty_of, form_of, is_place, is_borrow, is_by, is_use, Base, Used, Passed}
-use Rattle.well_typed.specs.Types.{is_same, is_never, is_never_ty, is_reference, reference_of, reference_in, inside_of, inside_in}
+use Rattle.well_typed.specs.Types.{is_same, is_never_ty, is_reference, reference_of, reference_in, inside_of, inside_in}
 use Rattle.well_typed.proofs.ClaimLemmas.{and_true, true_left, true_right}
-use Rattle.typing_rules.specs.Check.{Check, State, interned}
-use Rattle.typing_rules.specs.Places.{a_node_of, used, is_behind_shared, is_shared_root, names_shared, meaning_form, place_in_text, variable_place}
-use Rattle.typing_rules.specs.Promises.{Extends, IsReady, IsKnown, AreReady, Grows, Fact, Gives, Spot, at_spot, Stands, Knows, IsBase, SoundBase}
-use Rattle.typing_rules.specs.Rows.{Referrer, borrow, borrow_of, borrow_by, reference_ty, used_if_place, is_same_truth, passed_on, passes}
+use Rattle.typing_rules.specs.Check.{Check, State}
+use Rattle.typing_rules.specs.Places.{a_node_of, is_behind_shared, is_shared_root, names_shared, meaning_form, place_in_text}
+use Rattle.typing_rules.specs.Promises.{IsReady, AreReady, Grows, Gives, at_spot, IsBase, SoundBase}
+use Rattle.typing_rules.specs.RowPromises.{IsArgument, IsMade, SoundReferrer}
+use Rattle.typing_rules.specs.Rows.{borrow, borrow_of, borrow_by, reference_ty, used_if_place, is_same_truth, passed_on, passes}
 use Rattle.typing_rules.specs.Scope.{Env, Entry, Meaning, Local, Capture, InGuard}
-use Rattle.typing_rules.proofs.Sound.Arguments.{IsNamed, named_sound, IsArgument, SoundReferrer, passed_borrow, behind_same, behind_later}
-use Rattle.typing_rules.proofs.Sound.Fitted.{same_self, or_left, or_right}
-use Rattle.typing_rules.proofs.Sound.Gives.{◌⋆◌, bind, with_ready, given, weaker, obeyed, found, after_number, numbered, grows_trans, grows_refl, grows_number, knows_later, knows_number}
-use Rattle.typing_rules.proofs.Sound.Interned.{IsMade, interned_sound}
-use Rattle.typing_rules.proofs.Sound.Later.{ready_later, type_later, in_later, same_in, same_reference, some_got}
+use Rattle.typing_rules.proofs.Sound.Arguments.{named_sound, passed_borrow, behind_same, behind_later}
+use Rattle.typing_rules.proofs.Sound.Fitted.{same_self}
+use Rattle.typing_rules.proofs.Sound.Gives.{◌⋆◌, bind, with_ready, given, obeyed, after_number, numbered, grows_trans, grows_refl, knows_number}
+use Rattle.typing_rules.proofs.Sound.Interned.{interned_sound}
+use Rattle.typing_rules.proofs.Sound.Later.{ready_later, type_later, in_later, same_reference, some_got}
 use Rattle.typing_rules.proofs.Sound.Operators.{same_id}
-use Rattle.typing_rules.proofs.Sound.Places.{variable_base, deref_base, if_holds, else_holds, truth_of}
+use Rattle.typing_rules.proofs.Sound.Places.{variable_base, deref_base, truth_of}
 
 -- ---- a place that is used so, and a value that becomes a temporary
 
@@ -45,14 +45,19 @@ pub used_holds : (c : Context) (by : Use) (n : Node) → Holds (typed c Base n) 
     n))) → Holds (typed c (Used by) (used_if_place by n))
 used_holds c by (node id at ty old form) base no_reference = so (is_place form) refl
   where
-    so : (b : Bool) → is_place form ≡ b → Holds (typed c (Used by) (if b then node id at ty (Some by) form else node id at
+    so : (b : Bool) → is_place form ≡ b → Holds (typed c (Used by) (if b then node id at ty (Some by) form else node
+        id at
         ty old form))
-    so true is =
-        (and_true _ (not (is_reference c.items ty)) (subst (λ b. IsTrue (if b then is_by by (Some by) else is_none (Some
-        by) && not (is_borrow form))) (sym is) (use_self by)) no_reference, base.1)
-    so false is =
-        (and_true _ (not (is_reference c.items ty)) (subst (λ b. IsTrue (if b then is_by by old else is_none old && not
-        (is_borrow form))) (sym is) base.0) no_reference, base.1)
+    so true is = (
+      and_true _ (not (is_reference c.items ty)) (subst (λ b. IsTrue (if b then is_by by (Some by) else is_none (Some
+          by) && not (is_borrow form))) (sym is) (use_self by)) no_reference,
+      base.1,
+    )
+    so false is = (
+      and_true _ (not (is_reference c.items ty)) (subst (λ b. IsTrue (if b then is_by by old else is_none old && not
+          (is_borrow form))) (sym is) base.0) no_reference,
+      base.1,
+    )
 
 pub used_type : (by : Use) (n : Node) → ty_of (used_if_place by n) ≡ ty_of n
 used_type by (node id at ty old form) = so (is_place form)
@@ -61,7 +66,8 @@ used_type by (node id at ty old form) = so (is_place form)
     so true = refl
     so false = refl
 
-used_shared : (c : Context) (by : Use) (n : Node) → well.is_behind_shared c (used_if_place by n) ≡ is_behind_shared c.items
+used_shared : (c : Context) (by : Use) (n : Node) → well.is_behind_shared c (used_if_place by n) ≡ is_behind_shared
+    c.items
     n
 used_shared c by (node id at ty old form) = so (is_place form) ∙ behind_same c by (node id at ty old form)
   where
@@ -72,21 +78,26 @@ used_shared c by (node id at ty old form) = so (is_place form) ∙ behind_same c
 
 -- ---- references
 
-reference_made : (items : ItemTable) (unique : Bool) (to : TyId) → IsReady items to → IsTrue (not (is_reference items to))
+reference_made : (items : ItemTable) (unique : Bool) (to : TyId) → IsReady items to → IsTrue (not (is_reference items
+    to))
     → IsMade items (reference_ty unique to)
 reference_made items true to ready no_reference =
     record {
       held = λ part has. absurd (omega (arith, has.1));
       parts = λ part variant n is. absurd (none-some part is);
-      inside = λ t is. subst (λ u. IsReady items u × IsTrue (not (is_reference items u))) (same_Some to t is) (ready,
-          no_reference);
+      inside = λ t is. subst (λ u. IsReady items u × IsTrue (not (is_reference items u))) (same_Some to t is) (
+        ready,
+        no_reference,
+      );
     }
 reference_made items false to ready no_reference =
     record {
       held = λ part has. absurd (omega (arith, has.1));
       parts = λ part variant n is. absurd (none-some part is);
-      inside = λ t is. subst (λ u. IsReady items u × IsTrue (not (is_reference items u))) (same_Some to t is) (ready,
-          no_reference);
+      inside = λ t is. subst (λ u. IsReady items u × IsTrue (not (is_reference items u))) (same_Some to t is) (
+        ready,
+        no_reference,
+      );
     }
 
 reference_is : (ty : Ty) (unique : Bool) (to : TyId) → reference_in ty ≡ Some (unique, to) → ty ≡ reference_ty unique to
@@ -96,8 +107,10 @@ reference_is (Ty.Unique t) unique to h =
     let same = same_Some (true, t) (unique, to) h in ap (λ (r : Bool × TyId). reference_ty r.0 r.1) same
 reference_is _ unique to h = absurd (none-some (unique, to) h)
 
-pub reference_type : (items : ItemTable) (id : TyId) (unique : Bool) (to : TyId) → reference_of items id ≡ Some (unique,
-    to) → type_at items id ≡ Some (reference_ty unique to)
+pub reference_type : (items : ItemTable) (id : TyId) (unique : Bool) (to : TyId) → reference_of items id ≡ Some (
+  unique,
+  to,
+) → type_at items id ≡ Some (reference_ty unique to)
 reference_type items id unique to h =
     let known = some_got reference_in (type_at items id) (unique, to) h in
     known.1 ∙ ap Some (reference_is known.0 unique to known.2)
@@ -110,8 +123,10 @@ reference_back : (unique : Bool) (to : TyId) → reference_in (reference_ty uniq
 reference_back true to = refl
 reference_back false to = refl
 
-pub inside_reference : (items : ItemTable) (id : TyId) (unique : Bool) (to : TyId) → reference_of items id ≡ Some (unique,
-    to) → inside_of items id ≡ Some to
+pub inside_reference : (items : ItemTable) (id : TyId) (unique : Bool) (to : TyId) → reference_of items id ≡ Some (
+  unique,
+  to,
+) → inside_of items id ≡ Some to
 inside_reference items id unique to h =
     ap (option_and_then inside_in) (reference_type items id unique to h) ∙ by unique
   where
@@ -130,30 +145,38 @@ own_truth true = refl
 own_truth false = refl
 
 -- a borrow of what is no reference and, if it is unique, is not behind `&`
-pub borrowed : (env : Env) (id : ℕ) (at : Pos) (param : TyId) (unique : Bool) (b : Node) (s : State) → ((w : State) → Grows
-    s w → IsBase env w b) → IsTrue (not (is_reference s.items (ty_of b))) → IsTrue (not (unique && is_behind_shared s.items
-    b)) → reference_of s.items param ≡ Some (unique, ty_of b) → Gives s (IsArgument env param) (borrow_of id at unique b s)
+pub borrowed : (env : Env) (id : ℕ) (at : Pos) (param : TyId) (unique : Bool) (b : Node) (s : State) → ((w : State) →
+    Grows
+    s w → IsBase env w b) → IsTrue (not (is_reference s.items (ty_of b))) → IsTrue (not (unique && is_behind_shared
+    s.items
+    b)) → reference_of s.items param ≡ Some (unique, ty_of b) → Gives s (IsArgument env param) (borrow_of id at unique
+    b s)
 borrowed env id at param unique b s base no_reference shared is =
     bind (interned_sound (reference_ty unique (ty_of b)) s (reference_made s.items unique (ty_of b) (base s (grows_refl
     s)).ready no_reference)) λ ty t g d.
     given _ λ all w l.
     let on = grows_trans g l in
-    let here_ = type_later on.items param (reference_ty unique (ty_of b)) (reference_type s.items param unique (ty_of b) is)
+    let here_ = type_later on.items param (reference_ty unique (ty_of b)) (reference_type s.items param unique (ty_of
+    b) is)
     in
     let number = (l.ready all).distinct param.0 ty.0 (reference_ty unique (ty_of b)) here_ (d w l) in
     let same : param ≡ ty = λ i. record { 0 = number i } in
     let of = ap (option_and_then reference_in) here_ ∙ reference_back unique (ty_of b) in
-    subst (λ u. IsArgument env param w (a_node_of id at u (tree.Borrow unique (used_if_place (borrow_by unique) b)))) same
+    subst (λ u. IsArgument env param w (a_node_of id at u (tree.Borrow unique (used_if_place (borrow_by unique) b))))
+    same
     (record {
       holds = λ p stands.
           let c = at_spot w.items env.answer p in
           passed_borrow c param id at unique (used_if_place (borrow_by unique) b)
           (subst (λ o. IsTrue (is_some o)) (sym of) refl)
-          (used_holds c (borrow_by unique) b ((base w on).holds p stands) (subst (λ x. IsTrue (not x)) (sym (same_reference
+          (used_holds c (borrow_by unique) b ((base w on).holds p stands) (subst (λ x. IsTrue (not x)) (sym
+          (same_reference
           on.items (ty_of b) (base s (grows_refl s)).ready)) no_reference) ⋆
-          subst (λ x. IsTrue (not (unique && x))) (sym (used_shared c (borrow_by unique) b ∙ behind_later env s w b (base s
+          subst (λ x. IsTrue (not (unique && x))) (sym (used_shared c (borrow_by unique) b ∙ behind_later env s w b
+          (base s
           (grows_refl s)) on)) shared ⋆
-          subst (λ o. Holds (some o (λ (r : Bool × TyId). both (fact (is_same (ty_of (used_if_place (borrow_by unique) b))
+          subst (λ o. Holds (some o (λ (r : Bool × TyId). both (fact (is_same (ty_of (used_if_place (borrow_by unique)
+          b))
           r.1)) (fact (if unique then r.0 else not r.0))))) (sym of) (subst (λ u. IsTrue (is_same u (ty_of b))) (sym
           (used_type (borrow_by unique) b)) (same_self (ty_of b).0) ⋆ own_truth unique))
           (subst (λ o. IsTrue (not (option_map_or is_never_ty o false))) (sym here_) (truth_of _ (never_no unique (ty_of
@@ -174,7 +197,8 @@ borrow_sound env at unique base good param to is_unique s k is =
 -- ---- a reference variable that is passed on
 
 -- the root of what a variable names is no `&`, where `&mut` is asked for
-root_of : (items : ItemTable) (id : ℕ) (at : Pos) (x : Entry) (m : Meaning) (r : Bool × TyId) → reference_of items x.ty ≡
+root_of : (items : ItemTable) (id : ℕ) (at : Pos) (x : Entry) (m : Meaning) (r : Bool × TyId) → reference_of items
+    x.ty ≡
     Some r → IsTrue r.0 → is_shared_root items (a_node_of id at x.ty (meaning_form x.name m)) ≡ false
 root_of items id at x (Local key) r is h = ap names_shared is ∙ ap not h
 root_of items id at x (InGuard key) r is h = ap names_shared is ∙ ap not h
@@ -188,7 +212,8 @@ or_not false b h g = absurd (by b h g)
     by true h g = let no_ : IsTrue false = h in cc
     by false h g = let no_ : IsTrue false = g in cc
 
-not_shared : (unique : Bool) (r root : Bool) → IsTrue (r || not unique) → (IsTrue r → root ≡ false) → IsTrue (not (unique
+not_shared : (unique : Bool) (r root : Bool) → IsTrue (r || not unique) → (IsTrue r → root ≡ false) → IsTrue (not
+    (unique
     && root))
 not_shared true r root h none = truth_of root (none (or_not r true h refl))
 not_shared false r root h none = refl
@@ -207,7 +232,8 @@ passed_on_sound env at x has param to is_unique s k is =
     n : Node
     n = a_node_of (suc s.next_node) at to (Deref v)
 
-    by : AreReady s.items → (o : Option (Bool × TyId)) → reference_of s.items x.ty ≡ o → IsTrue (passes is_unique to o) →
+    by : AreReady s.items → (o : Option (Bool × TyId)) → reference_of s.items x.ty ≡ o → IsTrue (passes is_unique to
+        o) →
         Gives t (IsArgument env param) (borrow_of s.next_node at is_unique n t)
     by all None e ok = absurd (let no_ : IsTrue false = ok in cc)
     by all (Some r) e ok =

@@ -1,13 +1,11 @@
 -- Names that come into scope.
-use Rattle.std.proofs.Common.{◌≡◌, ℕ, zero, suc, ◌≤◌, Bool, true, false, ◌==◌, if◌then◌else◌, List, [], ◌∷◌, ◌++◌, map, Option, Some, None, IsTrue, Contains, ◌⊎◌, inl, inr, refl, ap, sym, subst, ◌∙◌, arith}
-use Rattle.std.specs.List.{find}
-use Rattle.std.proofs.lemmas.Bool.{eqb-true, false≢true, true≢false}
-use Rattle.std.proofs.lemmas.Option.{same_Some}
+use Rattle.std.proofs.Common.{◌≡◌, ℕ, suc, ◌≤◌, Bool, true, false, ◌==◌, if◌then◌else◌, List, [], ◌∷◌, ◌++◌, Some, Contains, ◌⊎◌, inl, inr, refl, ap, sym, subst, ◌∙◌, arith}
+use Rattle.std.proofs.lemmas.Bool.{eqb-true}
 use Rattle.mir_ty.specs.declared.ty.TyId.{TyId}
 use Rattle.mir_ty.specs.ItemTable.{ItemTable}
 use Rattle.well_typed.specs.Places.{InScope, entry_with}
 use Rattle.typing_rules.specs.Check.{State}
-use Rattle.typing_rules.specs.Promises.{IsReady, Grows, Spot, Means, Stands, IsBelow, Knows, in_scope, key_of, are_bound, AreFresh, AreReadyTypes}
+use Rattle.typing_rules.specs.Promises.{IsReady, Spot, Means, Stands, IsBelow, Knows, in_scope, key_of, are_bound, AreFresh, AreReadyTypes}
 use Rattle.typing_rules.specs.Scope.{Env, Entry, Meaning, Local, Capture, InGuard, with_variables, joined, in_guard, guarded}
 use Rattle.typing_rules.proofs.Sound.Fitted.{same_self}
 use Rattle.typing_rules.proofs.Sound.Jumps.{other_number}
@@ -35,19 +33,23 @@ module _ (m : ℕ) where
       x.meaning)) × (n ≤ key_of x.meaning) × (suc (key_of x.meaning) ≤ m)
   fresh_at n [] x h c = absurd (omega (arith, c.1))
   fresh_at n (y ∷ ys) x h c =
-      by (fresh_bound (suc (key_of y.meaning)) ys h.2) (contains_cases y ys x c) (λ d. fresh_at (suc (key_of y.meaning)) ys
+      by (fresh_bound (suc (key_of y.meaning)) ys h.2) (contains_cases y ys x c) (λ d. fresh_at (suc (key_of
+      y.meaning)) ys
       x h.2 d)
     where
-      by : suc (key_of y.meaning) ≤ m → (y ≡ x) ⊎ Contains ys x → (Contains ys x → (x.meaning ≡ Local (key_of x.meaning)) ×
+      by : suc (key_of y.meaning) ≤ m → (y ≡ x) ⊎ Contains ys x → (Contains ys x → (x.meaning ≡ Local (key_of
+          x.meaning)) ×
           (suc (key_of y.meaning) ≤ key_of x.meaning) × (suc (key_of x.meaning) ≤ m)) → (x.meaning ≡ Local (key_of
           x.meaning)) × (n ≤ key_of x.meaning) × (suc (key_of x.meaning) ≤ m)
       by below (inl same) on =
-          subst (λ (z : Entry). (z.meaning ≡ Local (key_of z.meaning)) × (n ≤ key_of z.meaning) × (suc (key_of z.meaning)
+          subst (λ (z : Entry). (z.meaning ≡ Local (key_of z.meaning)) × (n ≤ key_of z.meaning) × (suc (key_of
+          z.meaning)
           ≤ m)) same (h.0, h.1, below)
       by below (inr more) on = let is = on more in (is.0, omega (arith, h.1, is.1), is.2)
 
   -- an entry is found by its number
-  pub entry_found : (guard : Bool) (n : ℕ) (xs : List Entry) (old : List InScope) (x : Entry) → AreFresh n xs m → Contains
+  pub entry_found : (guard : Bool) (n : ℕ) (xs : List Entry) (old : List InScope) (x : Entry) → AreFresh n xs m →
+      Contains
       xs x → entry_with (key_of x.meaning) (are_bound guard xs ++ old) ≡ Some (in_scope (key_of x.meaning) x.ty guard)
   entry_found guard n [] old x h c = absurd (omega (arith, c.1))
   entry_found guard n (y ∷ ys) old x h c =
@@ -73,11 +75,13 @@ module _ (m : ℕ) where
           (ap (λ b. if b then Some (in_scope (key_of y.meaning) y.ty guard) else entry_with (key_of y.meaning) rest)
           (same_self (key_of y.meaning)))
       by (inr later) on more =
-          ap (λ b. if b then Some (in_scope (key_of y.meaning) y.ty guard) else entry_with (key_of x.meaning) rest) (less
+          ap (λ b. if b then Some (in_scope (key_of y.meaning) y.ty guard) else entry_with (key_of x.meaning) rest)
+          (less
           (key_of y.meaning) (key_of x.meaning) (more later)) ∙ on later
 
   -- an older entry is found as before
-  pub entry_behind : (guard : Bool) (n : ℕ) (xs : List Entry) (old : List InScope) (key : ℕ) → AreFresh n xs m → suc key ≤ n
+  pub entry_behind : (guard : Bool) (n : ℕ) (xs : List Entry) (old : List InScope) (key : ℕ) → AreFresh n xs m → suc
+      key ≤ n
       → entry_with key (are_bound guard xs ++ old) ≡ entry_with key old
   entry_behind guard n [] old key h below = refl
   entry_behind guard n (y ∷ ys) old key h below =
@@ -89,9 +93,11 @@ module _ (m : ℕ) where
 abbrev pub behind : List InScope → Spot → Spot
 behind new p = record p { entries = new ++ p.entries }
 
-module _ (env : Env) (s w : State) (p : Spot) (n m : ℕ) (xs : List Entry) (k : Knows env s) (from : s.next_node ≤ n) (fresh
+module _ (env : Env) (s w : State) (p : Spot) (n m : ℕ) (xs : List Entry) (k : Knows env s) (from : s.next_node ≤ n)
+    (fresh
     : AreFresh n xs m) (stands : Stands env w p) where
-  old_means : (guard : Bool) (ty : TyId) (means : Meaning) → IsBelow s.next_node means → Means w.items p ty means → Means
+  old_means : (guard : Bool) (ty : TyId) (means : Meaning) → IsBelow s.next_node means → Means w.items p ty means →
+      Means
       w.items (behind (are_bound guard xs) p) ty means
   old_means guard ty (Local key) below h =
       entry_behind m guard n xs p.entries key fresh (omega (arith, below, from)) ∙ h
@@ -117,13 +123,15 @@ module _ (env : Env) (s w : State) (p : Spot) (n m : ℕ) (xs : List Entry) (k :
       by x (inl new_) = new_means x new_
       by x (inr old) = old_means false x.ty x.meaning (k.keys x old) (stands.variables x old)
 
-  guarded_from : (ys : List Entry) (y : Entry) → Contains (in_guard ys) y → (x : Entry) × Contains ys x × (y.ty ≡ x.ty) ×
+  guarded_from : (ys : List Entry) (y : Entry) → Contains (in_guard ys) y → (x : Entry) × Contains ys x × (y.ty ≡
+      x.ty) ×
       (y.meaning ≡ guarded x.meaning)
   guarded_from [] y c = absurd (omega (arith, c.1))
   guarded_from (z ∷ zs) y c = by (λ d. guarded_from zs y d) (contains_cases _ (in_guard zs) y c)
     where
       by : (Contains (in_guard zs) y → (x : Entry) × Contains zs x × (y.ty ≡ x.ty) × (y.meaning ≡ guarded x.meaning)) →
-          (record z { meaning = guarded z.meaning } ≡ y) ⊎ Contains (in_guard zs) y → (x : Entry) × Contains (z ∷ zs) x ×
+          (record z { meaning = guarded z.meaning } ≡ y) ⊎ Contains (in_guard zs) y → (x : Entry) × Contains (z ∷ zs)
+          x ×
           (y.ty ≡ x.ty) × (y.meaning ≡ guarded x.meaning)
       by on (inl same) =
           (z, (0, omega arith, refl), ap (λ (u : Entry). u.ty) (sym same), ap (λ (u : Entry). u.meaning) (sym same))
@@ -137,20 +145,23 @@ module _ (env : Env) (s w : State) (p : Spot) (n m : ℕ) (xs : List Entry) (k :
         loops = λ a c. stands.loops a c;
       }
     where
-      new_ : (y x : Entry) → Contains xs x → y.ty ≡ x.ty → y.meaning ≡ guarded x.meaning → Means w.items (behind (are_bound
+      new_ : (y x : Entry) → Contains xs x → y.ty ≡ x.ty → y.meaning ≡ guarded x.meaning → Means w.items (behind
+          (are_bound
           true xs) p) y.ty y.meaning
       new_ y x c ty meaning =
           subst (λ u. Means w.items (behind (are_bound true xs) p) u y.meaning) (sym ty)
           (subst (Means w.items (behind (are_bound true xs) p) x.ty) (sym (meaning ∙ ap guarded (fresh_at m n xs x fresh
           c).0)) (entry_found m true n xs p.entries x fresh c))
 
-      by : (y : Entry) → Contains (in_guard xs) y ⊎ Contains env.variables y → Means w.items (behind (are_bound true xs) p)
+      by : (y : Entry) → Contains (in_guard xs) y ⊎ Contains env.variables y → Means w.items (behind (are_bound true
+          xs) p)
           y.ty y.meaning
       by y (inl c) = let x = guarded_from xs y c in new_ y x.0 x.1 x.2 x.3
       by y (inr old) = old_means true y.ty y.meaning (k.keys y old) (stands.variables y old)
 
 -- what is known of them
-ready_at : (items : ItemTable) (xs : List Entry) (x : Entry) → AreReadyTypes items xs → Contains xs x → IsReady items x.ty
+ready_at : (items : ItemTable) (xs : List Entry) (x : Entry) → AreReadyTypes items xs → Contains xs x → IsReady items
+    x.ty
 ready_at items [] x h c = absurd (omega (arith, c.1))
 ready_at items (y ∷ ys) x h c = by (contains_cases y ys x c) (λ d. ready_at items ys x h.1 d)
   where

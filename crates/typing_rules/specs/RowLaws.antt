@@ -1,0 +1,125 @@
+-- The rows of forms that keep the promise: where the checks of a node's parts give what is well typed, so does the row.
+use Rattle.std.specs.Prelude.{◌≡◌, ℕ, Bool, List, [], ◌∷◌, Option, Some, Contains}
+use Rattle.mir_base.specs.declared.int_kind.IntKind.{IntKind}
+use Rattle.mir_base.specs.declared.operator.Cmp.{Cmp}
+use Rattle.mir_base.specs.declared.operator.Math.{Math}
+use Rattle.mir_base.specs.declared.place_in_text.Pos.{Pos}
+use Rattle.mir_ty.specs.declared.ty.Ty.{Ty}
+use Rattle.mir_ty.specs.declared.ty.TyId.{TyId}
+use Rattle.mir_ty.specs.ItemTable.{type_at}
+use Rattle.typed_tree.specs.Tree as tree
+use Rattle.typed_tree.specs.Tree.{Node, Nodes}
+use Rattle.typing_rules.specs.Check.{Check, State, interned}
+use Rattle.typing_rules.specs.Places.{unit, bool, never, int, variable_place, struct_field, numbered_part}
+use Rattle.typing_rules.specs.Promises.{Grows, Gives, IsKnown, Knows, IsValue, Sound, SoundTemporary, SoundBase}
+use Rattle.typing_rules.specs.RowPromises.{IsMade, IsPlace, IsArgument, SoundReferrer, SoundArgs, SoundParts, SoundElements, SoundMaybe, IsLoopOf, SoundStatements, SoundTail, SoundStatement}
+use Rattle.typing_rules.specs.Rows.{Typer, Referrer, leaf, taken, field, deref, element, not_row, negate, arithmetic, comparison, logic, store, borrow, passed_on, argument, built_in, print_form, drop_form, forget_form, new_box, tuple_row, array_row, block, if_alone, if_else, while_row, break_row, continue_row, return_row, evaluate}
+use Rattle.typing_rules.specs.Scope.{Env, Entry, Around, within_loop}
+use Rattle.typing_rules.specs.Syntax.{Word}
+
+-- a type gets one number, and all types stay what they are
+abbrev pub TypesAreKept : Type 0
+TypesAreKept = (ty : Ty) (s : State) → IsMade s.items ty → Gives s (λ w id. type_at w.items id ≡ Some ty) (interned ty
+    s)
+
+pub record Leaves : Type 0 where
+  pub truth : (env : Env) (at : Pos) (value : Bool) → SoundTemporary env (leaf at bool (tree.Truth value))
+  pub unit_value : (env : Env) (at : Pos) → SoundTemporary env (leaf at unit tree.UnitValue)
+  pub panic : (env : Env) (at : Pos) → SoundTemporary env (leaf at never tree.Panic)
+
+pub record Operators : Type 0 where
+  pub negation : (env : Env) (at : Pos) (operand : Typer) → Sound env operand → SoundTemporary env (not_row at operand)
+  pub minus : (env : Env) (at : Pos) (operand : Typer) → Sound env operand → SoundTemporary env (negate at operand)
+  pub calculation : (env : Env) (at : Pos) (operator : Math) (is_literal : Bool) (left right : Typer) → Sound env left →
+      Sound env right → SoundTemporary env (arithmetic at operator is_literal left right)
+  pub compared : (env : Env) (at : Pos) (operator : Cmp) (is_literal : Bool) (left right : Typer) → Sound env left →
+      Sound
+      env right → SoundTemporary env (comparison at operator is_literal left right)
+  pub and_also : (env : Env) (at : Pos) (left right : Typer) → Sound env left → Sound env right → SoundTemporary env
+      (logic
+      at tree.And left right)
+  pub or_else : (env : Env) (at : Pos) (left right : Typer) → Sound env left → Sound env right → SoundTemporary env
+      (logic at
+      tree.Or left right)
+  pub assignment : (env : Env) (at : Pos) (place : Check Node) (value : Typer) → SoundBase env place → Sound env value →
+      SoundTemporary env (store env at place value)
+
+-- places, and places that are taken
+pub record Places : Type 0 where
+  pub variable : (env : Env) (at : Pos) (x : Entry) → Contains env.variables x → (s : State) → Knows env s → Gives s
+      (IsPlace
+      env) (variable_place at x s)
+  pub named_field : (env : Env) (at : Pos) (name : Word) (base : Check Node) → SoundBase env base → (s : State) →
+      Knows env s
+      → Gives s (IsPlace env) (field at (struct_field name) base s)
+  pub numbered_field : (env : Env) (at : Pos) (n : ℕ) (base : Check Node) → SoundBase env base → (s : State) → Knows
+      env s →
+      Gives s (IsPlace env) (field at (numbered_part n) base s)
+  pub dereferenced : (env : Env) (at : Pos) (base : Check Node) → SoundBase env base → (s : State) → Knows env s →
+      Gives s
+      (IsPlace env) (deref at base s)
+  pub indexed : (env : Env) (at : Pos) (base : Check Node) (index : Typer) → SoundBase env base → Sound env index → (s :
+      State) → Knows env s → Gives s (IsPlace env) (element at base index s)
+  pub is_taken : (env : Env) (want : Option TyId) (n : Node) (s : State) → IsPlace env s n → ((w : State) → Grows s w →
+      IsPlace env w n) → Gives s (IsValue env want) (taken env want n s)
+
+-- arguments by value and by reference
+pub record Arguments : Type 0 where
+  pub by_borrow : (env : Env) (at : Pos) (unique : Bool) (base : Check Node) → SoundBase env base → SoundReferrer env
+      (borrow
+      at unique base)
+  pub by_passing_on : (env : Env) (at : Pos) (x : Entry) → Contains env.variables x → SoundReferrer env (passed_on at x)
+  pub either : (env : Env) (param : TyId) (by_value : Typer) (by_reference : Referrer) → Sound env by_value →
+      SoundReferrer
+      env by_reference → (s : State) → Knows env s → IsKnown s.items param → Gives s (IsArgument env param) (argument
+      param
+      by_value by_reference s)
+
+pub record BuiltIns : Type 0 where
+  pub print : (env : Env) (at : Pos) (count : ℕ) (args : List TyId → Check Nodes) → SoundArgs env count args →
+      SoundTemporary
+      env (built_in at unit print_form count 1 (args (int IntKind.I32 ∷ [])))
+  pub drop_value : (env : Env) (at : Pos) (count : ℕ) (args : List TyId → Check Nodes) → SoundArgs env count args →
+      SoundTemporary env (built_in at unit drop_form count 1 (args []))
+  pub forget : (env : Env) (at : Pos) (count : ℕ) (args : List TyId → Check Nodes) → SoundArgs env count args →
+      SoundTemporary env (built_in at unit forget_form count 1 (args []))
+  pub boxed : (env : Env) (at : Pos) (count : ℕ) (args : List TyId → Check Nodes) → SoundArgs env count args →
+      SoundTemporary
+      env (new_box at count args)
+
+pub record Aggregates : Type 0 where
+  pub tuples : (env : Env) (at : Pos) (count : ℕ) (parts : List (Option TyId) → Check (Nodes × List TyId)) →
+      SoundParts env
+      parts → SoundTemporary env (tuple_row at count parts)
+  pub arrays : (env : Env) (at : Pos) (count : ℕ) (elements : Option TyId → Check (Nodes × List TyId)) → SoundElements
+      env
+      count elements → SoundTemporary env (array_row at count elements)
+
+pub record Branches : Type 0 where
+  pub alone : (env : Env) (at : Pos) (c body : Typer) → Sound env c → Sound env body → SoundTemporary env (if_alone at c
+      body)
+  pub with_else : (env : Env) (at : Pos) (c body otherwise : Typer) → Sound env c → Sound env body → Sound env
+      otherwise →
+      SoundTemporary env (if_else at c body otherwise)
+  pub while_loop : (env : Env) (at : Pos) (label : Option Word) (c body : Around → Typer) → ((a : Around) → Sound
+      (within_loop
+      a env) (c a)) → ((a : Around) → Sound (within_loop a env) (body a)) → SoundTemporary env (while_row at label c
+      body)
+
+pub record Jumps : Type 0 where
+  pub breaking : (env : Env) (at : Pos) (to : Option Around) (value : Option TyId → Check tree.MaybeNode) → IsLoopOf
+      env to →
+      SoundMaybe env value → SoundTemporary env (break_row at to value)
+  pub continuing : (env : Env) (at : Pos) (to : Option Around) → IsLoopOf env to → SoundTemporary env (continue_row at
+      to)
+  pub returning : (env : Env) (at : Pos) (value : Option TyId → Check tree.MaybeNode) → SoundMaybe env value →
+      SoundTemporary
+      env (return_row at env.answer value)
+
+pub record Blocks : Type 0 where
+  pub evaluated : (env : Env) (at : Pos) (has_semicolon : Bool) (e : Typer) → Sound env e → SoundStatement env
+      (evaluate at
+      env has_semicolon e)
+  pub braces : (env : Env) (at : Pos) (check : Check (Nodes × Bool × Env)) (tail : Env → Option TyId → Check
+      tree.MaybeNode) →
+      SoundStatements env check → SoundTail env tail → SoundTemporary env (block at check tail)

@@ -1,0 +1,131 @@
+-- What the rows of forms ask of the checks of a node's parts, and what such checks give.
+use Rattle.std.specs.Prelude.{◌≡◌, ℕ, Bool, true, not, ◌||◌, List, [], ◌∷◌, Option, Some, None, IsTrue, Contains, slice_get}
+use Rattle.mir_ty.specs.declared.ty.Ty.{Ty}
+use Rattle.mir_ty.specs.declared.ty.TyId.{TyId}
+use Rattle.mir_ty.specs.ItemTable.{ItemTable}
+use Rattle.mir_ty.specs.Parts.{held_by, parts_of, field_ty}
+use Rattle.typed_tree.specs.Tree.{Node, Nodes, no_node, a_node, MaybeNode, absent, present}
+use Rattle.well_typed.specs.Claim.{Claim, Holds}
+use Rattle.well_typed.specs.Nodes.{typed, statements, ends_in}
+use Rattle.well_typed.specs.Patterns.{count_of}
+use Rattle.well_typed.specs.Places.{Context, ty_of, form_of, is_place, Wanted, Passed}
+use Rattle.well_typed.specs.Types.{is_reference, reference_of, has_fields, inside_in}
+use Rattle.typing_rules.specs.Check.{Check, State}
+use Rattle.typing_rules.specs.Places.{Member}
+use Rattle.typing_rules.specs.Promises.{IsReady, IsAlone, IsKnown, Gives, Spot, at_spot, Stands, Knows, IsValue, IsBase}
+use Rattle.typing_rules.specs.Rows.{Referrer}
+use Rattle.typing_rules.specs.Scope.{Env, Around}
+
+-- a place of the text
+pub record IsPlace (env : Env) (w : State) (n : Node) : Type 0 where
+  pub base : IsBase env w n
+  pub is : is_place (form_of n) ≡ true
+
+-- an argument for a parameter of a type
+pub record IsArgument (env : Env) (param : TyId) (w : State) (n : Node) : Type 0 where
+  pub holds : (p : Spot) → Stands env w p → Holds (typed (at_spot w.items env.answer p) (Passed param) n)
+
+-- what is passed by reference, where the parameter is a reference
+abbrev pub SoundReferrer : Env → Referrer → Type 0
+SoundReferrer env by_reference = (param to : TyId) (unique : Bool) (s : State) → Knows env s → reference_of s.items
+    param
+    ≡ Some (unique, to) → Gives s (IsArgument env param) (by_reference param unique to s)
+
+-- arguments for parameters, and values past them
+abbrev pub AreGiven : Env → List TyId → State → Nodes → Type 0
+AreGiven env tys w no_node = Unit {0}
+AreGiven env [] w (a_node first rest) = IsValue env None w first × AreGiven env [] w rest
+AreGiven env (ty ∷ tys) w (a_node first rest) = IsArgument env ty w first × AreGiven env tys w rest
+
+pub record IsGiven (env : Env) (params : List TyId) (count : ℕ) (w : State) (ns : Nodes) : Type 0 where
+  pub are : AreGiven env params w ns
+  pub counted : count_of ns ≡ count
+
+-- the checks of so many arguments
+abbrev pub SoundArgs : Env → ℕ → (List TyId → Check Nodes) → Type 0
+SoundArgs env count args = (params : List TyId) (s : State) → Knows env s → ((ty : TyId) → Contains params ty → IsKnown
+    s.items ty) → Gives s (IsGiven env params count) (args params s)
+
+-- parts, each of the type beside it
+abbrev pub AreParts : Env → State → Nodes → List TyId → Type 0
+AreParts env w no_node [] = Unit {0}
+AreParts env w no_node (ty ∷ tys) = ⊥
+AreParts env w (a_node first rest) [] = ⊥
+AreParts env w (a_node first rest) (ty ∷ tys) =
+    (IsAlone w.items ty × ((p : Spot) → Stands env w p → Holds (typed (at_spot w.items env.answer p) (Wanted ty)
+    first))) ×
+    AreParts env w rest tys
+
+-- the checks of parts, with the types that are required of them
+abbrev pub SoundParts : Env → (List (Option TyId) → Check (Nodes × List TyId)) → Type 0
+SoundParts env parts = (wants : List (Option TyId)) (s : State) → Knows env s → ((ty : TyId) → Contains wants (Some
+    ty) →
+    IsAlone s.items ty) → Gives s (λ w ps. AreParts env w ps.0 ps.1) (parts wants s)
+
+-- elements, each of its own type, and of the required one
+abbrev pub AreElements : Env → Option TyId → State → Nodes → List TyId → Type 0
+AreElements env want w no_node [] = Unit {0}
+AreElements env want w no_node (ty ∷ tys) = ⊥
+AreElements env want w (a_node first rest) [] = ⊥
+AreElements env want w (a_node first rest) (ty ∷ tys) =
+    (IsValue env want w first × (ty ≡ ty_of first)) × AreElements env want w rest tys
+
+abbrev pub SoundElements : Env → ℕ → (Option TyId → Check (Nodes × List TyId)) → Type 0
+SoundElements env count elements = (want : Option TyId) (s : State) → Knows env s → Gives s (λ w ps. AreElements env
+    want w
+    ps.0 ps.1 × (count_of ps.0 ≡ count)) (elements want s)
+
+-- what a type is made of is ready
+pub record IsMade (items : ItemTable) (ty : Ty) : Type 0 where
+  pub held : (part : TyId) → Contains (held_by items ty) part → IsAlone items part
+  pub parts : (part : TyId) (variant n : ℕ) → slice_get (parts_of items ty variant) n ≡ Some part → IsAlone items part
+  pub inside : (to : TyId) → inside_in ty ≡ Some to → IsReady items to × IsTrue (not (is_reference items to))
+
+-- a value that may be left out
+abbrev pub IsMaybe : Env → Option TyId → State → MaybeNode → Type 0
+IsMaybe env want w absent = Unit {0}
+IsMaybe env want w (present n) = IsValue env want w n
+
+abbrev pub SoundMaybe : Env → (Option TyId → Check MaybeNode) → Type 0
+SoundMaybe env value = (want : Option TyId) (s : State) → Knows env s → Gives s (IsMaybe env want) (value want s)
+
+-- a loop that is in scope
+abbrev pub IsLoopOf : Env → Option Around → Type 0
+IsLoopOf env to = (a : Around) → to ≡ Some a → Contains env.loops a
+
+-- statements, whether one of them ends the block, and where the rest of the block stands
+pub record AreStatements (env : Env) (w : State) (done : Nodes × Bool × Env) : Type 0 where
+  pub holds : (p : Spot) → Stands env w p → (behind : Context → Claim) → ((q : Spot) → Stands done.2 w q → Holds (behind
+      (at_spot w.items env.answer q))) → Holds (statements (at_spot w.items env.answer p) done.0 behind)
+  pub ends : ends_in w.items done.0 ≡ done.1
+  pub answer : done.2.answer ≡ env.answer
+
+-- the checks of statements, after which more names are known
+abbrev pub SoundStatements : Env → Check (Nodes × Bool × Env) → Type 0
+SoundStatements env check = (s : State) → Knows env s → Gives s (λ w done. AreStatements env w done × Knows done.2 w)
+    (check
+    s)
+
+-- a value that may be left out, where the names of another environment are known
+abbrev pub SoundTail : Env → (Env → Option TyId → Check MaybeNode) → Type 0
+SoundTail env tail = (inner : Env) → inner.answer ≡ env.answer → (want : Option TyId) (s : State) → Knows inner s →
+    Gives s
+    (IsMaybe inner want) (tail inner want s)
+
+-- one statement, in whose scope what is behind it stands
+pub record IsStatement (env : Env) (w : State) (done : Node × Bool × Env) : Type 0 where
+  pub holds : (p : Spot) → Stands env w p → (rest : Nodes) (behind : Context → Claim) → ((q : Spot) → Stands done.2 w
+      q →
+      Holds (statements (at_spot w.items env.answer q) rest behind)) → Holds (statements (at_spot w.items env.answer p)
+      (a_node done.0 rest) behind)
+  pub ends : (rest : Nodes) → ends_in w.items (a_node done.0 rest) ≡ (done.1 || ends_in w.items rest)
+  pub answer : done.2.answer ≡ env.answer
+
+abbrev pub SoundStatement : Env → Check (Node × Bool × Env) → Type 0
+SoundStatement env check = (s : State) → Knows env s → Gives s (λ w done. IsStatement env w done × Knows done.2 w)
+    (check s)
+
+-- a part that is found is a part of the type
+abbrev pub IsMember : Member (ℕ × TyId) → Type 0
+IsMember member = (items : ItemTable) (id : TyId) (f : ℕ × TyId) → member items id ≡ Some f → IsTrue (has_fields items
+    id) × (field_ty items id 0 f.0 ≡ Some f.1)
