@@ -1,0 +1,2 @@
+//! Drops of what stands at an address.
+#![tactic(auto)]

@@ -1,0 +1,10 @@
+//! The machine that runs graphs. What stands today are its first statements.
+#![tactic(auto)]
+
+mod actions;
+mod told;
+mod world;
+
+pub use actions::Outcome;
+pub use told::Told;
+pub use world::World;

@@ -1,0 +1,4 @@
+pub mod Activations
+pub mod Frames
+pub mod Marks
+pub mod Standing
