@@ -1,3 +1,4 @@
 pub mod Below
 pub mod Dropping
 pub mod DropSteps
+pub mod TurnsLeft

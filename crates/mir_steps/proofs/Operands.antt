@@ -116,7 +116,7 @@ found_same_trace : (now after : State) (value : Datum) (o : Option Located) (f :
 found_same_trace now after value None f same e = absurd (cc)
 found_same_trace now after value (Some s) f same e = ap (λ w. w.trace) (sym (second_of s.value value (f s) after e)) ∙ same s
 
-operand_same_trace : (setting : Setting) (operand : Operand) (now after : State) (value : Datum) → evaluate_operand setting (operand_of 0 operand) now ≡ Some (value, after) → after.trace ≡ now.trace
+pub operand_same_trace : (setting : Setting) (operand : Operand) (now after : State) (value : Datum) → evaluate_operand setting (operand_of 0 operand) now ≡ Some (value, after) → after.trace ≡ now.trace
 operand_same_trace setting (Copied place) now after value e = found_same_trace now after value (whole_at setting now (site_of 0 place)) (λ s. now) (λ s. refl) e
 operand_same_trace setting (Moved place) now after value e =
     found_same_trace now after value (whole_at setting now (site_of 0 place)) (λ s. stored_at s.address Gone now) (λ s. refl) e

@@ -1,5 +1,5 @@
 -- One step after another, as the machine does them.
-use Rattle.std.proofs.Common.{◌≡◌, ℕ, ℤ, Bool, true, not, List, [], map, All, Option, Some, None, refl, ap, sym, subst, ◌∙◌}
+use Rattle.std.proofs.Common.{◌≡◌, ℕ, ℤ, Bool, true, false, not, List, [], map, All, Option, Some, None, refl, ap, sym, subst, ◌∙◌}
 use Rattle.std.proofs.lemmas.List.Elements.{All-map}
 use Rattle.cfg_graph.specs.declared.place.Operand.{Operand}
 use Rattle.cfg_meaning.specs.Actions.{site_of, operand_of, operands_of}
@@ -10,15 +10,19 @@ use Rattle.mir_steps.proofs.Operands.{whole_same}
 use Rattle.mir_base.specs.Trace.{Trace}
 use Rattle.mir_steps.specs.declared.actions.Outcome.{Outcome}
 use Rattle.mir_steps.specs.declared.world.World.{World}
-use Rattle.mir_steps.specs.Steps.{seen, leaves, Goes, Halted, Does, truth_of, stored_and_told}
+use Rattle.mir_steps.specs.Steps.{seen, leaves, Goes, Halted, Does, truth_of, stored_and_told, number_by_truth, compared_as}
 use Rattle.mir_base.specs.declared.trace.Event.{Event}
 use Rattle.mir_steps.specs.Worlds.{state_of, run_setting, Evaluates, EvaluatesAll}
 use Rattle.store_model.specs.declared.value.Value.{Value, Value-F, fold-roll-Value}
 use Rattle.store_model.specs.declared.value.Value.TheVariants.{rolls-Bool}
-use Rattle.store_model.specs.Concrete.Effects.{evaluate_operand, evaluate_operands, with_operand, with_operands, put, put_if, or_stuck, whole_at, printed, tell_after, boxed}
+use Rattle.mir_base.specs.declared.operator.Cmp.{Cmp}
+use Rattle.mir_ty.specs.declared.adt.Adt.{Adt}
+use Rattle.store_model.specs.Concrete.Effects.{evaluate_operand, evaluate_operands, with_operand, with_two_operands, with_operands, put, put_if, or_stuck, whole_at, printed, tell_after, boxed, built, made_event, compared}
+use Rattle.std.specs.Prelude.{slice_get}
+use Rattle.std.specs.Option.{option_map_or}
 use Rattle.store_model.specs.Concrete.Location.{Setting, Located}
 use Rattle.store_model.specs.Concrete.State.{State, with_event, numbered_next}
-use Rattle.store_model.specs.Effects.{Site, Stuck, Out, Go, Unwind, Halts}
+use Rattle.store_model.specs.Effects.{Site, Stuck, Out, Go, Unwind, Halts, OfVariant}
 use Rattle.store_model.specs.Values.Datum.{Datum, Gone, Number, Truth, UnitValue, Aggregate, Box, Address, data_from, datum_of, datum_of_layer}
 use Rattle.store_model.specs.Values.Wholeness.{IsWhole, AreWhole}
 use Rattle.store_model.proofs.Values.Wholeness.{AreWhole-data_from}
@@ -180,3 +184,176 @@ box_made setting to old drawn new outcome serial content is next h before =
 
 pub box_whole : (serial : ℕ) (content value : Datum) → value ≡ Box serial None content → IsWhole content → IsWhole value
 box_whole serial content value e h = subst IsWhole (sym e) h
+
+-- What comes after two operands.
+
+module _ (old mid last : World) (left right : Operand) (t u : Option Value) (first : (before : Trace) → Evaluates (run_setting old) left (state_of before old) t (state_of before mid))
+    (second : (before : Trace) → Evaluates (run_setting mid) right (state_of before mid) u (state_of before last)) (same : run_setting mid ≡ run_setting old) (next : Datum → Datum → State → Out State) where
+  abbrev does_both : State → Out State
+  does_both w = with_two_operands (run_setting old) (operand_of 0 left) (operand_of 0 right) w next
+
+  pub two_do : (a b : Value) → t ≡ Some a → u ≡ Some b → (outcome : Outcome) (new : World) → Does (next (datum_of a) (datum_of b)) last outcome new → Does does_both old outcome new
+  two_do a b e f outcome new h =
+      then_does old mid left t first a e (λ x w. with_operand (run_setting old) (operand_of 0 right) w (next x)) outcome new
+      (in_setting (run_setting mid) (run_setting old) same (λ s w. with_operand s (operand_of 0 right) w (next (datum_of a))) mid outcome new
+      (then_does mid last right u second b f (next (datum_of a)) outcome new h))
+
+  pub second_stuck : (a : Value) → t ≡ Some a → u ≡ None → Does does_both old Outcome.Stuck last
+  second_stuck a e f =
+      then_does old mid left t first a e (λ x w. with_operand (run_setting old) (operand_of 0 right) w (next x)) Outcome.Stuck last
+      (in_setting (run_setting mid) (run_setting old) same (λ s w. with_operand s (operand_of 0 right) w (next (datum_of a))) mid Outcome.Stuck last
+      (stuck_does mid last right u second f (next (datum_of a))))
+
+-- Comparing.
+
+number_pair : (operator : Cmp) (a b : ℤ) → compared operator (Number a) (Number b) ≡ Some (compared_as operator a b)
+number_pair Cmp.Eq a b = refl
+number_pair Cmp.Ne a b = refl
+number_pair Cmp.Lt a b = refl
+number_pair Cmp.Le a b = refl
+number_pair Cmp.Gt a b = refl
+number_pair Cmp.Ge a b = refl
+
+pub numbers_compared : (operator : Cmp) (left right : Datum) (a b : ℤ) → number_of left ≡ Some a → number_of right ≡ Some b → compared operator left right ≡ Some (compared_as operator a b)
+numbers_compared operator (Number n) (Number m) a b e f =
+    let same : n ≡ a = cc in
+    let other : m ≡ b = cc in
+    number_pair operator n m ∙ ap (λ n. Some (compared_as operator n m)) same ∙ ap (λ m. Some (compared_as operator a m)) other
+numbers_compared operator (Number n) Gone a b e f = absurd (cc)
+numbers_compared operator (Number n) (Truth truth) a b e f = absurd (cc)
+numbers_compared operator (Number n) UnitValue a b e f = absurd (cc)
+numbers_compared operator (Number n) (Aggregate variant serial parts) a b e f = absurd (cc)
+numbers_compared operator (Number n) (Box serial impl_no inside) a b e f = absurd (cc)
+numbers_compared operator (Number n) (Address address) a b e f = absurd (cc)
+numbers_compared operator Gone right a b e f = absurd (cc)
+numbers_compared operator (Truth truth) right a b e f = absurd (cc)
+numbers_compared operator UnitValue right a b e f = absurd (cc)
+numbers_compared operator (Aggregate variant serial parts) right a b e f = absurd (cc)
+numbers_compared operator (Box serial impl_no inside) right a b e f = absurd (cc)
+numbers_compared operator (Address address) right a b e f = absurd (cc)
+
+pub no_number_compared : (operator : Cmp) (left right : Datum) (a : ℤ) → number_of left ≡ Some a → number_of right ≡ None → compared operator left right ≡ None
+no_number_compared operator (Number n) (Number m) a e f = absurd (cc)
+no_number_compared operator (Number n) Gone a e f = refl
+no_number_compared operator (Number n) (Truth truth) a e f = refl
+no_number_compared operator (Number n) UnitValue a e f = refl
+no_number_compared operator (Number n) (Aggregate variant serial parts) a e f = refl
+no_number_compared operator (Number n) (Box serial impl_no inside) a e f = refl
+no_number_compared operator (Number n) (Address address) a e f = refl
+no_number_compared operator Gone right a e f = absurd (cc)
+no_number_compared operator (Truth truth) right a e f = absurd (cc)
+no_number_compared operator UnitValue right a e f = absurd (cc)
+no_number_compared operator (Aggregate variant serial parts) right a e f = absurd (cc)
+no_number_compared operator (Box serial impl_no inside) right a e f = absurd (cc)
+no_number_compared operator (Address address) right a e f = absurd (cc)
+
+truth_number : (operator : Cmp) (a b : Bool) → compared operator (Truth a) (Truth b) ≡ Some (compared_as operator (number_by_truth a) (number_by_truth b))
+truth_number Cmp.Eq true true = refl
+truth_number Cmp.Eq true false = refl
+truth_number Cmp.Eq false true = refl
+truth_number Cmp.Eq false false = refl
+truth_number Cmp.Ne true true = refl
+truth_number Cmp.Ne true false = refl
+truth_number Cmp.Ne false true = refl
+truth_number Cmp.Ne false false = refl
+truth_number Cmp.Lt true true = refl
+truth_number Cmp.Lt true false = refl
+truth_number Cmp.Lt false true = refl
+truth_number Cmp.Lt false false = refl
+truth_number Cmp.Le true true = refl
+truth_number Cmp.Le true false = refl
+truth_number Cmp.Le false true = refl
+truth_number Cmp.Le false false = refl
+truth_number Cmp.Gt true true = refl
+truth_number Cmp.Gt true false = refl
+truth_number Cmp.Gt false true = refl
+truth_number Cmp.Gt false false = refl
+truth_number Cmp.Ge true true = refl
+truth_number Cmp.Ge true false = refl
+truth_number Cmp.Ge false true = refl
+truth_number Cmp.Ge false false = refl
+
+pub truths_compared : (operator : Cmp) (left right : Datum) (a b : Bool) → truth_of left ≡ Some a → truth_of right ≡ Some b →
+    compared operator left right ≡ Some (compared_as operator (number_by_truth a) (number_by_truth b))
+truths_compared operator (Truth n) (Truth m) a b e f =
+    let same : n ≡ a = cc in
+    let other : m ≡ b = cc in
+    truth_number operator n m ∙ ap (λ n. Some (compared_as operator (number_by_truth n) (number_by_truth m))) same
+    ∙ ap (λ m. Some (compared_as operator (number_by_truth a) (number_by_truth m))) other
+truths_compared operator (Truth n) Gone a b e f = absurd (cc)
+truths_compared operator (Truth n) (Number number) a b e f = absurd (cc)
+truths_compared operator (Truth n) UnitValue a b e f = absurd (cc)
+truths_compared operator (Truth n) (Aggregate variant serial parts) a b e f = absurd (cc)
+truths_compared operator (Truth n) (Box serial impl_no inside) a b e f = absurd (cc)
+truths_compared operator (Truth n) (Address address) a b e f = absurd (cc)
+truths_compared operator Gone right a b e f = absurd (cc)
+truths_compared operator (Number number) right a b e f = absurd (cc)
+truths_compared operator UnitValue right a b e f = absurd (cc)
+truths_compared operator (Aggregate variant serial parts) right a b e f = absurd (cc)
+truths_compared operator (Box serial impl_no inside) right a b e f = absurd (cc)
+truths_compared operator (Address address) right a b e f = absurd (cc)
+
+pub no_truth_compared : (operator : Cmp) (left right : Datum) (a : Bool) → truth_of left ≡ Some a → truth_of right ≡ None → compared operator left right ≡ None
+no_truth_compared operator (Truth n) (Truth m) a e f = absurd (cc)
+no_truth_compared operator (Truth n) Gone a e f = refl
+no_truth_compared operator (Truth n) (Number number) a e f = refl
+no_truth_compared operator (Truth n) UnitValue a e f = refl
+no_truth_compared operator (Truth n) (Aggregate variant serial parts) a e f = refl
+no_truth_compared operator (Truth n) (Box serial impl_no inside) a e f = refl
+no_truth_compared operator (Truth n) (Address address) a e f = refl
+no_truth_compared operator Gone right a e f = absurd (cc)
+no_truth_compared operator (Number number) right a e f = absurd (cc)
+no_truth_compared operator UnitValue right a e f = absurd (cc)
+no_truth_compared operator (Aggregate variant serial parts) right a e f = absurd (cc)
+no_truth_compared operator (Box serial impl_no inside) right a e f = absurd (cc)
+no_truth_compared operator (Address address) right a e f = absurd (cc)
+
+pub nothing_compared : (operator : Cmp) (left right : Datum) → number_of left ≡ None → truth_of left ≡ None → compared operator left right ≡ None
+nothing_compared operator (Number n) right e f = absurd (cc)
+nothing_compared operator (Truth n) right e f = absurd (cc)
+nothing_compared operator Gone right e f = refl
+nothing_compared operator UnitValue right e f = refl
+nothing_compared operator (Aggregate variant serial parts) right e f = refl
+nothing_compared operator (Box serial impl_no inside) right e f = refl
+nothing_compared operator (Address address) right e f = refl
+
+module _ (setting : Setting) (to : Site) (last : World) where
+  abbrev stores_truth : Option Bool → State → Out State
+  stores_truth o = put_if setting to (option_map_or (λ t. Some (Truth t)) o None)
+
+  pub truth_stored : (o : Option Bool) (truth : Bool) → o ≡ Some truth → (outcome : Outcome) (new : World) → Does (put setting to (Truth truth)) last outcome new → Does (stores_truth o) last outcome new
+  truth_stored o truth e outcome new h = subst (λ o. Does (stores_truth o) last outcome new) (sym e) h
+
+  pub no_truth_stored : (o : Option Bool) → o ≡ None → Does (stores_truth o) last Outcome.Stuck last
+  no_truth_stored o e = subst (λ o. Does (stores_truth o) last Outcome.Stuck last) (sym e) (λ before. refl)
+
+-- Making.
+
+-- the number and the `Drop` body of a struct or an enum
+abbrev impl_by : ℕ → Option ℕ → Option (ℕ × ℕ)
+impl_by adt None = None
+impl_by adt (Some body) = Some (adt, body)
+
+abbrev made_by : ℕ → ℕ → List Datum → Option ℕ → Option (ℕ × ℕ) → Datum
+made_by adt variant parts serial None = Aggregate variant None (data_from parts)
+made_by adt variant parts serial (Some of) = Aggregate variant serial (data_from parts)
+
+built_is : (setting : Setting) (to : Site) (adt variant : ℕ) (parts : List Datum) (w : State) (body : Option ℕ) → option_map_or (λ (adt : Adt). adt.drop_body) (slice_get setting.items.adts adt) None ≡ body →
+    built setting to (OfVariant adt variant) parts w ≡ made_event setting adt to (made_by adt variant parts (Some w.serial) (impl_by adt body)) (impl_by adt body) w
+built_is setting to adt variant parts w None e = rw e refl
+built_is setting to adt variant parts w (Some body) e = rw e refl
+
+module _ (setting : Setting) (to : Site) (adt variant : ℕ) (parts : List Datum) (old : World) (body : Option ℕ)
+    (is : option_map_or (λ (adt : Adt). adt.drop_body) (slice_get setting.items.adts adt) None ≡ body) where
+  pub unnumbered_made : body ≡ None → (outcome : Outcome) (new : World) → Does (put setting to (Aggregate variant None (data_from parts))) old outcome new →
+      Does (built setting to (OfVariant adt variant) parts) old outcome new
+  unnumbered_made e outcome new h before = ap seen (built_is setting to adt variant parts (state_of before old) None (is ∙ e)) ∙ h before
+
+  pub numbered_made : (some : ℕ) → body ≡ Some some → (drawn new : World) (outcome : Outcome) (serial : ℕ) → serial ≡ old.serial →
+      ((before : Trace) → state_of before drawn ≡ numbered_next (state_of before old)) →
+      Does (stored_and_told setting to (Aggregate variant (Some serial) (data_from parts)) (Event.Make adt serial)) drawn outcome new →
+      Does (built setting to (OfVariant adt variant) parts) old outcome new
+  numbered_made some e drawn new outcome serial same next h before =
+      ap seen (built_is setting to adt variant parts (state_of before old) (Some some) (is ∙ e))
+      ∙ ap (λ n. seen (stored_and_told setting to (Aggregate variant (Some n) (data_from parts)) (Event.Make adt n) (numbered_next (state_of before old)))) (sym same)
+      ∙ ap (λ w. seen (stored_and_told setting to (Aggregate variant (Some serial) (data_from parts)) (Event.Make adt serial) w)) (sym (next before)) ∙ h before

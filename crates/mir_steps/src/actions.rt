@@ -152,7 +152,7 @@ impl World<'_> {
     }
 
     /// Draws the next serial number.
-    fn draw(&mut self) -> Result<u64, NoMemory>
+    pub fn draw(&mut self) -> Result<u64, NoMemory>
         ensures run { run_setting self.new ≡ run_setting self.old }
         ensures drawn { IfOk result (λ serial. serial ≡ self.old.serial) }
         ensures next { OnOk result ((before : Trace) →
@@ -169,7 +169,7 @@ impl World<'_> {
     }
 
     /// Stores a whole value at a place, and then tells of it.
-    fn put_and_tell(
+    pub fn put_and_tell(
         &mut self,
         alloc: Global,
         to: &Place,
@@ -225,7 +225,7 @@ fn box_of(alloc: Global, serial: u64, content: Value) -> Result<Value, NoMemory>
 }
 
 /// The number that a value is.
-fn number_in(value: &Value) -> Option<i128>
+pub fn number_in(value: &Value) -> Option<i128>
     ensures { result ≡ number_of (datum_of value.now) }
 {
     match value {
@@ -235,7 +235,7 @@ fn number_in(value: &Value) -> Option<i128>
 }
 
 /// The truth value that a value is.
-fn truth_in(value: &Value) -> Option<bool>
+pub fn truth_in(value: &Value) -> Option<bool>
     ensures { result ≡ truth_of (datum_of value.now) }
 {
     match value {
@@ -245,7 +245,7 @@ fn truth_in(value: &Value) -> Option<bool>
 }
 
 /// The aggregate of these parts.
-fn aggregate_of(variant: u32, serial: Option<u64>, parts: List<Value>) -> Value
+pub fn aggregate_of(variant: u32, serial: Option<u64>, parts: List<Value>) -> Value
     requires { All (λ part. IsWhole (datum_of part)) parts }
     ensures value { datum_of result ≡ Aggregate variant serial (data_from (map datum_of parts)) }
     ensures whole { IsWhole (datum_of result) }

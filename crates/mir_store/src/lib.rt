@@ -13,5 +13,5 @@ pub use cell::Cell;
 pub use frame::{Entry, Frame};
 pub use location::{Located, Reached, is_of_type, located_at, reach};
 pub use store::Store;
-pub use types::{Dynamic, adt_of_impl, local_ty, type_of_part};
+pub use types::{Dynamic, adt_of_impl, field_ty, local_ty, type_of_part};
 pub use whole::{is_whole, whole_at};

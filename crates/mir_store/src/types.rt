@@ -59,7 +59,7 @@ fn field_of_adt(items: &Items, adt: u32, variant: u32, part: u32) -> Option<TyId
 }
 
 /// The type of a numbered part of what is found so.
-fn field_ty(items: &Items, dynamic: Dynamic, variant: u32, part: u32) -> Option<TyId>
+pub fn field_ty(items: &Items, dynamic: Dynamic, variant: u32, part: u32) -> Option<TyId>
     ensures { result ≡ option_and_then (λ ty. slice_get (parts_of items.now ty variant) part)
         (concrete_ty items.now (dynamic_of dynamic)) }
 {

@@ -35,17 +35,17 @@ returns-in-Some-clause-cells c =
     (changed ∙ ap (λ d. with_cell c.args.key d (cells_of c.self.inside.entries)) (e ∙ ap (replaced c.args.place.now Gone) (sym stands))))
     c.take.ensures.after
 
-pub returns-in_ok-add-clause-taken : goal.returns-in_ok-add-clause-taken
-returns-in_ok-add-clause-taken c =
+pub returns-in_ok-add-in-None-clause-taken : goal.returns-in_ok-add-in-None-clause-taken
+returns-in_ok-add-in-None-clause-taken c =
     let none : place_of c.args.key c.args.self.now.1 ≡ None =
     ap (λ frame. place_of c.args.key frame.1) (sym c.self.view_is) ∙ sym (c.self.invariant c.args.key) ∙ sym c.place_of_local.ensures ∙ c.in-None.is
     in
     c.taken_of_nothing.ensures ∙ ap (value_at c.args.place.now) (sym (no_entry c.args.key c.args.self.now.1 none).empty)
 
-pub returns-in_ok-add-clause-cells : goal.returns-in_ok-add-clause-cells
-returns-in_ok-add-clause-cells c =
+pub returns-in_ok-add-in-None-clause-cells : goal.returns-in_ok-add-in-None-clause-cells
+returns-in_ok-add-in-None-clause-cells c =
     let none : place_of c.args.key c.args.self.now.1 ≡ None =
     ap (λ frame. place_of c.args.key frame.1) (sym c.self.view_is) ∙ sym (c.self.invariant c.args.key) ∙ sym c.place_of_local.ensures ∙ c.in-None.is
     in
     store_added c.args.self.now c.args.key c.in_ok-cell-in-None.cell (replaced c.args.place.now Gone) none
-    (c.in_ok-cell-in-None.ensures ∙ sym (nothing_stays c.args.place.now)) c.add.new.self c.in_ok-add.ensures.added
+    (c.in_ok-cell-in-None.ensures ∙ sym (nothing_stays c.args.place.now)) c.add.new.self c.in_ok-add-in-None.ensures.added

@@ -1,0 +1,128 @@
+//! What a turn of a drop does to what a run has at hand.
+ghost use Rattle.std.specs.Prelude.{◌≡◌, IfOk, OnOk};
+ghost use Rattle.drop_glue.specs.Turns.{Clears, Frees, TurnLeft, left_if};
+ghost use Rattle.drop_glue.specs.declared.drops.Turn.{Turn as a_turn};
+ghost use Rattle.mir_base.specs.Trace.{Trace};
+ghost use Rattle.mir_steps.specs.Worlds.{state_of, run_setting};
+ghost use Rattle.store_model.specs.Concrete.State.{Bodies, State};
+ghost use Rattle.store_model.specs.Concrete.Location.{stored_at};
+ghost use Rattle.store_model.specs.Effects.{Out};
+ghost use Rattle.store_model.specs.Values.Datum.{Gone};
+
+use crate::reading::{Kind, is_expected, is_still, read};
+use crate::{Drops, Turn};
+use mir_base::{Event, NoMemory};
+use mir_steps::{Told, World};
+use mir_store::Dynamic;
+use std::alloc::Global;
+use store_model::Addr;
+
+/// Drops what stands at the address, whose own `Drop` body may have run.
+fn visit(
+    alloc: Global,
+    world: &World<'_>,
+    drops: &mut Drops,
+    has_run: bool,
+    expected: Option<Dynamic>,
+) -> Result<Turn, NoMemory>
+    ensures { IfOk result (λ turn. (before : Trace) (run : Bodies) (out : Out State) →
+        TurnLeft (run_setting world.now) run (state_of before world.now) out drops.old (a_turn.Visits has_run expected) →
+        TurnLeft (run_setting world.now) run (state_of before world.now) out drops.new turn) }
+{
+    let Some(found) = read(alloc, world.graph, &world.store, &drops.address)? else {
+        return Ok(Turn::Stuck);
+    };
+    if !is_expected(&world.graph.items, expected, found.dynamic) {
+        return Ok(Turn::Stuck);
+    }
+    drops.begin(&world.graph.items, world.ticks, has_run, found)
+}
+
+/// Leaves an address gone, where what was found there is still found so; false where it is not, and then nothing
+/// changes.
+fn clear(
+    alloc: Global,
+    world: &mut World<'_>,
+    address: &Addr,
+    dynamic: Dynamic,
+) -> Result<bool, NoMemory>
+    ensures run { run_setting world.new ≡ run_setting world.old }
+    ensures cleared { IfOk result (λ went. (before : Trace) (run : Bodies) →
+        Clears (run_setting world.old) run address.now dynamic (state_of before world.old) went (state_of before world.new)) }
+{
+    let Some(found) = read(alloc, world.graph, &world.store, address)? else {
+        return Ok(false);
+    };
+    if !is_still(&world.graph.items, dynamic, found.dynamic) {
+        return Ok(false);
+    }
+    take_away(alloc, world, address)?;
+    Ok(true)
+}
+
+/// Leaves an address gone.
+fn take_away(alloc: Global, world: &mut World<'_>, address: &Addr) -> Result<(), NoMemory>
+    ensures run { run_setting world.new ≡ run_setting world.old }
+    ensures gone { OnOk result ((before : Trace) →
+        state_of before world.new ≡ stored_at address.now Gone (state_of before world.old)) }
+{
+    let path = address.path.as_slice();
+    let _gone = world
+        .store
+        .take(alloc, address.depth as usize, address.key.0, path)?;
+    Ok(())
+}
+
+/// Frees the box that stands at an address, where what was found there is still found so; false where it is not, or
+/// no box stands there, and then nothing changes.
+fn free(
+    alloc: Global,
+    world: &mut World<'_>,
+    address: &Addr,
+    dynamic: Dynamic,
+) -> Result<bool, NoMemory>
+    ensures run { run_setting world.new ≡ run_setting world.old }
+    ensures freed { IfOk result (λ went. (before : Trace) (run : Bodies) →
+        Frees (run_setting world.old) run address.now dynamic (state_of before world.old) went (state_of before world.new)) }
+{
+    let Some(found) = read(alloc, world.graph, &world.store, address)? else {
+        return Ok(false);
+    };
+    if !is_still(&world.graph.items, dynamic, found.dynamic) {
+        return Ok(false);
+    }
+    let Kind::Boxed { serial, .. } = found.kind else {
+        return Ok(false);
+    };
+    take_away(alloc, world, address)?;
+    world.tell(Told::Event(Event::Freed(serial)))?;
+    Ok(true)
+}
+
+fn leaves_if(went: bool) -> Turn
+    ensures { result ≡ left_if went }
+{
+    if went { Turn::Leaves } else { Turn::Stuck }
+}
+
+/// Makes one turn of a drop. A turn that enters a `Drop` body, ends the drop or has no step is handed back as it is.
+pub fn step(
+    alloc: Global,
+    world: &mut World<'_>,
+    drops: &mut Drops,
+    turn: Turn,
+) -> Result<Turn, NoMemory>
+    ensures run { run_setting world.new ≡ run_setting world.old }
+    ensures left { IfOk result (λ next. (before : Trace) (run : Bodies) (out : Out State) →
+        TurnLeft (run_setting world.old) run (state_of before world.old) out drops.old turn →
+        TurnLeft (run_setting world.old) run (state_of before world.new) out drops.new next) }
+{
+    match turn {
+        Turn::Visits { has_run, expected } => visit(alloc, world, drops, has_run, expected),
+        Turn::Goes => drops.go(&world.graph.items, world.ticks),
+        Turn::Leaves => drops.leave(alloc),
+        Turn::Clears(dynamic) => Ok(leaves_if(clear(alloc, world, &drops.address, dynamic)?)),
+        Turn::Frees(dynamic) => Ok(leaves_if(free(alloc, world, &drops.address, dynamic)?)),
+        Turn::Enters { .. } | Turn::Ends | Turn::Stuck => Ok(turn),
+    }
+}
