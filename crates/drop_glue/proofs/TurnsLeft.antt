@@ -12,9 +12,15 @@ use Rattle.drop_glue.specs.Reading.{ShowsParts, ShowsBox, ShowsValue, FindsIt, I
 use Rattle.drop_glue.specs.Turns.{level_of, within, levels_of, mode_by, stage_by, TurnLeft, IsOf, GoesOn, Begins, GoesOnPart, EndsIn, IsContainer, enters_of, expected_by, left_if, Does, Clears, Frees, IsDropOf}
 use Rattle.drop_glue.proofs.Below.{into_is, into_untyped, stands_at}
 use Rattle.drop_glue.proofs.DropSteps.{still_is, clear_goes, clear_halts, free_goes, free_halts, leave_ends, leave_goes, leave_has_step, go_content, go_end, go_untyped, go_part, visit_nothing, visit_unexpected, visit_reads, read_gone, read_plain, read_parts, read_enters, read_box_untyped, read_box, await_returns, await_unwinds, await_aborts}
+use Rattle.cfg_meaning.specs.Programs.{setting_of}
+use Rattle.mir_base.specs.Trace.{Trace}
+use Rattle.mir_steps.specs.declared.world.World.{World}
 use Rattle.mir_steps.specs.Steps.{seen, Halted}
+use Rattle.mir_steps.specs.Worlds.{state_of, run_setting}
+use Rattle.mir_store.proofs.SameReach.{located_same}
+use Rattle.mir_store.specs.Activations.{activations_of}
 use Rattle.mir_store.specs.declared.types.Dynamic.{Dynamic}
-use Rattle.mir_store.specs.Standing.{dynamic_of}
+use Rattle.mir_store.specs.Standing.{dynamic_of, with_activations}
 use Rattle.mir_ty.specs.ItemTable.{ItemTable}
 use Rattle.mir_ty.specs.declared.ty.TyId.{TyId}
 use Rattle.store_model.specs.declared.address.Addr.{Addr}
@@ -43,10 +49,10 @@ abbrev pub IsNoBox : Kind → Type 0
 IsNoBox (Kind.Boxed serial content) = ⊥
 IsNoBox kind = Unit {0}
 
-abbrev with_level : Drops → rust.Level → Drops
+abbrev pub with_level : Drops → rust.Level → Drops
 with_level drops level = record drops { levels = drops.levels ++ level ∷ [] }
 
-abbrev with_step : Drops → At → Drops
+abbrev pub with_step : Drops → At → Drops
 with_step drops step = record drops { address = record drops.address { path = drops.address.path ++ step ∷ [] } }
 
 module _ (items : ItemTable) (ticks : ℕ) (has_run : Bool) (old : Drops) where
@@ -342,3 +348,21 @@ module _ (dynamic : Dynamic) (old : Drops) (setting : Setting) (run : Bodies) (w
   pub resumed_abort : old.unwinds ≡ true → outs (Unwinds v) ≡ Halts Aborted v
   resumed_abort e =
       await_aborts setting run old.address.depth old.address.key.0 (levels_of old.levels) w v old.address.path (mode_by old.unwinds) old.panicked outs (dynamic_of dynamic) h l (ap mode_by e)
+
+-- What stands at an address in any run of the graph.
+
+module _ (w : World) (before : Trace) (address : Addr) where
+  abbrev in_run : Option Located
+  in_run = located_at (run_setting w) (state_of before w) address
+
+  abbrev by_store : Option Located
+  by_store = located_at (setting_of true w.graph.now) (with_activations (activations_of w.store)) address
+
+  pub nothing_found : IsFound w.graph.now.items by_store None → in_run ≡ None
+  nothing_found h = located_same w.strict w.graph.now (state_of before w) address ∙ h
+
+  pub something_found : (found : Found) (h : FindsIt w.graph.now.items by_store found) → in_run ≡ Some h.s
+  something_found found h = located_same w.strict w.graph.now (state_of before w) address ∙ h.is
+
+pub is_of_run : (w : World) (before : Trace) → IsOf w.graph.now.items w.ticks (run_setting w) (state_of before w)
+is_of_run w before = record { items_are = refl; ticks_are = refl }

@@ -1,7 +1,8 @@
-ghost use Rattle.std.specs.Prelude.{◌≡◌, ℕ, suc, ◌++◌, ◌∷◌, [], IfOk, OnOk};
+ghost use Rattle.std.specs.Prelude.{◌≡◌, ℕ, Bool, suc, ◌++◌, ◌∷◌, [], IfOk, OnOk};
 ghost use Rattle.drop_glue.specs.Turns.{Begins, GoesOn, GoesOnPart, IsContainer, enters_of, expected_by};
 ghost use Rattle.drop_glue.specs.declared.drops.Turn.{Turn as a_turn};
 ghost use Rattle.drop_glue.specs.declared.level.Level.{Level as a_level};
+ghost use Rattle.drop_glue.specs.declared.reading.Kind.{Kind as a_kind};
 ghost use Rattle.mir_ty.specs.ItemTable.{ItemTable};
 ghost use Rattle.store_model.specs.declared.address.At.TheVariants.{Part, Inside};
 
@@ -149,6 +150,21 @@ impl Drops {
         self.address.path.push(At::Part(part))
     }
 
+    /// Begins with a box; there is no step where its content is found as nothing.
+    fn enter_box(&mut self, dynamic: Dynamic, content: Option<Dynamic>) -> Result<Turn, NoMemory>
+        ensures { IfOk result (λ turn. (items : ItemTable) (ticks : ℕ) (has_run : Bool) (serial : ℕ) →
+            Begins items ticks has_run (record { dynamic = dynamic; kind = a_kind.Boxed serial content }) self.old self.new turn) }
+    {
+        if content.is_none() {
+            return Ok(Turn::Stuck);
+        }
+        self.enter_content(dynamic)?;
+        Ok(Turn::Visits {
+            has_run: false,
+            expected: None,
+        })
+    }
+
     /// Begins with a value that was read.
     pub fn begin(
         &mut self,
@@ -162,16 +178,7 @@ impl Drops {
         match found.kind {
             Kind::Nothing => Ok(Turn::Leaves),
             Kind::Plain => Ok(Turn::Clears(found.dynamic)),
-            Kind::Boxed { content, .. } => {
-                if content.is_none() {
-                    return Ok(Turn::Stuck);
-                }
-                self.enter_content(found.dynamic)?;
-                Ok(Turn::Visits {
-                    has_run: false,
-                    expected: None,
-                })
-            }
+            Kind::Boxed { content, .. } => self.enter_box(found.dynamic, content),
             Kind::Parts {
                 variant,
                 serial,
