@@ -1,5 +1,5 @@
 -- Where things stand after what is below one of them was replaced.
-use Rattle.std.proofs.Common.{◌≡◌, ◌≢◌, ℕ, zero, suc, ◌==◌, ◌<◌, List, [], ◌∷◌, ◌++◌, length, Bool, true, false, Option, Some, None, refl, ap, sym, subst, ◌∙◌, arith, append_assoc, append-nil}
+use Rattle.std.proofs.Common.{◌≡◌, ℕ, zero, suc, ◌==◌, ◌<◌, List, [], ◌∷◌, ◌++◌, length, Bool, true, false, Option, Some, None, refl, ap, sym, ◌∙◌, arith, append_assoc, append-nil}
 use Rattle.std.proofs.lemmas.Bool.Decides.{Decides-eqb}
 use Rattle.std.specs.Option.{option_and_then, option_map_or}
 use Rattle.drop_glue.specs.Left.{from_part}
@@ -10,7 +10,7 @@ use Rattle.store_model.proofs.Values.OnePart.{part-with_part}
 use Rattle.store_model.specs.declared.address.Addr.{Addr}
 use Rattle.store_model.specs.declared.address.At.{At}
 use Rattle.store_model.specs.declared.address.At.TheVariants.{Part, Inside}
-use Rattle.store_model.specs.Concrete.Location.{Setting, DynamicType, OfType, OfObject, Located, into, type_of_part, located_at, stored_at}
+use Rattle.store_model.specs.Concrete.Location.{Setting, DynamicType, OfType, Located, into, type_of_part, located_at, stored_at}
 use Rattle.store_model.specs.Concrete.State.{State, Activation, Cells, cell, with_cell, at_depth, with_cell_at}
 use Rattle.store_model.specs.Values.Access.{part, part_at, with_part, with_part_at, replaced}
 use Rattle.store_model.specs.Values.Datum.{Datum, Data, Gone, Number, Truth, UnitValue, Aggregate, Box, Address, no_part, a_part}

@@ -1,8 +1,8 @@
 -- What one step of a drop leaves.
-use Rattle.std.proofs.Common.{◌≡◌, ◌≢◌, inl, inr, ℕ, zero, suc, ◌==◌, ◌<◌, ◌≤◌, List, [], ◌∷◌, ◌++◌, Bool, true, false, Option, Some, None, slice_get, refl, ap, sym, subst, ◌∙◌, arith, append_assoc, append-nil}
-use Rattle.std.proofs.lemmas.Bool.Decides.{Decides-eqb, eqb_tells}
-use Rattle.std.specs.Option.{option_and_then, option_map_or}
-use Rattle.drop_glue.specs.Left.{from_part, is_still, is_expected, expected_if, found_of, told_serial, IsPlain, own_impl, type_of_number, Level, PartsOf, ContentOf, Rest, AtEnd, IsBehind, finished, at_path, found_as, StandsFrom, PartsLeft, ContentLeft, PartOf, HasLeft, IsAfter, Visits, AsRead, Again, Then, LeavesLeft, GoesLeft, ClearsLeft, FreesLeft, VisitsLeft, ReadLeft, AwaitsLeft, EntersLeft}
+use Rattle.std.proofs.Common.{◌≡◌, inl, inr, ℕ, zero, suc, ◌==◌, ◌<◌, ◌≤◌, List, [], ◌∷◌, ◌++◌, Bool, true, false, Option, Some, None, slice_get, refl, ap, sym, subst, ◌∙◌, arith, append-nil}
+use Rattle.std.proofs.lemmas.Bool.Decides.{Decides-eqb}
+use Rattle.std.specs.Option.{option_map_or}
+use Rattle.drop_glue.specs.Left.{from_part, is_still, is_expected, expected_if, found_of, told_serial, IsPlain, own_impl, type_of_number, Level, PartsOf, ContentOf, Rest, finished, at_path, found_as, StandsFrom, PartsLeft, HasLeft, IsAfter, Visits, AsRead, Again, LeavesLeft, GoesLeft, ClearsLeft, FreesLeft, VisitsLeft, ReadLeft, AwaitsLeft, EntersLeft}
 use Rattle.drop_glue.proofs.Below.{next_part, stands_at, located_step, into_is, into_untyped, parts_of_into}
 use Rattle.drop_glue.proofs.Dropping.{unwinding_twice, one_by_one, same_rest, halts_through, after_later, after_stored, cleared, freed_there_is}
 use Rattle.mir_base.specs.declared.trace.Event.{Event}
@@ -14,9 +14,9 @@ use Rattle.store_model.specs.declared.address.At.{At}
 use Rattle.store_model.specs.declared.address.At.TheVariants.{Part, Inside}
 use Rattle.store_model.specs.Concrete.Drops.{Stage, Begins, HasRun, in_mode, drop_body_out, unwinding_out, if_still_typed, same_if, gone_at, freed_there, freed_at, as_read, if_part, with_body, own_body, drop_impl, drop_value, drop_parts, dropped_there, drop_at}
 use Rattle.store_model.specs.Concrete.Location.{Setting, DynamicType, OfType, OfObject, Located, type_of_part, concrete_ty, into, located_at, stored_at}
-use Rattle.store_model.specs.Concrete.State.{State, with_event, Answer, Returns, Unwinds, HaltsIn, Bodies}
-use Rattle.store_model.specs.Effects.{Mode, Normal, Unwinding, Halt, Aborted, Stuck, Out, Go, Unwind, Halts}
-use Rattle.store_model.specs.Values.Access.{part, part_at}
+use Rattle.store_model.specs.Concrete.State.{State, Answer, Returns, Unwinds, HaltsIn, Bodies}
+use Rattle.store_model.specs.Effects.{Mode, Normal, Unwinding, Halt, Aborted, Stuck, Out, Go, Halts}
+use Rattle.store_model.specs.Values.Access.{part}
 use Rattle.store_model.specs.Values.Datum.{Datum, Data, Gone, Number, Truth, UnitValue, Aggregate, Box, Address, no_part, a_part}
 use Rattle.store_model.specs.Values.Parts.{count}
 

@@ -1,23 +1,16 @@
 -- A drop, step by step.
-use Rattle.std.proofs.Common.{◌≡◌, ◌≢◌, inl, inr, ℕ, zero, suc, ◌==◌, ◌<◌, ◌≤◌, List, [], ◌∷◌, ◌++◌, Bool, true, false, Option, Some, None, slice_get, refl, ap, sym, subst, ◌∙◌, arith, append_assoc}
-use Rattle.std.proofs.lemmas.Bool.Decides.{Decides-eqb, eqb_tells}
-use Rattle.std.specs.Option.{option_and_then, option_map_or}
-use Rattle.drop_glue.specs.Left.{from_part, Level, PartsOf, ContentOf, Rest, AtEnd, IsBehind, finished, at_path, found_as, StandsFrom, PartsLeft, ContentLeft, PartOf, after_by, HasLeft, IsAfter, Visits, AsRead, Again, Then, LeavesLeft, GoesLeft, ClearsLeft, FreesLeft, VisitsLeft, ReadLeft, AwaitsLeft, EntersLeft}
-use Rattle.drop_glue.proofs.Below.{next_part, later_parts_kept, with_value, located_stored, stands_at, located_step, into_is, into_untyped, parts_of_into}
+use Rattle.std.proofs.Common.{◌≡◌, inl, inr, ℕ, ◌<◌, List, [], ◌∷◌, ◌++◌, Bool, true, false, Option, Some, None, refl, ap, sym, subst, ◌∙◌, arith, append_assoc}
+use Rattle.drop_glue.specs.Left.{from_part, Level, PartsOf, ContentOf, Rest, IsBehind, finished, at_path, found_as, StandsFrom, after_by, HasLeft, IsAfter}
+use Rattle.drop_glue.proofs.Below.{later_parts_kept, located_stored, stands_at}
 use Rattle.mir_base.specs.declared.trace.Event.{Event}
-use Rattle.mir_ty.specs.ItemTable.{ItemTable}
-use Rattle.mir_ty.specs.Parts.{parts_of}
-use Rattle.mir_ty.specs.declared.ty.TyId.{TyId}
-use Rattle.mir_ty.specs.declared.ty.Ty.{Ty}
 use Rattle.store_model.specs.declared.address.At.{At}
 use Rattle.store_model.specs.declared.address.At.TheVariants.{Part, Inside}
-use Rattle.store_model.specs.Concrete.Drops.{Stage, Begins, HasRun, in_mode, drop_body_out, unwinding_out, if_still_typed, same_if, gone_at, freed_there, freed_at, as_read, if_part, with_body, own_body, drop_impl, drop_value, drop_parts, dropped_there, drop_at}
-use Rattle.store_model.specs.Concrete.Location.{Setting, DynamicType, OfType, Located, type_of_part, concrete_ty, into, located_at, stored_at}
-use Rattle.store_model.specs.Concrete.State.{State, with_event, Answer, Returns, Unwinds, HaltsIn, Bodies}
-use Rattle.store_model.specs.Effects.{Mode, Normal, Unwinding, Halt, Aborted, Stuck, Out, Go, Unwind, Halts}
+use Rattle.store_model.specs.Concrete.Drops.{in_mode, unwinding_out, if_still_typed, same_if, gone_at, freed_there, freed_at}
+use Rattle.store_model.specs.Concrete.Location.{Setting, DynamicType, Located, located_at, stored_at}
+use Rattle.store_model.specs.Concrete.State.{State, with_event, Bodies}
+use Rattle.store_model.specs.Effects.{Mode, Unwinding, Halt, Stuck, Out, Go, Unwind, Halts}
 use Rattle.store_model.specs.Values.Access.{part_at, with_part_at, replaced}
-use Rattle.store_model.specs.Values.Datum.{Datum, Data, Gone, Number, Truth, UnitValue, Aggregate, Box, Address, no_part, a_part}
-use Rattle.store_model.specs.Values.Parts.{count}
+use Rattle.store_model.specs.Values.Datum.{Datum, Data, Gone, Number, Truth, UnitValue, Aggregate, Box, Address}
 
 -- One after another.
 

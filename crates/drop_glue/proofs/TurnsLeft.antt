@@ -1,15 +1,14 @@
 -- What the turns of a drop leave, as the machine makes them.
-use Rattle.std.proofs.Common.{◌≡◌, inl, inr, ℕ, suc, ◌==◌, ◌<◌, ◌≤◌, List, [], ◌∷◌, ◌++◌, Bool, true, false, Option, Some, None, option_map, refl, ap, sym, subst, ◌∙◌, arith}
-use Rattle.std.specs.Option.{option_and_then}
+use Rattle.std.proofs.Common.{◌≡◌, inl, inr, ℕ, suc, ◌==◌, ◌<◌, ◌≤◌, List, [], ◌∷◌, ◌++◌, Bool, true, false, Option, Some, None, option_map, refl, ap, sym, subst, ◌∙◌}
 use Rattle.drop_glue.specs.declared.drops.Drops.{Drops}
 use Rattle.drop_glue.specs.declared.drops.Turn.{Turn}
 use Rattle.drop_glue.specs.declared.level.Level as rust
 use Rattle.drop_glue.specs.declared.reading.Found.{Found}
 use Rattle.drop_glue.specs.declared.reading.Kind.{Kind}
 use Rattle.drop_glue.specs.declared.reading.OwnDrop.{OwnDrop}
-use Rattle.drop_glue.specs.Left.{Level, PartsOf, ContentOf, IsPlain, own_impl, type_of_number, found_of, expected_if, is_still, is_expected, told_serial, finished, found_as, Rest, HasLeft, IsAfter, Then, LeavesLeft, GoesLeft, ClearsLeft, FreesLeft, VisitsLeft, ReadLeft, AwaitsLeft, EntersLeft, Again}
-use Rattle.drop_glue.specs.Reading.{ShowsParts, ShowsBox, ShowsValue, FindsIt, IsFound, pair_of}
-use Rattle.drop_glue.specs.Turns.{level_of, within, levels_of, mode_by, stage_by, TurnLeft, IsOf, GoesOn, Begins, GoesOnPart, EndsIn, IsContainer, enters_of, expected_by, left_if, Does, Clears, Frees, IsDropOf}
+use Rattle.drop_glue.specs.Left.{Level, PartsOf, ContentOf, own_impl, type_of_number, expected_if, is_still, is_expected, told_serial, finished, found_as, HasLeft, LeavesLeft, GoesLeft, ClearsLeft, VisitsLeft, ReadLeft, AwaitsLeft, EntersLeft, Again}
+use Rattle.drop_glue.specs.Reading.{ShowsValue, FindsIt, IsFound, pair_of}
+use Rattle.drop_glue.specs.Turns.{level_of, within, levels_of, mode_by, stage_by, TurnLeft, IsOf, GoesOn, Begins, GoesOnPart, IsContainer, enters_of, expected_by, left_if, Clears, Frees, IsDropOf}
 use Rattle.drop_glue.proofs.Below.{into_is, into_untyped, stands_at}
 use Rattle.drop_glue.proofs.DropSteps.{still_is, clear_goes, clear_halts, free_goes, free_halts, leave_ends, leave_goes, leave_has_step, go_content, go_end, go_untyped, go_part, visit_nothing, visit_unexpected, visit_reads, read_gone, read_plain, read_parts, read_enters, read_box_untyped, read_box, await_returns, await_unwinds, await_aborts}
 use Rattle.cfg_meaning.specs.Programs.{setting_of}
@@ -22,18 +21,17 @@ use Rattle.mir_store.specs.Activations.{activations_of}
 use Rattle.mir_store.specs.declared.types.Dynamic.{Dynamic}
 use Rattle.mir_store.specs.Standing.{dynamic_of, with_activations}
 use Rattle.mir_ty.specs.ItemTable.{ItemTable}
-use Rattle.mir_ty.specs.declared.ty.TyId.{TyId}
 use Rattle.store_model.specs.declared.address.Addr.{Addr}
 use Rattle.store_model.specs.declared.address.At.{At}
 use Rattle.store_model.specs.declared.address.At.TheVariants.{Part, Inside}
 use Rattle.store_model.specs.Concrete.Drops as stages
 use Rattle.store_model.specs.Concrete.Drops.{drop_impl, in_mode, drop_at, if_still_typed, same_if, gone_at, freed_there, freed_at}
 use Rattle.mir_base.specs.declared.trace.Event.{Event}
-use Rattle.store_model.specs.Concrete.Location.{Setting, DynamicType, OfType, Located, located_at, concrete_ty, into, type_of_part, stored_at}
+use Rattle.store_model.specs.Concrete.Location.{Setting, DynamicType, Located, located_at, concrete_ty, type_of_part, stored_at}
 use Rattle.store_model.specs.Concrete.State.{State, with_event, Answer, Returns, Unwinds, Bodies}
 use Rattle.store_model.specs.Effects.{Mode, Aborted, Stuck, Out, Go, Unwind, Halts}
 use Rattle.store_model.specs.Values.Access.{part}
-use Rattle.store_model.specs.Values.Datum.{Datum, Data, Gone, Number, Truth, UnitValue, Aggregate, Box, Address}
+use Rattle.store_model.specs.Values.Datum.{Datum, Gone, Number, Truth, UnitValue, Aggregate, Box, Address}
 use Rattle.store_model.specs.Values.Parts.{count}
 
 pub pushed : (levels : List rust.Level) (level : rust.Level) (outer : List Level) → within (levels ++ level ∷ []) outer ≡ level_of level ∷ within levels outer

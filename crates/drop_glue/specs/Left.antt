@@ -1,7 +1,7 @@
 -- What is left of a drop: the containers whose parts are being dropped, the innermost first, and what each is in the
 -- definition of a drop. A container was read when so many ticks were left; while none was spent since, it stands as it
 -- was read, but for the parts that were dropped.
-use Rattle.std.specs.Prelude.{◌≡◌, ◌⊎◌, ℕ, zero, suc, ◌==◌, ◌<◌, ◌≤◌, Bool, true, false, List, [], ◌∷◌, ◌++◌, Option, Some, None, slice_get, option_and_then}
+use Rattle.std.specs.Prelude.{◌≡◌, ◌⊎◌, ℕ, zero, suc, ◌<◌, ◌≤◌, Bool, true, false, List, [], ◌∷◌, ◌++◌, Option, Some, None, slice_get, option_and_then}
 use Rattle.std.specs.Option.{option_map_or}
 use Rattle.mir_ty.specs.ItemTable.{ItemTable}
 use Rattle.mir_ty.specs.Parts.{parts_of}

@@ -1,6 +1,6 @@
 -- The activations of a store, which holds the oldest first, as the list of the youngest first.
-use Rattle.std.proofs.Common.{◌≡◌, ◌≢◌, ℕ, zero, suc, ◌==◌, ◌+◌, ◌<◌, ◌≤◌, Bool, true, false, List, [], ◌∷◌, ◌++◌, length, map, Option, Some, None, slice_get, slice_set, MatchOption, refl, ap, sym, subst, ◌∙◌, arith}
-use Rattle.std.specs.Option.{option_map, option_map_or, option_and_then}
+use Rattle.std.proofs.Common.{◌≡◌, ℕ, zero, suc, ◌==◌, ◌+◌, ◌<◌, ◌≤◌, Bool, true, false, List, [], ◌∷◌, ◌++◌, length, map, Option, Some, None, slice_get, slice_set, MatchOption, refl, ap, sym, subst, ◌∙◌, arith}
+use Rattle.std.specs.Option.{option_map, option_map_or}
 use Rattle.std.proofs.lemmas.Bool.Decides.{Decides-eqb}
 use Rattle.cfg_meaning.specs.Programs.{arguments_from}
 use Rattle.mir_store.specs.Activations.{on_top_of, root_in}

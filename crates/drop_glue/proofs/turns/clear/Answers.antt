@@ -1,4 +1,4 @@
-use Rattle.std.proofs.Common.{◌≡◌, true, Some, ap, sym, subst, ◌∙◌}
+use Rattle.std.proofs.Common.{true, ap, sym, subst, ◌∙◌}
 use Rattle.cfg_meaning.specs.Programs.{setting_of}
 use Rattle.drop_glue.specs.Reading.{IsFound}
 use Rattle.mir_store.specs.Activations.{activations_of}

@@ -1,6 +1,5 @@
 use Rattle.std.proofs.Common.{sym, subst}
 use Rattle.std.proofs.lemmas.Result.{IfOk-weaker}
-use Rattle.drop_glue.specs.declared.drops.Turn.{Turn}
 use Rattle.drop_glue.specs.Turns.{TurnLeft}
 use Rattle.drop_glue.proofs.TurnsLeft.{is_of_run, clears_left, frees_left}
 use Rattle.mir_steps.specs.Worlds.{state_of, run_setting}

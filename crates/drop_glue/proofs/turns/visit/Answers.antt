@@ -1,4 +1,4 @@
-use Rattle.std.proofs.Common.{◌≡◌, true, false, Some, None, option_map, ap, sym, subst, ◌∙◌}
+use Rattle.std.proofs.Common.{true, option_map, ap, sym, subst, ◌∙◌}
 use Rattle.std.proofs.lemmas.Result.{IfOk-weaker}
 use Rattle.cfg_meaning.specs.Programs.{setting_of}
 use Rattle.drop_glue.specs.Reading.{IsFound}

@@ -1,7 +1,6 @@
 use Rattle.std.proofs.lemmas.Result.{IfOk-weaker}
 use Rattle.std.proofs.Common.{◌≡◌, Some, None, option_map, ap, sym, subst, ◌∙◌}
 use Rattle.drop_glue.specs.declared.drops.Turn.{Turn}
-use Rattle.drop_glue.specs.declared.reading.Kind.{Kind}
 use Rattle.drop_glue.specs.Left.{own_impl}
 use Rattle.drop_glue.specs.Reading.{pair_of}
 use Rattle.drop_glue.specs.declared.level.Level.{Level}

@@ -1,4 +1,4 @@
-use Rattle.std.proofs.Common.{◌≡◌, ◌==◌, false, Some, None, ap, sym, subst, ◌∙◌, arith}
+use Rattle.std.proofs.Common.{◌≡◌, ◌==◌, false, Some, ap, sym, subst, ◌∙◌, arith}
 use Rattle.drop_glue.specs.declared.drops.Turn.{Turn}
 use Rattle.drop_glue.specs.Left.{found_of, type_of_number}
 use Rattle.drop_glue.specs.Turns.{GoesOnPart, expected_by}

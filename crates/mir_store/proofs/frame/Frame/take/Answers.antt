@@ -3,7 +3,7 @@ use Rattle.std.proofs.lemmas.Result.{on_ok_weaker, IfOk-weaker}
 use Rattle.std.specs.Prelude.{slice_set}
 use Rattle.store_model.specs.Concrete.State.{cell, with_cell}
 use Rattle.store_model.specs.Values.Access.{value_at, replaced}
-use Rattle.store_model.specs.Values.Datum.{Gone, datum_of}
+use Rattle.store_model.specs.Values.Datum.{Gone}
 use Rattle.mir_store.specs.Frames.{place_of, cells_of}
 use Rattle.mir_store.proofs.Frames.{within_entries, read_stands, read_changed, read_kept, no_entry, store_added, nothing_stays}
 use Rattle.mir_store.proofs.frame.Frame.take.Goals as goal
