@@ -9,4 +9,4 @@ mod ways;
 
 pub use analysis::Analysis;
 pub use solver::{Solution, solve};
-pub use ways::{place_ty, target};
+pub use ways::target;

@@ -1,81 +1,15 @@
-//! The types of places, and the ways out of blocks that are on paths.
-ghost use Rattle.std.specs.Prelude.{◌≡◌, ◌<◌, option_and_then, map, not, false, length, IfSome};
+//! The ways out of blocks that are on paths.
+ghost use Rattle.std.specs.Prelude.{◌≡◌, ◌<◌, not, false, length, IfSome};
 ghost use Rattle.store_model.specs.Places.TypeForms.{is_never};
-ghost use Rattle.mir_ty.specs.ItemTable.{type_at};
-ghost use Rattle.store_model.specs.Places.Place.{step_ty as step_type, ty_along as type_along, is_enum as enum_type, content_of, element_of};
-ghost use Rattle.cfg_graph.specs.Places.{place_id, ty_of_place, named_step};
+ghost use Rattle.cfg_graph.specs.Places.{place_id, ty_of_place};
 ghost use Rattle.std.specs.Option.{option_map_or};
 ghost use Rattle.mir_ty.specs.Facts.{needs_drop};
 ghost use Rattle.cfg_graph.specs.Edges.{unwind_exit, ways_out};
 ghost use Rattle.init_flow.specs.Ways.{target as target_of, way_target, exit_at, block_of, on_paths, way_count};
 
-use cfg_graph::{Body, Place, Step, Term, Unwind};
-use mir_ty::{Items, Ty, TyId};
-
-fn is_enum(items: &Items, ty: &Ty) -> bool
-    ensures { result ≡ enum_type items.now ty.now }
-{
-    match ty {
-        Ty::Adt(n) => match items.adt(*n) {
-            Some(adt) => adt.is_enum,
-            None => false,
-        },
-        _ => false,
-    }
-}
-
-fn content(ty: &Ty) -> Option<TyId>
-    ensures { result ≡ content_of ty.now }
-{
-    match ty {
-        Ty::Boxed(inside) => Some(*inside),
-        Ty::Shared(to) | Ty::Unique(to) => Some(*to),
-        _ => None,
-    }
-}
-
-fn element(ty: &Ty) -> Option<TyId>
-    ensures { result ≡ element_of ty.now }
-{
-    match ty {
-        Ty::Array(element, _) => Some(*element),
-        _ => None,
-    }
-}
-
-/// The type to which a step leads from a value of a type, if there is one.
-fn step_ty(items: &Items, step: Step, from: Option<TyId>) -> Option<TyId>
-    ensures { result ≡ option_and_then (step_type items.now (named_step step)) (option_and_then (type_at items.now) from) }
-{
-    let id = from?;
-    let ty = items.ty(id)?;
-    match step {
-        Step::Part(n) if !is_enum(items, ty) => items.field_ty(id, 0, n),
-        Step::Field { variant, part } if is_enum(items, ty) => items.field_ty(id, variant, part),
-        Step::Inside => content(ty),
-        Step::Index(_) => element(ty),
-        _ => None,
-    }
-}
-
-fn ty_along(items: &Items, steps: &[Step], id: TyId) -> Option<TyId>
-    ensures { result ≡ type_along items.now (map named_step steps.now) id }
-{
-    let mut at = Some(id);
-    for step in steps {
-        at = step_ty(items, *step, at);
-    }
-    at
-}
-
-/// The type of a place by the types of the locals; `None` where the local or a step does not exist. It costs a step for
-/// each step of the place.
-pub fn place_ty(items: &Items, locals: &[TyId], place: &Place) -> Option<TyId>
-    ensures { result ≡ place_id items.now locals.now place.now }
-{
-    let local = locals.get(place.local as usize)?;
-    ty_along(items, place.steps.as_slice(), *local)
-}
+use cfg_graph::{Body, Place, Term, Unwind};
+use mir_ty::{Items, Ty};
+use move_paths::place_ty;
 
 fn unwind_block(unwind: &Unwind) -> Option<u32>
     ensures { result ≡ block_of (unwind_exit unwind.now) }
