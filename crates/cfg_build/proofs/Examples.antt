@@ -2,5 +2,6 @@
 mod Drops
 mod Jumps
 mod Matches
+mod Sites
 mod Uses
 mod Words

@@ -8,7 +8,7 @@ use Rattle.cfg_graph.specs.declared.graph.Kind.{Kind}
 use Rattle.cfg_graph.specs.declared.place.Place as graph_place
 use Rattle.cfg_graph.specs.declared.statement.Stmt.{Stmt}
 use Rattle.cfg_graph.specs.declared.terminator.Term.{Term}
-use Rattle.cfg_graph.specs.Uses.{places_of_stmt, places_of_term}
+use Rattle.cfg_graph.specs.Uses.{places_of_stmt}
 use Rattle.mir_base.specs.declared.trace.Why.{Why}
 use Rattle.mir_ty.specs.Facts.{needs_drop}
 use Rattle.mir_ty.specs.ItemTable.{ItemTable}
@@ -643,7 +643,7 @@ module _ (items : ItemTable) (body : BodyTree) where
   term_in (x ∷ stmts) term [] h = absurd h
   term_in (x ∷ stmts) term (n ∷ nodes) h = term_in stmts term nodes h.1
 
-  term_named : (term : Term) (n : ℕ) → places_of_term term ≢ [] → TermIn F (body_nodes body) term n → In F (body_nodes body) n
+  term_named : (term : Term) (n : ℕ) → sites.used_by_term term ≢ [] → TermIn F (body_nodes body) term n → In F (body_nodes body) n
   term_named (Term.Goto block) n some i = absurd (some refl)
   term_named (Term.If on if_yes if_no) n some i = i
   term_named (Term.Case on variant if_yes if_no) n some i = i
@@ -653,7 +653,7 @@ module _ (items : ItemTable) (body : BodyTree) where
   term_named (Term.Call to g args next unwind) n some i = i
   term_named (Term.Virtual to trait_no method args next unwind) n some i = i
   term_named (Term.Ask to next unwind) n some i = i
-  term_named (Term.DropAt place next unwind) n some i = i
+  term_named (Term.DropAt place next unwind) n some i = absurd (some refl)
   term_named (Term.Panic why unwind) n some i = absurd (some refl)
   term_named Term.Return n some i = absurd (some refl)
   term_named Term.Resume n some i = absurd (some refl)
@@ -682,7 +682,7 @@ module _ (items : ItemTable) (body : BodyTree) where
   abbrev HasSites : ℕ → Block → Type 0
   HasSites n block =
       ((line : ℕ) (stmt : Stmt) → slice_get block.stmts line ≡ Some stmt → places_of_stmt stmt ≢ [] → In F (body_nodes body) (lower.node_of items body n line))
-      × (places_of_term block.term ≢ [] → In F (body_nodes body) (lower.node_of items body n (length block.stmts)))
+      × (sites.used_by_term block.term ≢ [] → In F (body_nodes body) (lower.node_of items body n (length block.stmts)))
 
   node_at : (n line : ℕ) (nodes : List ℕ) → slice_get (lower.nodes_of (lower.built F body)) n ≡ Some nodes → lower.node_of items body n line ≡ unwrap_or (slice_get nodes line) 0
   node_at n line nodes e = ap (λ o. unwrap_or (slice_get (unwrap_or o []) line) 0) e
@@ -709,7 +709,7 @@ lowered_has_sites items body n block e =
           (i.0, i.1, stmt_at line stmt d i.0 i.1 p.0 p.1 p.2)),
       λ some.
           let i = h.1 some in
-          let p = some_place items body (places_of_term block.term) some in
+          let p = some_place items body (sites.used_by_term block.term) some in
           (i.0, i.1, term_at i.0 i.1 p.0 p.1 p.2),
     )
   where
@@ -718,5 +718,5 @@ lowered_has_sites items body n block e =
     stmt_at line stmt d found i p rest some = simp (e, d, i, some)
 
     term_at : (found : tree.Node) → first_with (lower.node_of items body n (length block.stmts)) (body_nodes body) ≡ Some found →
-        (p : graph_place.Place) (rest : List graph_place.Place) → places_of_term block.term ≡ p ∷ rest → sites.site_at items body n (length block.stmts) ≡ Some (sites.term_site items body block.term found)
+        (p : graph_place.Place) (rest : List graph_place.Place) → sites.used_by_term block.term ≡ p ∷ rest → sites.site_at items body n (length block.stmts) ≡ Some (sites.term_site items body block.term found)
     term_at found i p rest some = simp (e, past_end items body block.stmts, i, some)

@@ -1,5 +1,5 @@
 -- The places of a body as a graph has them, with their types: whole locals, and step by step inwards.
-use Rattle.std.proofs.Common.{◌≡◌, ℕ, zero, suc, ◌==◌, ◌&&◌, nat_lt, Bool, true, false, List, [], ◌∷◌, ◌++◌, length, map, Option, Some, None, slice_get, refl, sym, ap, ◌∙◌, subst}
+use Rattle.std.proofs.Common.{◌≡◌, ℕ, ◌&&◌, nat_lt, Bool, true, false, List, [], ◌∷◌, ◌++◌, length, map, Option, Some, None, slice_get, refl, sym, ap, ◌∙◌, subst}
 use Rattle.std.proofs.lemmas.Option.{none-some, same_Some}
 use Rattle.std.specs.Prelude.{option_and_then}
 use Rattle.std.specs.List.{list_all}
@@ -10,12 +10,11 @@ use Rattle.cfg_graph.specs.Places.{index_locals, named_step}
 use Rattle.mir_base.specs.declared.int_kind.IntKind.{IntKind}
 use Rattle.mir_ty.specs.declared.ty.Ty.{Ty}
 use Rattle.mir_ty.specs.declared.ty.TyId.{TyId}
-use Rattle.mir_ty.specs.ItemTable.{ItemTable, type_at}
+use Rattle.mir_ty.specs.ItemTable.{type_at}
 use Rattle.store_model.specs.Places.Place.{Step, ToPart, ToField, ToContent, ToElement, Place, whole_local, step_ty, ty_along, content_of, element_of, before_element}
 use Rattle.store_model.specs.Places.TypeForms as forms
 use Rattle.src_meaning.specs.Shape.{extended}
 use Rattle.cfg_build.specs.Build.{Frame, step_of}
-use Rattle.cfg_build.proofs.TypedLines as typed_lines
 use Rattle.cfg_build.proofs.TypedLines.{PlaceIs, below}
 
 module _ (f : Frame) (bodies : ℕ) where

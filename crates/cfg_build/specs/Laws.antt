@@ -4,7 +4,7 @@ use Rattle.std.specs.Prelude.{[], ◌≢◌, length, ◌<◌, ◌≤◌, ◌+◌
 use Rattle.cfg_graph.specs.declared.graph.Block.{Block}
 use Rattle.cfg_graph.specs.Edges.{IsRanked, targets}
 use Rattle.cfg_graph.specs.declared.statement.Stmt.{Stmt}
-use Rattle.cfg_graph.specs.Uses.{places_of_stmt, places_of_term}
+use Rattle.cfg_graph.specs.Uses.{places_of_stmt}
 use Rattle.cfg_graph.specs.Ready.{begins_once, frees_nothing, refills_dropped}
 use Rattle.cfg_graph.specs.WellFormed.Cleanup.{keeps_to_cleanup}
 use Rattle.cfg_meaning.specs.Programs.{raw_graph_run, free_walk}
@@ -17,7 +17,7 @@ use Rattle.well_typed.specs.Program.{WellTyped}
 use Rattle.cfg_code.specs.Laws.{without_place, outcome_without_place}
 use Rattle.cfg_build.specs.Loops.{names_its_loops}
 use Rattle.cfg_build.specs.Lower.{body_of, node_of, graph_of}
-use Rattle.cfg_build.specs.Sites.{site_at, stmt_site, term_site}
+use Rattle.cfg_build.specs.Sites.{site_at, stmt_site, term_site, used_by_term}
 
 -- each jump of a body names a loop around it
 abbrev pub NamesItsLoops : BodyTree → Type 0
@@ -74,7 +74,7 @@ LoweredIsSmall =
     (items : ItemTable) (tree : BodyTree) →
     length (body_of items tree).blocks ≤ 32 * (length (body_nodes tree) * (length (body_nodes tree) + 2))
 
--- each line that names a place has a site: with the position, the use and the place in words of the node whose number
+-- each line that uses a place, otherwise than by a drop, has a site: with the position, the use and the place in words of the node whose number
 -- the line has, and there is such a node
 abbrev pub LoweredHasSites : Type 0
 LoweredHasSites =
@@ -82,6 +82,6 @@ LoweredHasSites =
     ((line : ℕ) (stmt : Stmt) → slice_get block.stmts line ≡ Some stmt → places_of_stmt stmt ≢ [] →
     (found : Node) × (first_with (node_of items tree n line) (body_nodes tree) ≡ Some found)
     × (site_at items tree n line ≡ Some (stmt_site items tree stmt found)))
-    × (places_of_term block.term ≢ [] →
+    × (used_by_term block.term ≢ [] →
     (found : Node) × (first_with (node_of items tree n (length block.stmts)) (body_nodes tree) ≡ Some found)
     × (site_at items tree n (length block.stmts) ≡ Some (term_site items tree block.term found)))

@@ -119,11 +119,16 @@ use_by_term term None = Use.Move
 
 -- the place that is used: that of a store where the node stores, and else the first
 abbrev used_place : Option Use → List graph_place.Place → List graph_place.Place → Option graph_place.Place
-used_place (Some Use.Store) places stored = slice_get stored 0
+used_place (Some Use.Store) places (place ∷ stored) = Some place
 used_place by places stored = slice_get places 0
 
 abbrev words_of : ItemTable → BodyTree → Option graph_place.Place → List ℕ
 words_of items tree place = option_map_or (λ place. place_words items tree (named place)) place []
+
+-- the places that a terminator uses; a drop is no use
+abbrev pub used_by_term : Term → List graph_place.Place
+used_by_term (Term.DropAt place next unwind) = []
+used_by_term term = places_of_term term
 
 abbrev pub stmt_site : ItemTable → BodyTree → Stmt → Node → UseSite
 stmt_site items tree stmt n = record {
@@ -136,7 +141,7 @@ abbrev pub term_site : ItemTable → BodyTree → Term → Node → UseSite
 term_site items tree term n = record {
   at = position_of n;
   by = use_by_term term (use_of n);
-  name = words_of items tree (used_place (use_of n) (places_of_term term) (stored_by_term term));
+  name = words_of items tree (used_place (use_of n) (used_by_term term) (stored_by_term term));
 }
 
 abbrev if_any_place : List graph_place.Place → Option Node → Option Node
@@ -146,12 +151,12 @@ if_any_place (place ∷ places) n = n
 abbrev site_if : (Node → UseSite) → Option Node → Option UseSite
 site_if site n = option_map_or (λ found. Some (site found)) n None
 
--- the site of a line, which has one where it names a place
+-- the site of a line, which has one where it uses a place
 abbrev line_site : ItemTable → BodyTree → Option Node → Block → ℕ → Option UseSite
 line_site items tree n block line =
     option_map_or (λ stmt. site_if (stmt_site items tree stmt) (if_any_place (places_of_stmt stmt) n))
     (slice_get block.stmts line)
-    (site_if (term_site items tree block.term) (if_any_place (places_of_term block.term) n))
+    (site_if (term_site items tree block.term) (if_any_place (used_by_term block.term) n))
 
 -- the site of a line of a body, counted in its block; its terminator is the line behind the last statement
 abbrev pub site_at : ItemTable → BodyTree → (block line : ℕ) → Option UseSite

@@ -8,7 +8,7 @@ ghost use Rattle.cfg_build.specs.Laws.{LoweredRunsAsItsSource, LoweredWalksAsItR
 /// block that exists, and lowers the rank but for that to a turn block; none leads to the block in which a body begins.
 /// From other blocks exactly unwinding leads to cleanup blocks, which keep to themselves. No statement frees a box, and a
 /// place that may not be left gone gets a value again as soon as it is dropped. A body of `k` nodes has at most
-/// `32 * k * (k + 2)` blocks. Each line that names a place has a site, with the position, the use and the place in words
+/// `32 * k * (k + 2)` blocks. Each line that uses a place has a site, with the position, the use and the place in words
 /// of the node whose number the line has. All that is asked is that each jump names a loop around it, as in every well typed program.
 pub fn law_of_lowering()
     ensures values { LoweredRunsAsItsSource }

@@ -78,7 +78,7 @@ number id value = n id i32 (Number (pos value))
 abbrev pub nn : ℕ → ℤ → Node
 nn id value = n id n_ty (Make 0 0 (a_field 0 (n (id + 1) i32 (Number value)) no_field))
 
-abbrev drop_n : BodyTree
+abbrev pub drop_n : BodyTree
 drop_n = record {
   number = 0;
   params = (record { pattern = used 0 unique_n_ty Use.Copy a_name; ty = unique_n_ty }) ∷ [];
