@@ -5,7 +5,7 @@ use Rattle.mir_ty.specs.declared.ty.TyId.{TyId}
 use Rattle.mir_ty.specs.declared.ty.Ty.{Ty}
 use Rattle.mir_ty.specs.ItemTable.{ItemTable}
 use Rattle.typed_tree.specs.declared.node.Use.{Use}
-use Rattle.typed_tree.specs.Tree.{Node, no_node, no_field, a_field, absent, present, Variable, Assign, Match, Arm, Block, VariantPattern, Binding, BodyTree}
+use Rattle.typed_tree.specs.Tree.{Node, Captured, no_node, no_field, a_field, absent, present, Variable, Assign, Match, Arm, Block, VariantPattern, Binding, BodyTree}
 use Rattle.cfg_build.specs.Lower.{node_of}
 use Rattle.cfg_build.specs.Sites.{UseSite, site_at}
 use Rattle.cfg_build.proofs.Examples.Words.{n, used, nodes, a_name, unit, n_ty, let_, stmt, block, number, nn, program, drop_n}
@@ -84,3 +84,21 @@ a_variant_is_tested = refl
 -- then comes the part's number
 a_part_of_a_variant : map {B = Use × List ℕ} (λ site. (site.0, take 4 site.1)) (sites_of enum_items matched 6) ≡ (Use.Move, codes "x.V.") ∷ []
 a_part_of_a_variant = refl
+
+-- let x = N(1); move || [x] { let y = x; }: inside, the name stands for the first part of the closure's value
+abbrev closure_items : ItemTable
+closure_items = record items {
+  types = items.types ++ Ty.Closure 0 ∷ [];
+  closures = (record { captures = n_ty ∷ []; body = 2 }) ∷ [];
+}
+
+abbrev inside : BodyTree
+inside = record {
+  number = 2;
+  params = (record { pattern = used 0 e_ty Use.Move (Binding (codes "self")); ty = e_ty }) ∷ [];
+  answer = unit;
+  block = block 1 unit (let_ 2 (used 3 n_ty Use.Move (Binding (codes "y"))) (used 4 n_ty Use.Move (Captured 0 0 (codes "x"))) ∷ []);
+}
+
+a_captured_name : sites_of closure_items inside 4 ≡ (Use.Move, codes "x") ∷ []
+a_captured_name = refl
