@@ -74,11 +74,12 @@ LoweredIsSmall =
     (items : ItemTable) (tree : BodyTree) →
     length (body_of items tree).blocks ≤ 32 * (length (body_nodes tree) * (length (body_nodes tree) + 2))
 
--- each line that uses a place, otherwise than by a drop, has a site: with the position, the use and the place in words of the node whose number
--- the line has, and there is such a node
+-- each line that uses a place, otherwise than by a drop, has a site: with the position, the use and the place in words
+-- of the node whose number the line has, and there is such a node
 abbrev pub LoweredHasSites : Type 0
 LoweredHasSites =
-    (items : ItemTable) (tree : BodyTree) (n : ℕ) (block : Block) → slice_get (body_of items tree).blocks n ≡ Some block →
+    (items : ItemTable) (tree : BodyTree) (n : ℕ) (block : Block) →
+    slice_get (body_of items tree).blocks n ≡ Some block →
     ((line : ℕ) (stmt : Stmt) → slice_get block.stmts line ≡ Some stmt → places_of_stmt stmt ≢ [] →
     (found : Node) × (first_with (node_of items tree n line) (body_nodes tree) ≡ Some found)
     × (site_at items tree n line ≡ Some (stmt_site items tree stmt found)))

@@ -91,7 +91,8 @@ whole_words items tree local steps =
 
 abbrev words_from : ItemTable → BodyTree → ℕ → List Step → List ℕ
 words_from items tree local (ToPart part ∷ steps) =
-    option_map_or (λ name. name ++ steps_words items (part_ty items (slice_get (local_tys items tree) local) part) steps)
+    option_map_or
+    (λ name. name ++ steps_words items (part_ty items (slice_get (local_tys items tree) local) part) steps)
     (captured_name items tree local part) (whole_words items tree local (ToPart part ∷ steps))
 words_from items tree local steps = whole_words items tree local steps
 

@@ -1,15 +1,17 @@
 //! The laws of the lowering. Each is a clause of a function without parameters.
-ghost use Rattle.cfg_build.specs.Laws.{LoweredHasSites, LoweredIsPrepared, LoweredIsRanked, LoweredIsSmall, LoweredKeepsToCleanup};
-ghost use Rattle.cfg_build.specs.Laws.{LoweredRunsAsItsSource, LoweredWalksAsItRunsFreely, WellTypedNamesItsLoops};
+ghost use Rattle.cfg_build.specs.Laws.{LoweredHasSites, LoweredIsPrepared, LoweredIsRanked, LoweredIsSmall};
+ghost use Rattle.cfg_build.specs.Laws.{LoweredKeepsToCleanup, LoweredRunsAsItsSource};
+ghost use Rattle.cfg_build.specs.Laws.{LoweredWalksAsItRunsFreely, WellTypedNamesItsLoops};
 
 /// The raw graph of a typed program runs as the program does: with the same numbers to be asked and the same ticks, it
 /// has the same trace and the same end, but for the block in which both are stuck. For every list of choices a body of
 /// it walks as the body of the program runs freely, and meets a refused use of the same node. Each edge leads to a
 /// block that exists, and lowers the rank but for that to a turn block; none leads to the block in which a body begins.
-/// From other blocks exactly unwinding leads to cleanup blocks, which keep to themselves. No statement frees a box, and a
-/// place that may not be left gone gets a value again as soon as it is dropped. A body of `k` nodes has at most
+/// From other blocks exactly unwinding leads to cleanup blocks, which keep to themselves. No statement frees a box, and
+/// a place that may not be left gone gets a value again as soon as it is dropped. A body of `k` nodes has at most
 /// `32 * k * (k + 2)` blocks. Each line that uses a place has a site, with the position, the use and the place in words
-/// of the node whose number the line has. All that is asked is that each jump names a loop around it, as in every well typed program.
+/// of the node whose number the line has. All that is asked is that each jump names a loop around it, as in every well
+/// typed program.
 pub fn law_of_lowering()
     ensures values { LoweredRunsAsItsSource }
     ensures free { LoweredWalksAsItRunsFreely }

@@ -25,7 +25,8 @@ if_of false sites = []
 -- the uses of a node, and their places in words, in the first twelve blocks and six lines
 abbrev sites_of : ItemTable → BodyTree → ℕ → List (Use × List ℕ)
 sites_of items tree number =
-    flat_map (λ b. flat_map (λ l. if_of (node_of items tree b l == number) (told (site_at items tree b l))) (below 6)) (below 12)
+    flat_map (λ b. flat_map (λ l. if_of (node_of items tree b l == number) (told (site_at items tree b l))) (below 6))
+    (below 12)
 
 abbrev items : ItemTable
 items = (program (block 0 unit []) [] []).items
@@ -55,7 +56,8 @@ enum_items = record items {
   adts = items.adts ++ (record {
     name = codes "E";
     is_enum = true;
-    variants = (record { name = codes "A"; fields = []; field_names = [] }) ∷ (record { name = codes "V"; fields = n_ty ∷ []; field_names = codes "0" ∷ [] }) ∷ [];
+    variants = (record { name = codes "A"; fields = []; field_names = [] })
+        ∷ (record { name = codes "V"; fields = n_ty ∷ []; field_names = codes "0" ∷ [] }) ∷ [];
     copy = false;
     drop_body = None;
   }) ∷ [];
@@ -70,7 +72,8 @@ matched = record {
   params = (record { pattern = used 0 e_ty Use.Move a_name; ty = e_ty }) ∷ [];
   answer = unit;
   block = n 1 unit (Block no_node (present (n 2 unit (Match (used 3 e_ty Use.Borrow (Variable 0)) (nodes (
-      (n 4 unit (Arm (used 5 e_ty Use.Test (VariantPattern 1 true (a_field 0 (used 6 n_ty Use.Move (Binding (codes "y"))) no_field))) absent (block 7 unit [])))
+      (n 4 unit (Arm (used 5 e_ty Use.Test (VariantPattern 1 true
+      (a_field 0 (used 6 n_ty Use.Move (Binding (codes "y"))) no_field))) absent (block 7 unit [])))
       ∷ (n 8 unit (Arm (used 9 e_ty Use.Test (VariantPattern 0 true no_field)) absent (block 10 unit [])))
       ∷ []))))));
 }
@@ -82,7 +85,8 @@ a_variant_is_tested : sites_of enum_items matched 5 ≡ (Use.Test, codes "x") �
 a_variant_is_tested = refl
 
 -- then comes the part's number
-a_part_of_a_variant : map {B = Use × List ℕ} (λ site. (site.0, take 4 site.1)) (sites_of enum_items matched 6) ≡ (Use.Move, codes "x.V.") ∷ []
+a_part_of_a_variant : map {B = Use × List ℕ} (λ site. (site.0, take 4 site.1)) (sites_of enum_items matched 6)
+    ≡ (Use.Move, codes "x.V.") ∷ []
 a_part_of_a_variant = refl
 
 -- let x = N(1); move || [x] { let y = x; }: inside, the name stands for the first part of the closure's value
@@ -97,7 +101,8 @@ inside = record {
   number = 2;
   params = (record { pattern = used 0 e_ty Use.Move (Binding (codes "self")); ty = e_ty }) ∷ [];
   answer = unit;
-  block = block 1 unit (let_ 2 (used 3 n_ty Use.Move (Binding (codes "y"))) (used 4 n_ty Use.Move (Captured 0 0 (codes "x"))) ∷ []);
+  block = block 1 unit (
+      let_ 2 (used 3 n_ty Use.Move (Binding (codes "y"))) (used 4 n_ty Use.Move (Captured 0 0 (codes "x"))) ∷ []);
 }
 
 a_captured_name : sites_of closure_items inside 4 ≡ (Use.Move, codes "x") ∷ []
