@@ -1,2 +1,3 @@
+pub mod ChoicesDone
 pub mod Operands
 pub mod StepsDone

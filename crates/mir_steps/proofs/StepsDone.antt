@@ -19,7 +19,8 @@ use Rattle.mir_base.specs.declared.operator.Cmp.{Cmp}
 use Rattle.mir_ty.specs.declared.adt.Adt.{Adt}
 use Rattle.store_model.specs.Concrete.Effects.{evaluate_operand, evaluate_operands, with_operand, with_two_operands, with_operands, put, put_if, or_stuck, whole_at, printed, tell_after, boxed, built, made_event, compared}
 use Rattle.std.specs.Prelude.{slice_get}
-use Rattle.std.specs.Option.{option_map_or}
+use Rattle.std.proofs.lemmas.Bool.{true≢false}
+use Rattle.std.specs.Option.{option_map_or, is_some}
 use Rattle.store_model.specs.Concrete.Location.{Setting, Located}
 use Rattle.store_model.specs.Concrete.State.{State, with_event, numbered_next}
 use Rattle.store_model.specs.Effects.{Site, Stuck, Out, Go, Unwind, Halts, OfVariant}
@@ -357,3 +358,11 @@ module _ (setting : Setting) (to : Site) (adt variant : ℕ) (parts : List Datum
       ap seen (built_is setting to adt variant parts (state_of before old) (Some some) (is ∙ e))
       ∙ ap (λ n. seen (stored_and_told setting to (Aggregate variant (Some n) (data_from parts)) (Event.Make adt n) (numbered_next (state_of before old)))) (sym same)
       ∙ ap (λ w. seen (stored_and_told setting to (Aggregate variant (Some serial) (data_from parts)) (Event.Make adt serial) w)) (sym (next before)) ∙ h before
+
+pub none_there : (o : Option ℕ) → is_some o ≡ false → o ≡ None
+none_there None e = refl
+none_there (Some n) e = absurd (true≢false e)
+
+pub some_there : (o : Option ℕ) → is_some o ≡ true → (n : ℕ) × (o ≡ Some n)
+some_there None e = absurd (true≢false (sym e))
+some_there (Some n) e = (n, refl)
