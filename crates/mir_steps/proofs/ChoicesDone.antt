@@ -10,12 +10,12 @@ use Rattle.mir_base.specs.declared.trace.Event.{Event}
 use Rattle.mir_base.specs.declared.trace.Why.{Why}
 use Rattle.mir_steps.specs.declared.actions.Outcome.{Outcome}
 use Rattle.mir_steps.specs.declared.world.World.{World}
-use Rattle.mir_steps.specs.Steps.{seen, Goes, Panics, Does, truth_of, stored_and_told, seen_choice, NotChosen, leaves_choice, Chooses}
+use Rattle.mir_steps.specs.Steps.{seen, Panics, Does, truth_of, stored_and_told, seen_choice, NotChosen, leaves_choice, Chooses}
 use Rattle.mir_steps.specs.Worlds.{state_of, run_setting, Evaluates}
 use Rattle.mir_store.specs.Standing.{number_of, with_activations}
 use Rattle.mir_steps.proofs.Operands.{operand_same_trace}
 use Rattle.mir_store.proofs.SameReach.{reach_same}
-use Rattle.store_model.specs.Concrete.Effects.{evaluate_operand, bounded, within_bounds, asked, choose, chosen_truth, chosen_if, variant_tested}
+use Rattle.store_model.specs.Concrete.Effects.{bounded, within_bounds, asked, choose, chosen_truth, chosen_if, variant_tested}
 use Rattle.store_model.specs.Concrete.Location.{Setting, Located, Reached, Reaches, CutOff, Nowhere, reach, on_reached}
 use Rattle.store_model.specs.Concrete.State.{State, with_event}
 use Rattle.store_model.specs.declared.value.Value.{Value}

@@ -9,7 +9,7 @@ use Rattle.mir_steps.specs.Worlds.{run_setting}
 use Rattle.mir_steps.proofs.StepsDone.{stuck_does, second_stuck, two_do, truth_stored, no_truth_stored, in_setting, datum_of_truth}
 use Rattle.store_model.specs.declared.value.Value.TheVariants.{Bool}
 use Rattle.store_model.specs.Concrete.Effects.{with_operand, put, put_if, compared}
-use Rattle.store_model.specs.Values.Datum.{Datum, Truth, datum_of}
+use Rattle.store_model.specs.Values.Datum.{Truth, datum_of}
 use Rattle.mir_steps.proofs.world.World.compare.Goals as goal
 
 pub returns-in_default-clause-does : goal.returns-in_default-clause-does
