@@ -66,7 +66,8 @@ found_of (Some id) = Some (OfType id)
 
 -- as what a part of a variant is found, by its number
 abbrev pub type_of_number : ItemTable → DynamicType → ℕ → ℕ → Option DynamicType
-type_of_number items dynamic variant n = found_of (option_and_then (λ ty. slice_get (parts_of items ty variant) n) (concrete_ty items dynamic))
+type_of_number items dynamic variant n =
+    found_of (option_and_then (λ ty. slice_get (parts_of items ty variant) n) (concrete_ty items dynamic))
 
 -- what a drop puts aside at once
 abbrev pub IsPlain : Datum → Type 0
@@ -99,7 +100,8 @@ module _ (setting : Setting) (run : Bodies) (depth key : ℕ) where
   found_as path dynamic value = record { address = at_path path; dynamic = dynamic; value = value }
 
   -- an aggregate stands as it was read, but for parts before a number
-  pub record StandsFrom (w : State) (path : List At) (dynamic : DynamicType) (variant next : ℕ) (parts : Data) : Type 0 where
+  pub record StandsFrom (w : State) (path : List At) (dynamic : DynamicType) (variant next : ℕ) (parts : Data) :
+      Type 0 where
     pub serial : Option ℕ
     pub now : Data
     pub there : located_at setting w (at_path path) ≡ Some (found_as path dynamic (Aggregate variant serial now))
@@ -157,10 +159,12 @@ module _ (setting : Setting) (run : Bodies) (depth key : ℕ) where
   -- what stands at a path is dropped: as it was read, or it is read again and has to be of a type
   pub data Visits (w : State) (path : List At) (stage : Stage) (does : Rest) : Option DynamicType → Type 0 where
     AsRead : (fuel : ℕ) (s : Located) (enough : w.ticks ≤ fuel) (there : located_at setting w (at_path path) ≡ Some s)
-        (is : (mode : Mode) (v : State) → does mode v ≡ drop_value setting run (drop_at setting run fuel) w.ticks s.value stage s mode v) →
+        (is : (mode : Mode) (v : State) → does mode v
+        ≡ drop_value setting run (drop_at setting run fuel) w.ticks s.value stage s mode v) →
         Visits w path stage does None
     Again : (fuel : ℕ) (dynamic : DynamicType) (enough : w.ticks < fuel)
-        (is : (mode : Mode) (v : State) → does mode v ≡ drop_at setting run fuel stage (found_as path dynamic Gone) mode v) →
+        (is : (mode : Mode) (v : State) → does mode v
+        ≡ drop_at setting run fuel stage (found_as path dynamic Gone) mode v) →
         Visits w path stage does (Some dynamic)
 
   -- this, and then the rest

@@ -16,8 +16,8 @@ pub record ShowsParts (value : Datum) (variant : ℕ) (serial : Option ℕ) (tot
   pub is : value ≡ Aggregate variant serial parts
   pub counted : count parts ≡ total
 
-pub record ShowsBox (items : ItemTable) (value : Datum) (dynamic : DynamicType) (serial : ℕ) (content : Option DynamicType)
-    : Type 0 where
+pub record ShowsBox (items : ItemTable) (value : Datum) (dynamic : DynamicType) (serial : ℕ)
+    (content : Option DynamicType) : Type 0 where
   pub impl_no : Option ℕ
   pub inside : Datum
   pub is : value ≡ Box serial impl_no inside

@@ -51,20 +51,26 @@ module _ (setting : Setting) (run : Bodies) (w : State) (out : Out State) (drops
 
   abbrev pub TurnLeft : Turn → Type 0
   TurnLeft (Turn.Visits has_run expected) =
-      VisitsLeft setting run depth key (levels_of drops.levels) w drops.address.path (mode_by drops.unwinds) drops.panicked out
+      VisitsLeft setting run depth key (levels_of drops.levels) w drops.address.path (mode_by drops.unwinds)
+      drops.panicked out
       (stage_by has_run) (option_map dynamic_of expected)
   TurnLeft Turn.Goes =
-      GoesLeft setting run depth key (levels_of drops.levels) w drops.address.path (mode_by drops.unwinds) drops.panicked out
+      GoesLeft setting run depth key (levels_of drops.levels) w drops.address.path (mode_by drops.unwinds)
+      drops.panicked out
   TurnLeft Turn.Leaves =
-      LeavesLeft setting run depth key (levels_of drops.levels) w drops.address.path (mode_by drops.unwinds) drops.panicked out
+      LeavesLeft setting run depth key (levels_of drops.levels) w drops.address.path (mode_by drops.unwinds)
+      drops.panicked out
   TurnLeft (Turn.Clears dynamic) =
-      ClearsLeft setting run depth key (levels_of drops.levels) w drops.address.path (mode_by drops.unwinds) drops.panicked out
+      ClearsLeft setting run depth key (levels_of drops.levels) w drops.address.path (mode_by drops.unwinds)
+      drops.panicked out
       (dynamic_of dynamic)
   TurnLeft (Turn.Frees dynamic) =
-      FreesLeft setting run depth key (levels_of drops.levels) w drops.address.path (mode_by drops.unwinds) drops.panicked out
+      FreesLeft setting run depth key (levels_of drops.levels) w drops.address.path (mode_by drops.unwinds)
+      drops.panicked out
       (dynamic_of dynamic)
   TurnLeft (Turn.Enters adt serial body dynamic) =
-      EntersLeft setting run depth key (levels_of drops.levels) w drops.address.path (mode_by drops.unwinds) drops.panicked out
+      EntersLeft setting run depth key (levels_of drops.levels) w drops.address.path (mode_by drops.unwinds)
+      drops.panicked out
       adt serial body (dynamic_of dynamic)
   TurnLeft Turn.Ends = out ≡ finished drops.panicked (Go w)
   TurnLeft Turn.Stuck = seen out ≡ Halted Stuck w.trace
@@ -125,11 +131,13 @@ Does step w false v = (step w ≡ Halts Stuck w) × (v ≡ w)
 
 abbrev pub Clears : Setting → Bodies → Addr → Dynamic → State → Bool → State → Type 0
 Clears setting run address dynamic w went v =
-    Does (gone_at setting run (found_as setting run address.depth address.key.0 address.path (dynamic_of dynamic) Gone)) w went v
+    Does (gone_at setting run
+    (found_as setting run address.depth address.key.0 address.path (dynamic_of dynamic) Gone)) w went v
 
 abbrev pub Frees : Setting → Bodies → Addr → Dynamic → State → Bool → State → Type 0
 Frees setting run address dynamic w went v =
-    Does (freed_at setting run (found_as setting run address.depth address.key.0 address.path (dynamic_of dynamic) Gone)) w went v
+    Does (freed_at setting run
+    (found_as setting run address.depth address.key.0 address.path (dynamic_of dynamic) Gone)) w went v
 
 -- How a drop begins, and how it goes on after a `Drop` body.
 

@@ -8,8 +8,8 @@ use std::alloc::Global;
 use store_model::Addr;
 
 impl Drops {
-    /// The drop of what stands at an address; `unwinds` where it is made while a panic unwinds. Its first turn visits the
-    /// address, and expects what was found there.
+    /// The drop of what stands at an address; `unwinds` where it is made while a panic unwinds. Its first turn visits
+    /// the address, and expects what was found there.
     pub fn of(alloc: Global, address: Addr, unwinds: bool) -> Drops
         ensures { IsDropOf address unwinds result }
     {

@@ -153,7 +153,8 @@ impl Drops {
     /// Begins with a box; there is no step where its content is found as nothing.
     fn enter_box(&mut self, dynamic: Dynamic, content: Option<Dynamic>) -> Result<Turn, NoMemory>
         ensures { IfOk result (λ turn. (items : ItemTable) (ticks : ℕ) (has_run : Bool) (serial : ℕ) →
-            Begins items ticks has_run (record { dynamic = dynamic; kind = a_kind.Boxed serial content }) self.old self.new turn) }
+            Begins items ticks has_run (record { dynamic = dynamic; kind = a_kind.Boxed serial content }) self.old
+            self.new turn) }
     {
         if content.is_none() {
             return Ok(Turn::Stuck);
@@ -195,7 +196,8 @@ impl Drops {
 
     /// Goes on after what stands at the address was dropped.
     pub fn leave(&mut self, alloc: Global) -> Result<Turn, NoMemory>
-        ensures { IfOk result (λ turn. (items : ItemTable) (ticks : ℕ) → GoesOn a_turn.Leaves items ticks self.old self.new turn) }
+        ensures { IfOk result (λ turn. (items : ItemTable) (ticks : ℕ) →
+            GoesOn a_turn.Leaves items ticks self.old self.new turn) }
     {
         if self.levels.is_empty() {
             return Ok(Turn::Ends);
@@ -215,7 +217,8 @@ impl Drops {
         total: usize,
         ticks: u64,
     ) -> Result<Turn, NoMemory>
-        ensures { IfOk result (λ turn. GoesOnPart items.now now dynamic variant part total ticks self.old self.new turn) }
+        ensures { IfOk result (λ turn.
+            GoesOnPart items.now now dynamic variant part total ticks self.old self.new turn) }
     {
         if part as usize >= total {
             return Ok(Turn::Clears(dynamic));

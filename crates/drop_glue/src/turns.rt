@@ -26,7 +26,8 @@ fn visit(
     expected: Option<Dynamic>,
 ) -> Result<Turn, NoMemory>
     ensures { IfOk result (λ turn. (before : Trace) (run : Bodies) (out : Out State) →
-        TurnLeft (run_setting world.now) run (state_of before world.now) out drops.old (a_turn.Visits has_run expected) →
+        TurnLeft (run_setting world.now) run (state_of before world.now) out drops.old
+        (a_turn.Visits has_run expected) →
         TurnLeft (run_setting world.now) run (state_of before world.now) out drops.new turn) }
 {
     let Some(found) = read(alloc, world.graph, &world.store, &drops.address)? else {
@@ -48,7 +49,8 @@ fn clear(
 ) -> Result<bool, NoMemory>
     ensures run { run_setting world.new ≡ run_setting world.old }
     ensures cleared { IfOk result (λ went. (before : Trace) (run : Bodies) →
-        Clears (run_setting world.old) run address.now dynamic (state_of before world.old) went (state_of before world.new)) }
+        Clears (run_setting world.old) run address.now dynamic (state_of before world.old) went
+        (state_of before world.new)) }
 {
     let Some(found) = read(alloc, world.graph, &world.store, address)? else {
         return Ok(false);
@@ -83,7 +85,8 @@ fn free(
 ) -> Result<bool, NoMemory>
     ensures run { run_setting world.new ≡ run_setting world.old }
     ensures freed { IfOk result (λ went. (before : Trace) (run : Bodies) →
-        Frees (run_setting world.old) run address.now dynamic (state_of before world.old) went (state_of before world.new)) }
+        Frees (run_setting world.old) run address.now dynamic (state_of before world.old) went
+        (state_of before world.new)) }
 {
     let Some(found) = read(alloc, world.graph, &world.store, address)? else {
         return Ok(false);

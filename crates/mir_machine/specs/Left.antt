@@ -1,6 +1,6 @@
--- What is left of a run: the bodies that wait, the youngest first, each for one that it called, or for a `Drop` body of a
--- drop that it makes. The number of ticks of the whole run bounds the nesting of bodies, so the bodies that are called
--- are the same ones at each depth.
+-- What is left of a run: the bodies that wait, the youngest first, each for one that it called, or for a `Drop` body of
+-- a drop that it makes. The number of ticks of the whole run bounds the nesting of bodies, so those that are called are
+-- the same at each depth.
 use Rattle.std.specs.Prelude.{ℕ, suc, Bool, List, [], ◌∷◌, slice_get}
 use Rattle.std.specs.Option.{option_map_or}
 use Rattle.cfg_graph.specs.declared.graph.Body.{Body}
@@ -26,8 +26,8 @@ pub record Place : Type 0 where
   pub onward : ℕ
   pub unwind : Unwind
 
--- a body waits for one that it called, whose result it stores, unless it is lost at a place of the type `!`; or it waits
--- for a `Drop` body, after which its drop comes to an end by how that ended
+-- a body waits for one that it called, whose result it stores, unless it is lost at a place of the type `!`; or it
+-- waits for a `Drop` body, after which its drop comes to an end by how that ended
 pub data Waiting : Type 0 where
   ForCall : (place : Place) (to : Site) (lost : Bool) → Waiting
   ForDrop : (place : Place) (comes_to : Answer → Out State) → Waiting
@@ -45,7 +45,8 @@ module _ (strict : Bool) (graph : Graph) (ticks : ℕ) where
       (with_activation (record { body = number; cells = arguments_from 1 args }) (with_event event w))))
     where
       first_walk : ℕ → State → Out State
-      first_walk number w = option_map_or (λ body. walks number body 0 w) (slice_get graph.bodies number) (Halts Stuck w)
+      first_walk number w =
+          option_map_or (λ body. walks number body 0 w) (slice_get graph.bodies number) (Halts Stuck w)
 
   -- what a terminator comes to, and then the walk, and the end of the body
   abbrev pub goes_on : Place → Out State → Answer
