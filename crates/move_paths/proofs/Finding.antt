@@ -26,7 +26,7 @@ first-take zero ys = refl
 first-take (suc d) [] = refl
 first-take (suc d) (y ∷ ys) = both_true (same_step-refl y) (first-take d ys)
 
-first-is-take : (xs ys : List Step) → are_first xs ys ≡ true → (xs ≡ take (length xs) ys) × (length xs ≤ length ys)
+pub first-is-take : (xs ys : List Step) → are_first xs ys ≡ true → (xs ≡ take (length xs) ys) × (length xs ≤ length ys)
 first-is-take [] ys h = (refl, omega arith)
 first-is-take (x ∷ xs) [] h = absurd (false≢true h)
 first-is-take (x ∷ xs) (y ∷ ys) h =

@@ -1,4 +1,5 @@
 pub mod Above
+pub mod Children
 pub mod Finding
 pub mod Growth
 pub mod Naming

@@ -1,7 +1,7 @@
 -- The paths of a body that are watched for moves (the rustc development guide, "Move paths"): its locals, the places
 -- that it moves, drops, frees or stores into, and the containers of these.
-use Rattle.std.specs.Prelude.{◌≡◌, ◌↔◌, ◌⊎◌, ℕ, ◌<◌, Bool, true, false, ◌&&◌, ◌||◌, List, [], ◌∷◌, flat_map, length, nat_lt, slice_get, Some, Contains}
-use Rattle.std.specs.List.{list_any}
+use Rattle.std.specs.Prelude.{◌≡◌, ◌↔◌, ◌⊎◌, ℕ, zero, suc, if◌then◌else◌, map, slice_index_or, ◌<◌, Bool, true, false, ◌&&◌, ◌||◌, List, [], ◌∷◌, flat_map, length, nat_lt, slice_get, Some, Contains, ◌==◌, ◌++◌}
+use Rattle.std.specs.List.{list_any, range_with_len}
 use Rattle.std.specs.Option.{is_some}
 use Rattle.mir_ty.specs.declared.ty.TyId.{TyId}
 use Rattle.mir_ty.specs.ItemTable.{ItemTable}
@@ -26,9 +26,9 @@ pub record IsRooted (tys : List TyId) (paths : List Place) : Type 0 where
   pub roots : (n : ℕ) → n < length tys → slice_get paths n ≡ Some (whole_local n)
   pub locals : (place : Place) → Contains paths place → place.local < length tys
 
--- a path is a local
+-- a path is the local with its number
 abbrev pub IsRoot : List Place → ℕ → Type 0
-IsRoot paths path = (local : ℕ) × (slice_get paths path ≡ Some (whole_local local))
+IsRoot paths path = slice_get paths path ≡ Some (whole_local path)
 
 -- a path is one step below an earlier one
 pub record IsStepBelow (paths : List Place) (upper lower : ℕ) : Type 0 where
@@ -37,6 +37,24 @@ pub record IsStepBelow (paths : List Place) (upper lower : ℕ) : Type 0 where
   pub step : Step
   pub above : slice_get paths upper ≡ Some place
   pub here : slice_get paths lower ≡ Some (below place (step ∷ []))
+
+-- whether a path is one step below another
+abbrev pub is_child : List Place → (upper lower : ℕ) → Bool
+is_child paths upper lower =
+    is_at_or_above (slice_index_or paths upper (whole_local 0)) (slice_index_or paths lower (whole_local 0))
+    && (suc (length (slice_index_or paths upper (whole_local 0)).steps) == length (slice_index_or paths lower (whole_local 0)).steps)
+
+-- the paths below this number that are one step below a path, in order
+abbrev pub children_before : List Place → (path : ℕ) → ℕ → List ℕ
+children_before paths path zero = []
+children_before paths path (suc n) = children_before paths path n ++ (if is_child paths path n then n ∷ [] else [])
+
+-- all paths one step below a path, in order
+abbrev pub children_of : List Place → (path : ℕ) → List ℕ
+children_of paths path = children_before paths path (length paths)
+
+abbrev pub all_children : List Place → List (List ℕ)
+all_children paths = map (children_of paths) (range_with_len 0 (length paths))
 
 -- the last path along a place, of which no path is
 pub record IsNearest (paths : List Place) (place : Place) (path : ℕ) : Type 0 where

@@ -1,11 +1,11 @@
 //! The forest of the paths of a body.
-ghost use Rattle.std.specs.Prelude.{◌≡◌, ◌<◌, ◌∷◌, ◌++◌, [], Contains, length, map, flat_map, slice_get, MatchOption, IfOk, OnOk, Some};
+ghost use Rattle.std.specs.Prelude.{◌≡◌, ◌<◌, ◌∷◌, ◌++◌, [], Contains, length, map, flat_map, replicate, slice_get, slice_set, slice_index_or, MatchOption, IfOk, OnOk, Some};
 ghost use Rattle.std.specs.Option.{is_some};
 ghost use Rattle.cfg_graph.specs.declared.graph.Body.{Body as GraphBody};
 ghost use Rattle.cfg_graph.specs.Places.{named};
 ghost use Rattle.cfg_graph.specs.Uses as graph;
 ghost use Rattle.cfg_graph.specs.Moves.Gone.{leaves_gone};
-ghost use Rattle.move_paths.specs.Forest.{IsForest, IsFound, IsRoot, IsStepBelow, HasLocals, Names, names_any};
+ghost use Rattle.move_paths.specs.Forest.{IsForest, IsFound, IsRoot, IsStepBelow, all_children, children_of, HasLocals, Names, names_any};
 ghost use Rattle.move_paths.specs.Trie.{AreOnce, Reaches};
 ghost use Rattle.move_paths.specs.Uses.{block_uses, listed, use_of};
 
@@ -33,17 +33,19 @@ pub enum Found {
 #[derive(Debug, Drop)]
 pub struct Forest {
     trie: Trie,
+    children: List<List<u32>>,
     tys: List<TyId>,
 }
 
 impl Model for Forest {
-    ghost use Rattle.move_paths.specs.Forest.{PathForest, IsRooted};
+    ghost use Rattle.std.specs.Prelude.{◌≡◌};
+    ghost use Rattle.move_paths.specs.Forest.{PathForest, IsRooted, all_children};
 
     ghost Value = { PathForest };
 
     ghost view = { λ forest. record { tys = forest.tys; paths = forest.trie } };
 
-    ghost invariant = { λ forest. IsRooted forest.tys forest.trie };
+    ghost invariant = { λ forest. IsRooted forest.tys forest.trie × (forest.children ≡ all_children forest.trie) };
 }
 
 impl Forest {
@@ -65,6 +67,14 @@ impl Forest {
 }
 
 impl Forest {
+    /// The paths one step below a path, in the order of their numbers.
+    pub fn children(&self, path: u32) -> &[u32]
+        requires { path < length self.now.paths }
+        ensures { result.now ≡ children_of self.now.paths path }
+    {
+        self.children.as_slice()[path as usize].as_slice()
+    }
+
     /// What the forest has of a place of its body, by the items of the graph that the forest was made from.
     pub fn find(&self, items: &Items, place: &Place) -> Found
         requires { place.now.local < length self.now.tys }
@@ -203,6 +213,36 @@ fn copied(alloc: Global, tys: &[TyId]) -> Result<List<TyId>, NoMemory>
     Ok(copy)
 }
 
+fn no_children(alloc: Global, count: u32) -> Result<List<List<u32>>, NoMemory>
+    ensures { IfOk result (λ lists. lists ≡ replicate count []) }
+{
+    let mut lists = List::new(alloc);
+    for _ in 0..count {
+        lists.push(List::new(alloc))?;
+    }
+    Ok(lists)
+}
+
+fn add_child(lists: &mut List<List<u32>>, upper: u32, path: u32) -> Result<(), NoMemory>
+    requires { upper < length lists.old }
+    ensures { OnOk result (lists.new ≡ slice_set lists.old upper (slice_index_or lists.old upper [] ++ path ∷ [])) }
+{
+    lists.element_mut(upper as usize).push(path)
+}
+
+fn children_in(alloc: Global, trie: &Trie) -> Result<List<List<u32>>, NoMemory>
+    ensures { IfOk result (λ lists. lists ≡ all_children trie.now) }
+{
+    let count = trie.len();
+    let mut lists = no_children(alloc, count)?;
+    for path in 0..count {
+        if let Some(upper) = trie.parent(path) {
+            add_child(&mut lists, upper, path)?;
+        }
+    }
+    Ok(lists)
+}
+
 fn forest_of(alloc: Global, items: &Items, body: &Body) -> Result<Forest, NoMemory>
     ensures { IfOk result (λ forest. IsForest items.now body.now forest) }
 {
@@ -212,8 +252,10 @@ fn forest_of(alloc: Global, items: &Items, body: &Body) -> Result<Forest, NoMemo
     let mut trie = Trie::new(alloc, locals);
     add_blocks(alloc, &mut trie, items, body)?;
     let _ = trie.len();
+    let children = children_in(alloc, &trie)?;
     Ok(Forest {
         trie,
+        children,
         tys: copied(alloc, body.locals.as_slice())?,
     })
 }

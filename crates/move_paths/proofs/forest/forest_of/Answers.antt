@@ -2,7 +2,7 @@ use Rattle.std.proofs.Common.{◌≡◌, List, length, flat_map, ap, sym, ◌∙
 use Rattle.mir_ty.specs.declared.ty.TyId.{TyId}
 use Rattle.store_model.specs.Places.Place.{Place}
 use Rattle.move_paths.specs.Trie.{AreOnce, places, roots}
-use Rattle.move_paths.specs.Forest.{IsForest, IsRooted, Names, HasLocals}
+use Rattle.move_paths.specs.Forest.{IsForest, all_children, IsRooted, Names, HasLocals}
 use Rattle.move_paths.specs.Uses.{block_uses}
 use Rattle.move_paths.proofs.Finding.{has-roots, is-forest, is-rooted}
 use Rattle.move_paths.proofs.forest.forest_of.Goals as goal
@@ -20,9 +20,11 @@ named c =
 
 pub invariant_of-result-2 : goal.invariant_of-result-2
 invariant_of-result-2 c =
-    let tys : c.in_ok-copied.field-0 ≡ c.args.body.now.locals = c.in_ok-copied.ensures ∙ c.as_slice.ensures in
-    subst (λ (z : List TyId). IsRooted z (places c.trie.inside.locals c.trie.inside.parts)) (sym tys)
-    (subst (IsRooted c.args.body.now.locals) (sym c.trie.view_is) (is-rooted c.args.items.now c.args.body.now c.add_blocks.new.trie (named c)))
+    let tys : c.in_ok-copied.field-0 ≡ c.args.body.now.locals = c.in_ok-copied.ensures ∙ c.as_slice.ensures in (
+      subst (λ (z : List TyId). IsRooted z (places c.trie.inside.locals c.trie.inside.parts)) (sym tys)
+          (subst (IsRooted c.args.body.now.locals) (sym c.trie.view_is) (is-rooted c.args.items.now c.args.body.now c.add_blocks.new.trie (named c))),
+      c.in_ok-children.ensures ∙ ap all_children (sym c.trie.view_is),
+    )
 
 pub returns : goal.returns
 returns c =

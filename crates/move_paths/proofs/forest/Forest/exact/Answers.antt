@@ -18,4 +18,4 @@ returns-then-near-as_slice c =
 
 pub returns-then-place-len : goal.returns-then-place-len
 returns-then-place-len c =
-    rw (← c.self.view_is) (λ has. let within = c.self.invariant.locals (named c.args.place.now) has in let past = c.if-place-len.true in let count = c.len.ensures in omega (within, past, count, arith))
+    rw (← c.self.view_is) (λ has. let within = c.self.invariant.0.locals (named c.args.place.now) has in let past = c.if-place-len.true in let count = c.len.ensures in omega (within, past, count, arith))

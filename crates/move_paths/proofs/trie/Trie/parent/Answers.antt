@@ -9,7 +9,7 @@ use Rattle.move_paths.proofs.trie.Trie.parent.Goals as goal
 
 pub returns-then-path-self : goal.returns-then-path-self
 returns-then-path-self c =
-    rw (← c.self.view_is) (c.args.path, root-at c.self.inside.locals c.self.inside.parts c.self.invariant c.args.path c.if-path-self.true)
+    rw (← c.self.view_is) (root-at c.self.inside.locals c.self.inside.parts c.self.invariant c.args.path c.if-path-self.true)
 
 pub returns : goal.returns
 returns c =
