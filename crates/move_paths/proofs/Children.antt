@@ -1,14 +1,14 @@
 -- The paths one step below each path, as they are listed one after another.
-use Rattle.std.proofs.Common.{◌≡◌, ◌≢◌, ◌⊎◌, inl, inr, ℕ, zero, suc, ◌+◌, ◌<◌, ◌≤◌, Bool, true, false, ◌&&◌, if◌then◌else◌, List, [], ◌∷◌, ◌++◌, map, length, replicate, slice_get, Some, refl, sym, ap, subst, ◌∙◌, arith}
+use Rattle.std.proofs.Common.{◌≡◌, ◌≢◌, ◌⊎◌, inl, inr, ℕ, suc, ◌+◌, ◌<◌, Bool, true, false, if◌then◌else◌, List, [], ◌∷◌, ◌++◌, length, replicate, slice_get, Some, refl, sym, ap, ◌∙◌, arith}
 use Rattle.std.specs.Prelude.{slice_index_or, slice_set, ◌==◌}
 use Rattle.std.specs.List.{range_with_len}
 use Rattle.std.specs.Cmp.{first_so, second_so}
 use Rattle.std.specs.Cmp.Derive.{both_true}
-use Rattle.std.proofs.lemmas.Bool.{false≢true, cases_eq, eqb-true, eq-eqb}
+use Rattle.std.proofs.lemmas.Bool.{cases_eq, eqb-true, eq-eqb}
 use Rattle.std.proofs.lemmas.Option.{slice_get-get_or, get_or_from_slice_get}
 use Rattle.std.proofs.lemmas.List.{append-nil, length-append, length-set, length-map, length-replicate, get_or-replicate, get_or-set_same, get_or-set_other, get_or-map, get_or_default, same_lists, take_all}
 use Rattle.std.proofs.lemmas.List.FromFn.{length-range_with_len, get_or-range_with_len}
-use Rattle.store_model.specs.Places.Place.{Place, Step, whole_local}
+use Rattle.store_model.specs.Places.Place.{Place, whole_local}
 use Rattle.cfg_graph.specs.Moves.Gone.{are_first, is_at_or_above, below}
 use Rattle.move_paths.specs.Trie.{AreOnce}
 use Rattle.move_paths.specs.Forest.{IsRoot, IsStepBelow, is_child, children_before, children_of, all_children}

@@ -1,7 +1,5 @@
-use Rattle.std.proofs.Common.{◌≡◌, ◌<◌, List, ℕ, length, get_or, ap, sym, ◌∙◌, subst, arith}
-use Rattle.std.proofs.lemmas.List.{length-map}
-use Rattle.std.proofs.lemmas.List.FromFn.{length-range_with_len}
-use Rattle.move_paths.specs.Forest.{PathForest, all_children, children_of}
+use Rattle.std.proofs.Common.{◌<◌, List, ℕ, length, get_or, ap, ◌∙◌, arith}
+use Rattle.move_paths.specs.Forest.{PathForest}
 use Rattle.move_paths.proofs.Children.{children-at, length-children}
 use Rattle.move_paths.proofs.forest.Forest.children.Goals as goal
 

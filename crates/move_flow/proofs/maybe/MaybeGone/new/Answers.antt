@@ -1,0 +1,19 @@
+use Rattle.std.proofs.Common.{◌≡◌, List, true, get_or, ap, ◌∙◌, subst}
+use Rattle.std.proofs.lemmas.Option.{get_or_from_slice_get}
+use Rattle.cfg_graph.specs.declared.graph.Body.{Body}
+use Rattle.move_flow.specs.Fits.{AreSwitches}
+use Rattle.move_flow.proofs.Carrying.{says-all}
+use Rattle.move_flow.proofs.Inside.{inside}
+use Rattle.move_flow.proofs.maybe.MaybeGone.new.Goals as goal
+
+pub returns : goal.returns
+returns c =
+    λ found at.
+    let items = c.args.graph.now.items in
+    let forest = c.args.forest.now in
+    let is = c.requires.forest found at in
+    let body : Body = c.index-as_slice-body.result in
+    let same : body ≡ found =
+    c.index-as_slice-body.is ∙ ap (λ (z : List Body). get_or z c.args.body body) c.as_slice.ensures ∙ get_or_from_slice_get c.args.graph.now.bodies c.args.body found body at in
+    says-all items found forest is (λ n way block small here. inside items found forest is n way block here) true c.in_ok-switches_of.field-0
+    (subst (AreSwitches forest.paths true c.in_ok-switches_of.field-0) same c.in_ok-switches_of.ensures)

@@ -1,0 +1,20 @@
+use Rattle.std.proofs.Common.{◌≡◌, ◌+◌, ◌<◌, ◌++◌, ◌∷◌, [], List, take, length, get_or, ap, sym, ◌∙◌, subst, arith}
+use Rattle.std.proofs.lemmas.List.{take_more}
+use Rattle.cfg_graph.specs.declared.graph.Block.{Block}
+use Rattle.move_flow.specs.Fits.{AreWays}
+use Rattle.move_flow.proofs.Starting.{ways-more}
+use Rattle.move_flow.proofs.maybe.all_ways.Goals as goal
+
+pub loop-block-preserved : goal.loop-block-preserved
+loop-block-preserved c =
+    let paths = c.args.forest.now.paths in
+    let body = c.args.body.now in
+    let item : Block = c.block-item.result in
+    let i = c.loop-block.block-index in
+    let blocks = c.as_slice-block-items.ensures in
+    let within : i < length body.blocks = (let k = ap length blocks in let t = c.loop-block-test.true in omega (k, t, arith)) in
+    let more : take (i + 1) body.blocks ≡ take i body.blocks ++ item ∷ [] =
+    take_more body.blocks i item within
+    ∙ ap (λ (block : Block). take i body.blocks ++ block ∷ []) (ap (λ (z : List Block). get_or z i item) (sym blocks) ∙ sym c.block-item.is) in
+    subst (AreWays paths c.args.gone c.add_ways.new.ways) (sym more)
+    (ways-more paths c.args.gone c.loop-block.ways c.add_ways.new.ways (take i body.blocks) item c.loop-block.invariant c.in_ok-add_ways.ensures)

@@ -1,0 +1,5 @@
+pub mod Fits
+pub mod Laws
+pub mod Marks
+pub mod Moved
+pub mod Switches

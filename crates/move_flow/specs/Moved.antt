@@ -1,0 +1,32 @@
+-- What rows say of the paths of a body.
+use Rattle.std.specs.Prelude.{◌≡◌, ℕ, Bool, true, false, not, List, [], ◌∷◌, ◌++◌, map, length, Option, Contains}
+use Rattle.mir_ty.specs.ItemTable.{ItemTable}
+use Rattle.store_model.specs.Places.Place.{Place}
+use Rattle.cfg_graph.specs.declared.graph.Body.{Body}
+use Rattle.cfg_graph.specs.Moves.Actions.{actions_on}
+use Rattle.cfg_graph.specs.Moves.Gone.{Action, is_at_or_above, is_gone_after}
+use Rattle.init_flow.specs.Carried.{Row, last_of, rows_along}
+
+-- bits say what is gone, or what is present
+abbrev pub says : (gone is_gone : Bool) → Bool
+says true is_gone = is_gone
+says false is_gone = not is_gone
+
+-- Each row that a path carries to a block has a bit for each of these places, in order. It says whether the place is
+-- gone there, or whether it is present: after the actions of the path before those of that block, its last one.
+pub record Says
+    (items : ItemTable) (body : Body) (places : List Place) (gone : Bool) (target : ℕ → ℕ → Option ℕ)
+    (pass : ℕ → ℕ → Row → Row) (first : Row) : Type 0 where
+  pub width : length first ≡ length places
+  pub rows :
+      (rest : List ℕ) (row : Row) → Contains (rows_along target pass 0 first rest) row →
+      (earlier : List Action)
+      × (actions_on body (0 ∷ rest) ≡ earlier ++ actions_on body (last_of 0 rest ∷ []))
+      × (row ≡ map (λ place. says gone (is_gone_after items body earlier place)) places)
+
+-- the paths at or below a path
+abbrev pub mask_of : List Place → Place → Row
+mask_of paths upper = map (is_at_or_above upper) paths
+
+abbrev pub masks_of : List Place → List Row
+masks_of paths = map (mask_of paths) paths

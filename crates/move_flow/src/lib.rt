@@ -1,0 +1,11 @@
+//! What is gone and what is present on some path of a body, as two analyses over the paths that are watched for moves
+//! (the rustc development guide, "Tracking moves and initialization").
+#![tactic(auto)]
+
+mod masks;
+mod maybe;
+mod switches;
+mod ways;
+
+pub use maybe::{MaybeGone, MaybeInit};
+pub use switches::{Switch, Switches};

@@ -1,0 +1,202 @@
+//! The two analyses of moves.
+ghost use Rattle.std.specs.Prelude.{◌≡◌, ◌<◌, ◌*◌, length, slice_get, Some, IfOk, OnOk, true, false};
+ghost use Rattle.std.proofs.Common.{refl};
+ghost use Rattle.cfg_graph.specs.declared.graph.Body.{Body as GraphBody};
+ghost use Rattle.init_flow.specs.Ways.{target};
+ghost use Rattle.move_paths.specs.Forest.{IsForest};
+ghost use Rattle.move_flow.specs.Laws.{keeps as lengths, distributes as over_union};
+ghost use Rattle.move_flow.specs.Moved.{Says};
+ghost use Rattle.move_flow.specs.Fits.{param_of, FirstBit, start_row, AddsWays, AreWays, AreSwitches};
+ghost use Rattle.move_flow.specs.Switches.{passed_by};
+
+use crate::masks::masks;
+use crate::switches::{Switch, Switches};
+use crate::ways::way_switches;
+use bit_rows::BitRow;
+use cfg_graph::{Block, Body, Graph};
+use init_flow::Analysis;
+use mir_base::{List, NoMemory};
+use move_paths::Forest;
+use std::alloc::Global;
+
+/// Which paths are gone on some path of a body: the bit of a path says this of its own part.
+#[derive(Debug, Drop)]
+pub struct MaybeGone {
+    switches: Switches,
+}
+
+impl Analysis for MaybeGone {
+    ghost width = { λ a. length a.switches.first };
+
+    ghost first = { λ a. a.switches.first };
+
+    ghost passed = { λ a body block way row. passed_by a.switches block way row };
+
+    ghost IsFor = { λ a body. length a.switches.ways ≡ length body.blocks * 2 };
+
+    fn bits(&self) -> u32 {
+        self.switches.first.len()
+    }
+
+    fn start(&self, row: &mut BitRow) {
+        self.switches.start(row);
+    }
+
+    fn pass(&self, body: &Body, block: u32, edge: u32, row: &mut BitRow) {
+        self.switches.pass(block, edge, row);
+    }
+
+    ghost first_width = { λ a. refl };
+
+    ghost keeps = { λ a body block way row long. lengths a.switches block way row long };
+
+    ghost distributes = { λ a body block way one other long same. over_union a.switches block way one other long same };
+}
+
+/// Which paths are present on some path of a body: the bit of a path says this of its own part.
+#[derive(Debug, Drop)]
+pub struct MaybeInit {
+    switches: Switches,
+}
+
+impl Analysis for MaybeInit {
+    ghost width = { λ a. length a.switches.first };
+
+    ghost first = { λ a. a.switches.first };
+
+    ghost passed = { λ a body block way row. passed_by a.switches block way row };
+
+    ghost IsFor = { λ a body. length a.switches.ways ≡ length body.blocks * 2 };
+
+    fn bits(&self) -> u32 {
+        self.switches.first.len()
+    }
+
+    fn start(&self, row: &mut BitRow) {
+        self.switches.start(row);
+    }
+
+    fn pass(&self, body: &Body, block: u32, edge: u32, row: &mut BitRow) {
+        self.switches.pass(block, edge, row);
+    }
+
+    ghost first_width = { λ a. refl };
+
+    ghost keeps = { λ a body block way row long. lengths a.switches block way row long };
+
+    ghost distributes = { λ a body block way one other long same. over_union a.switches block way one other long same };
+}
+
+/// Whether a local is a parameter.
+fn is_param(body: &Body, local: u32) -> bool
+    ensures { result ≡ param_of body.now local }
+{
+    0 < local && local <= body.params
+}
+
+fn first_bit(body: &Body, forest: &Forest, row: &BitRow, path: u32, gone: bool) -> bool
+    requires path { path < length forest.now.paths }
+    requires row { length row.now ≡ length forest.now.paths }
+    ensures { FirstBit forest.now.paths body.now row.now path gone result }
+{
+    match forest.parent(path) {
+        Some(upper) => row.get(upper),
+        None => is_param(body, path) != gone,
+    }
+}
+
+/// What a row says before a body does anything: what is no parameter is gone.
+fn first_row(alloc: Global, body: &Body, forest: &Forest, gone: bool) -> Result<BitRow, NoMemory>
+    ensures { IfOk result (λ row. row ≡ start_row forest.now.paths body.now gone) }
+{
+    let count = forest.len();
+    let mut row = BitRow::new(alloc, count)?;
+    for path in 0..count {
+        let on = first_bit(body, forest, &row, path, gone);
+        row.set(path, on);
+    }
+    Ok(row)
+}
+
+fn add_ways(
+    alloc: Global,
+    ways: &mut List<List<Switch>>,
+    forest: &Forest,
+    block: &Block,
+    gone: bool,
+) -> Result<(), NoMemory>
+    ensures { OnOk result (AddsWays forest.now.paths gone ways.old ways.new block.now) }
+{
+    ways.push(way_switches(alloc, forest, block, 0, gone)?)?;
+    ways.push(way_switches(alloc, forest, block, 1, gone)?)
+}
+
+fn all_ways(
+    alloc: Global,
+    body: &Body,
+    forest: &Forest,
+    gone: bool,
+) -> Result<List<List<Switch>>, NoMemory>
+    ensures { IfOk result (λ ways. AreWays forest.now.paths gone ways body.now.blocks) }
+{
+    let mut ways = List::new(alloc);
+    for block in body.blocks.as_slice() {
+        add_ways(alloc, &mut ways, forest, block, gone)?;
+    }
+    Ok(ways)
+}
+
+fn switches_of(
+    alloc: Global,
+    body: &Body,
+    forest: &Forest,
+    gone: bool,
+) -> Result<Switches, NoMemory>
+    ensures { IfOk result (λ switches. AreSwitches forest.now.paths gone switches body.now) }
+{
+    Ok(Switches {
+        first: first_row(alloc, body, forest, gone)?,
+        below: masks(alloc, forest)?,
+        ways: all_ways(alloc, body, forest, gone)?,
+    })
+}
+
+impl MaybeGone {
+    /// The analysis of a body of a graph over the forest of the paths of that body. What a path of the body carries to a
+    /// block says of each path of the forest whether it is gone there.
+    pub fn new(
+        alloc: Global,
+        graph: &Graph,
+        body: u32,
+        forest: &Forest,
+    ) -> Result<MaybeGone, NoMemory>
+        requires body { body < length graph.now.bodies }
+        requires forest { (found : GraphBody) → slice_get graph.now.bodies body ≡ Some found → IsForest graph.now.items found forest.now }
+        ensures { IfOk result (λ a. (found : GraphBody) → slice_get graph.now.bodies body ≡ Some found → Says graph.now.items found forest.now.paths true (target graph.now.items found) (λ block way row. passed_by a.switches block way row) a.switches.first) }
+    {
+        let body = &graph.bodies.as_slice()[body as usize];
+        Ok(MaybeGone {
+            switches: switches_of(alloc, body, forest, true)?,
+        })
+    }
+}
+
+impl MaybeInit {
+    /// The analysis of a body of a graph over the forest of the paths of that body. What a path of the body carries to a
+    /// block says of each path of the forest whether it is present there.
+    pub fn new(
+        alloc: Global,
+        graph: &Graph,
+        body: u32,
+        forest: &Forest,
+    ) -> Result<MaybeInit, NoMemory>
+        requires body { body < length graph.now.bodies }
+        requires forest { (found : GraphBody) → slice_get graph.now.bodies body ≡ Some found → IsForest graph.now.items found forest.now }
+        ensures { IfOk result (λ a. (found : GraphBody) → slice_get graph.now.bodies body ≡ Some found → Says graph.now.items found forest.now.paths false (target graph.now.items found) (λ block way row. passed_by a.switches block way row) a.switches.first) }
+    {
+        let body = &graph.bodies.as_slice()[body as usize];
+        Ok(MaybeInit {
+            switches: switches_of(alloc, body, forest, false)?,
+        })
+    }
+}
