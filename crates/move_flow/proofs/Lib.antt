@@ -4,5 +4,6 @@ pub mod Fitting
 pub mod Following
 pub mod Inside
 pub mod Marking
+pub mod OnPaths
 pub mod Starting
 pub mod Upward

@@ -1,11 +1,13 @@
 -- What rows say of the paths of a body.
-use Rattle.std.specs.Prelude.{◌≡◌, ℕ, Bool, true, false, not, List, [], ◌∷◌, ◌++◌, map, length, Option, Contains}
+use Rattle.std.specs.Prelude.{◌≡◌, ◌↔◌, ◌<◌, ℕ, Bool, true, false, not, List, [], ◌∷◌, ◌++◌, map, length, Option, Some, slice_get, slice_index_or, Contains}
 use Rattle.mir_ty.specs.ItemTable.{ItemTable}
 use Rattle.store_model.specs.Places.Place.{Place}
 use Rattle.cfg_graph.specs.declared.graph.Body.{Body}
 use Rattle.cfg_graph.specs.Moves.Actions.{actions_on}
 use Rattle.cfg_graph.specs.Moves.Gone.{Action, is_at_or_above, is_gone_after}
-use Rattle.init_flow.specs.Carried.{Row, last_of, rows_along}
+use Rattle.init_flow.specs.Carried.{Row, last_of, rows_along, AreCarried}
+use Rattle.init_flow.specs.Ways.{target}
+use Rattle.cfg_graph.specs.Moves.Paths.{IsPath}
 
 -- bits say what is gone, or what is present
 abbrev pub says : (gone is_gone : Bool) → Bool
@@ -30,3 +32,25 @@ mask_of paths upper = map (is_at_or_above upper) paths
 
 abbrev pub masks_of : List Place → List Row
 masks_of paths = map (mask_of paths) paths
+
+-- A path of a body leads to a block with a place gone there, or present: after the actions of the path before those of
+-- that block, its last one.
+pub record LeadsTo (items : ItemTable) (body : Body) (block : ℕ) (place : Place) (gone : Bool) : Type 0 where
+  pub rest : List ℕ
+  pub choices : List Bool
+  pub earlier : List Action
+  pub is_path : IsPath items body (0 ∷ rest) choices
+  pub ends : last_of 0 rest ≡ block
+  pub before : actions_on body (0 ∷ rest) ≡ earlier ++ actions_on body (block ∷ [])
+  pub is : is_gone_after items body earlier place ≡ gone
+
+-- What the law of moves says: where what paths carry says what is gone, or what is present, a solution has a bit on
+-- exactly where some path of the body leads there with the place gone, or present.
+abbrev pub SolvedSays : Type 0
+SolvedSays =
+    (items : ItemTable) (body : Body) (places : List Place) (gone : Bool) (pass : ℕ → ℕ → Row → Row) (first : Row)
+    (rows : List Row) →
+    Says items body places gone (target items body) pass first →
+    AreCarried (length body.blocks) (target items body) pass first rows →
+    (block bit : ℕ) (place : Place) → block < length body.blocks → slice_get places bit ≡ Some place →
+    (slice_index_or (slice_index_or rows block []) bit false ≡ true) ↔ LeadsTo items body block place gone

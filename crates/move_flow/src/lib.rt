@@ -2,10 +2,12 @@
 //! (the rustc development guide, "Tracking moves and initialization").
 #![tactic(auto)]
 
+mod laws;
 mod masks;
 mod maybe;
 mod switches;
 mod ways;
 
+pub use laws::law_of_moves;
 pub use maybe::{MaybeGone, MaybeInit};
 pub use switches::{Switch, Switches};

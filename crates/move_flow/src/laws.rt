@@ -1,0 +1,9 @@
+//! The law of moves: a clause of a function without parameters, that a proof above this crate cites.
+ghost use Rattle.move_flow.specs.Moved.{SolvedSays};
+
+/// A solution of an analysis of moves has a bit on exactly where some path of the body leads to the block with the
+/// place gone there, or present there. The premises are the clauses of `MaybeGone::new` or `MaybeInit::new`, and of
+/// `solve`.
+pub fn law_of_moves()
+    ensures solved { SolvedSays }
+{}
