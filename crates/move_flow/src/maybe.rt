@@ -172,7 +172,8 @@ impl MaybeGone {
     ) -> Result<MaybeGone, NoMemory>
         requires body { body < length graph.now.bodies }
         requires forest { (found : GraphBody) → slice_get graph.now.bodies body ≡ Some found → IsForest graph.now.items found forest.now }
-        ensures { IfOk result (λ a. (found : GraphBody) → slice_get graph.now.bodies body ≡ Some found → Says graph.now.items found forest.now.paths true (target graph.now.items found) (λ block way row. passed_by a.switches block way row) a.switches.first) }
+        ensures is_for { IfOk result (λ a. (found : GraphBody) → slice_get graph.now.bodies body ≡ Some found → length a.switches.ways ≡ length found.blocks * 2) }
+        ensures says { IfOk result (λ a. (found : GraphBody) → slice_get graph.now.bodies body ≡ Some found → Says graph.now.items found forest.now.paths true (target graph.now.items found) (λ block way row. passed_by a.switches block way row) a.switches.first) }
     {
         let body = &graph.bodies.as_slice()[body as usize];
         Ok(MaybeGone {
@@ -192,7 +193,8 @@ impl MaybeInit {
     ) -> Result<MaybeInit, NoMemory>
         requires body { body < length graph.now.bodies }
         requires forest { (found : GraphBody) → slice_get graph.now.bodies body ≡ Some found → IsForest graph.now.items found forest.now }
-        ensures { IfOk result (λ a. (found : GraphBody) → slice_get graph.now.bodies body ≡ Some found → Says graph.now.items found forest.now.paths false (target graph.now.items found) (λ block way row. passed_by a.switches block way row) a.switches.first) }
+        ensures is_for { IfOk result (λ a. (found : GraphBody) → slice_get graph.now.bodies body ≡ Some found → length a.switches.ways ≡ length found.blocks * 2) }
+        ensures says { IfOk result (λ a. (found : GraphBody) → slice_get graph.now.bodies body ≡ Some found → Says graph.now.items found forest.now.paths false (target graph.now.items found) (λ block way row. passed_by a.switches block way row) a.switches.first) }
     {
         let body = &graph.bodies.as_slice()[body as usize];
         Ok(MaybeInit {
