@@ -6,4 +6,5 @@ pub mod Inside
 pub mod Marking
 pub mod OnPaths
 pub mod Starting
+pub mod Telling
 pub mod Upward

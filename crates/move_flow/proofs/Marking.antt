@@ -17,7 +17,7 @@ use Rattle.init_flow.specs.Carried.{Row}
 use Rattle.move_flow.specs.Marks.{cell, place_at, IsSquare, IsMarked, marked}
 use Rattle.move_flow.specs.Moved.{mask_of, masks_of}
 
-same_true : (a b : Bool) → (a ≡ true → b ≡ true) → (b ≡ true → a ≡ true) → a ≡ b
+pub same_true : (a b : Bool) → (a ≡ true → b ≡ true) → (b ≡ true → a ≡ true) → a ≡ b
 same_true true true f g = refl
 same_true true false f g = sym (f refl)
 same_true false true f g = g refl

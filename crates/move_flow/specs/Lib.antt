@@ -1,3 +1,4 @@
+pub mod Concerns
 pub mod Fits
 pub mod Laws
 pub mod Marks

@@ -8,6 +8,6 @@ mod maybe;
 mod switches;
 mod ways;
 
-pub use laws::law_of_moves;
+pub use laws::{law_of_bad_uses, law_of_moves};
 pub use maybe::{MaybeGone, MaybeInit};
 pub use switches::{Switch, Switches};

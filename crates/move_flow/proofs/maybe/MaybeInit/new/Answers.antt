@@ -23,5 +23,5 @@ returns-clause-is_for c =
     λ found at.
     let body : Body = c.index-as_slice-body.result in
     let same : body ≡ found =
-        c.index-as_slice-body.is ∙ ap (λ (z : List Body). get_or z c.args.body body) c.as_slice.ensures ∙ get_or_from_slice_get c.args.graph.now.bodies c.args.body found body at in
+    c.index-as_slice-body.is ∙ ap (λ (z : List Body). get_or z c.args.body body) c.as_slice.ensures ∙ get_or_from_slice_get c.args.graph.now.bodies c.args.body found body at in
     c.in_ok-switches_of.ensures.ways.long ∙ ap (λ (z : Body). length z.blocks * 2) same
