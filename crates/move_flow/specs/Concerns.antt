@@ -44,8 +44,10 @@ AreOfBody body actions =
 -- what the law of bad uses says: a use is bad exactly where one of the paths that it concerns is gone
 pub record BadWhereGone
     (items : ItemTable) (body : Body) (paths : List Place) (earlier : List Action) (place : Place) : Type 0 where
-  pub read : may_not_read items body earlier place ≡ some_gone items body earlier paths (λ path. concerns_read path place)
-  pub test : may_not_test items body earlier place ≡ some_gone items body earlier paths (λ path. concerns_test path place)
+  pub read :
+      may_not_read items body earlier place ≡ some_gone items body earlier paths (λ path. concerns_read path place)
+  pub test :
+      may_not_test items body earlier place ≡ some_gone items body earlier paths (λ path. concerns_test path place)
   pub store :
       may_not_store items body earlier place ≡ some_gone items body earlier paths (λ path. concerns_store path place)
 

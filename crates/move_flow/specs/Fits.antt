@@ -19,7 +19,8 @@ use Rattle.move_flow.specs.Moved.{says, masks_of}
 abbrev pub IsSwitch : (paths : List Named) (gone : Bool) → Use × Place → Option Switch → Type 0
 IsSwitch paths gone made None = (leaves_gone made.0 ≡ None) ⊎ (¬ Contains paths (named made.1))
 IsSwitch paths gone made (Some switch) =
-    (takes : Bool) × (leaves_gone made.0 ≡ Some takes) × (slice_get paths switch.path ≡ Some (named made.1)) × (switch.on ≡ says gone takes)
+    (takes : Bool) × (leaves_gone made.0 ≡ Some takes) × (slice_get paths switch.path ≡ Some (named made.1))
+    × (switch.on ≡ says gone takes)
 
 abbrev pub at_most_one : Option Switch → List Switch
 at_most_one None = []

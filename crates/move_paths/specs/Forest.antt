@@ -42,7 +42,8 @@ pub record IsStepBelow (paths : List Place) (upper lower : ℕ) : Type 0 where
 abbrev pub is_child : List Place → (upper lower : ℕ) → Bool
 is_child paths upper lower =
     is_at_or_above (slice_index_or paths upper (whole_local 0)) (slice_index_or paths lower (whole_local 0))
-    && (suc (length (slice_index_or paths upper (whole_local 0)).steps) == length (slice_index_or paths lower (whole_local 0)).steps)
+    && (suc (length (slice_index_or paths upper (whole_local 0)).steps)
+        == length (slice_index_or paths lower (whole_local 0)).steps)
 
 -- the paths below this number that are one step below a path, in order
 abbrev pub children_before : List Place → (path : ℕ) → ℕ → List ℕ
@@ -62,7 +63,8 @@ pub record IsNearest (paths : List Place) (place : Place) (path : ℕ) : Type 0 
   pub at : slice_get paths path ≡ Some upper
   pub above : is_at_or_above upper place ≡ true
   pub other : ¬ Contains paths place
-  pub nearest : (path : Place) → Contains paths path → is_at_or_above path place ≡ true → is_at_or_above path upper ≡ true
+  pub nearest :
+      (path : Place) → Contains paths path → is_at_or_above path place ≡ true → is_at_or_above path upper ≡ true
 
 -- what there is of a place: nothing behind a reference, and otherwise the path of the place, or the nearest above it
 abbrev pub IsFound : ItemTable → PathForest → Place → Found → Type 0
@@ -104,10 +106,12 @@ HasLocals body paths = (n : ℕ) → n < length body.locals → slice_get paths 
 
 -- a place that one of these uses makes a path
 abbrev pub is_named : ItemTable → Body → List (Use × GraphPlace) → Place → Bool
-is_named items body uses place = nat_lt place.local (length body.locals) && list_any (is_above_change items body place) uses
+is_named items body uses place =
+    nat_lt place.local (length body.locals) && list_any (is_above_change items body place) uses
 
 -- paths, and then those that these uses make paths
-pub record Names (items : ItemTable) (body : Body) (old new : List Place) (uses : List (Use × GraphPlace)) : Type 0 where
+pub record Names
+    (items : ItemTable) (body : Body) (old new : List Place) (uses : List (Use × GraphPlace)) : Type 0 where
   pub kept : (n : ℕ) (place : Place) → slice_get old n ≡ Some place → slice_get new n ≡ Some place
   pub paths : (place : Place) → Contains new place ↔ (Contains old place ⊎ (is_named items body uses place ≡ true))
 
