@@ -79,9 +79,11 @@ fn forest_stands(alloc: Global, graph: &Graph) -> Result<bool, NoMemory> {
     }
     let forest = paths(alloc, graph, 0)?;
     let place = local(alloc, 1);
-    Ok(forest.len() == 3
-        && forest.exact(&place) == Some(1)
-        && forest.find(&graph.items, &place) == Found::Exact(1))
+    Ok(
+        forest.len() == 3
+            && forest.exact(&place) == Some(1)
+            && forest.find(&graph.items, &place) == Found::Exact(1),
+    )
 }
 
 #[test]

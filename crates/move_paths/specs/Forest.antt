@@ -43,7 +43,7 @@ abbrev pub is_child : List Place → (upper lower : ℕ) → Bool
 is_child paths upper lower =
     is_at_or_above (slice_index_or paths upper (whole_local 0)) (slice_index_or paths lower (whole_local 0))
     && (suc (length (slice_index_or paths upper (whole_local 0)).steps)
-        == length (slice_index_or paths lower (whole_local 0)).steps)
+    == length (slice_index_or paths lower (whole_local 0)).steps)
 
 -- the paths below this number that are one step below a path, in order
 abbrev pub children_before : List Place → (path : ℕ) → ℕ → List ℕ
