@@ -9,6 +9,7 @@ pub mod Gives
 pub mod Interned
 pub mod Jumps
 pub mod Later
+pub mod Matching
 pub mod Operators
 pub mod Parts
 pub mod Places

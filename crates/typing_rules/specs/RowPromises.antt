@@ -1,20 +1,20 @@
 -- What the rows of forms ask of the checks of a node's parts, and what such checks give.
-use Rattle.std.specs.Prelude.{◌≡◌, ℕ, Bool, true, not, ◌||◌, List, [], ◌∷◌, Option, Some, None, IsTrue, Contains, slice_get}
+use Rattle.std.specs.Prelude.{◌≡◌, ℕ, Bool, true, not, ◌||◌, List, [], ◌∷◌, Option, Some, None, IsTrue, Contains, slice_get, nat_lt}
 use Rattle.mir_ty.specs.declared.ty.Ty.{Ty}
 use Rattle.mir_ty.specs.declared.ty.TyId.{TyId}
 use Rattle.mir_ty.specs.ItemTable.{ItemTable}
 use Rattle.mir_ty.specs.Parts.{held_by, parts_of, field_ty}
 use Rattle.typed_tree.specs.Tree.{Node, Nodes, no_node, a_node, MaybeNode, absent, present}
 use Rattle.well_typed.specs.Claim.{Claim, Holds}
-use Rattle.well_typed.specs.Nodes.{typed, statements, ends_in}
-use Rattle.well_typed.specs.Patterns.{count_of}
+use Rattle.well_typed.specs.Nodes.{typed, statements, ends_in, arm}
+use Rattle.well_typed.specs.Patterns.{Matched, count_of}
 use Rattle.well_typed.specs.Places.{Context, ty_of, form_of, is_place, Wanted, Passed}
 use Rattle.well_typed.specs.Types.{is_reference, reference_of, has_fields, inside_in}
 use Rattle.typing_rules.specs.Check.{Check, State}
-use Rattle.typing_rules.specs.Places.{Member}
+use Rattle.typing_rules.specs.Places.{bool, Member, agrees}
 use Rattle.typing_rules.specs.Promises.{IsReady, IsAlone, IsKnown, Gives, Spot, at_spot, Stands, Knows, IsValue, IsBase}
-use Rattle.typing_rules.specs.Rows.{Referrer}
-use Rattle.typing_rules.specs.Scope.{Env, Around}
+use Rattle.typing_rules.specs.Rows.{Referrer, Expected}
+use Rattle.typing_rules.specs.Scope.{Env, Entry, Around, with_variables, in_guard}
 
 -- a place of the text
 pub record IsPlace (env : Env) (w : State) (n : Node) : Type 0 where
@@ -129,3 +129,28 @@ SoundStatement env check = (s : State) → Knows env s → Gives s (λ w done. I
 abbrev pub IsMember : Member (ℕ × TyId) → Type 0
 IsMember member = (items : ItemTable) (id : TyId) (f : ℕ × TyId) → member items id ≡ Some f → IsTrue (has_fields items
     id) × (field_ty items id 0 f.0 ≡ Some f.1)
+
+-- an arm for a place of a type: what it asks of its place, and the type of its body
+pub record IsArm (env : Env) (e : Expected) (ty : TyId) (want : Option TyId) (w : State) (n : Node) : Type 0 where
+  pub holds : (p : Spot) → Stands env w p → (place : Matched) → place.takes_all ≡ e.takes_all → (IsTrue (not e.is_fixed) →
+      IsTrue place.may_move) → Holds (arm (at_spot w.items env.answer p) place ty n)
+  pub alone : IsAlone w.items (ty_of n)
+  pub fit : IsTrue (agrees w.items want (ty_of n))
+
+-- arms, each of its own type, and of the required one
+abbrev pub AreArms : Env → Expected → TyId → Option TyId → State → Nodes → List TyId → Type 0
+AreArms env e ty want w no_node [] = Unit {0}
+AreArms env e ty want w no_node (t ∷ tys) = ⊥
+AreArms env e ty want w (a_node first rest) [] = ⊥
+AreArms env e ty want w (a_node first rest) (t ∷ tys) =
+    (IsArm env e ty want w first × (t ≡ ty_of first)) × AreArms env e ty want w rest tys
+
+-- the checks of one arm or more
+abbrev pub SoundArms : Env → (Expected → TyId → Option TyId → Check (Nodes × List TyId)) → Type 0
+SoundArms env arms = (e : Expected) (ty : TyId) (want : Option TyId) (s : State) → Knows env s → IsReady s.items ty → Gives s
+    (λ w ns. AreArms env e ty want w ns.0 ns.1 × IsTrue (nat_lt 0 (count_of ns.0))) (arms e ty want s)
+
+-- a condition that may be left out
+abbrev pub SoundGuard : Env → (List Entry → Check MaybeNode) → Type 0
+SoundGuard env guard = (xs : List Entry) (s : State) → Knows (with_variables (in_guard xs) env) s → Gives s (IsMaybe
+    (with_variables (in_guard xs) env) (Some bool)) (guard xs s)

@@ -54,7 +54,7 @@ if_alone_sound env at c body good_c good_body want s k =
     R = IsTemporary env want
 
 -- the type of two branches is the common one
-common_of : {old new : ItemTable} → Extends old new → (a b ty : TyId) → one_of_two old a b ≡ Some ty → IsTrue
+pub common_of : {old new : ItemTable} → Extends old new → (a b ty : TyId) → one_of_two old a b ≡ Some ty → IsTrue
     (is_common new ty (a ∷ b ∷ []))
 common_of {old} {new} e a b ty h =
     let is = is_one old a b ty h in

@@ -93,6 +93,20 @@ module _ (m : ℕ) where
 abbrev pub behind : List InScope → Spot → Spot
 behind new p = record p { entries = new ++ p.entries }
 
+guarded_from : (ys : List Entry) (y : Entry) → Contains (in_guard ys) y → (x : Entry) × Contains ys x × (y.ty ≡
+    x.ty) ×
+    (y.meaning ≡ guarded x.meaning)
+guarded_from [] y c = absurd (omega (arith, c.1))
+guarded_from (z ∷ zs) y c = by (λ d. guarded_from zs y d) (contains_cases _ (in_guard zs) y c)
+  where
+    by : (Contains (in_guard zs) y → (x : Entry) × Contains zs x × (y.ty ≡ x.ty) × (y.meaning ≡ guarded x.meaning)) →
+        (record z { meaning = guarded z.meaning } ≡ y) ⊎ Contains (in_guard zs) y → (x : Entry) × Contains (z ∷ zs)
+        x ×
+        (y.ty ≡ x.ty) × (y.meaning ≡ guarded x.meaning)
+    by on (inl same) =
+        (z, (0, omega arith, refl), ap (λ (u : Entry). u.ty) (sym same), ap (λ (u : Entry). u.meaning) (sym same))
+    by on (inr more) = let x = on more in (x.0, (suc x.1.0, omega (arith, x.1.1), x.1.2), x.2, x.3)
+
 module _ (env : Env) (s w : State) (p : Spot) (n m : ℕ) (xs : List Entry) (k : Knows env s) (from : s.next_node ≤ n)
     (fresh
     : AreFresh n xs m) (stands : Stands env w p) where
@@ -122,20 +136,6 @@ module _ (env : Env) (s w : State) (p : Spot) (n m : ℕ) (xs : List Entry) (k :
           x.meaning
       by x (inl new_) = new_means x new_
       by x (inr old) = old_means false x.ty x.meaning (k.keys x old) (stands.variables x old)
-
-  guarded_from : (ys : List Entry) (y : Entry) → Contains (in_guard ys) y → (x : Entry) × Contains ys x × (y.ty ≡
-      x.ty) ×
-      (y.meaning ≡ guarded x.meaning)
-  guarded_from [] y c = absurd (omega (arith, c.1))
-  guarded_from (z ∷ zs) y c = by (λ d. guarded_from zs y d) (contains_cases _ (in_guard zs) y c)
-    where
-      by : (Contains (in_guard zs) y → (x : Entry) × Contains zs x × (y.ty ≡ x.ty) × (y.meaning ≡ guarded x.meaning)) →
-          (record z { meaning = guarded z.meaning } ≡ y) ⊎ Contains (in_guard zs) y → (x : Entry) × Contains (z ∷ zs)
-          x ×
-          (y.ty ≡ x.ty) × (y.meaning ≡ guarded x.meaning)
-      by on (inl same) =
-          (z, (0, omega arith, refl), ap (λ (u : Entry). u.ty) (sym same), ap (λ (u : Entry). u.meaning) (sym same))
-      by on (inr more) = let x = on more in (x.0, (suc x.1.0, omega (arith, x.1.1), x.1.2), x.2, x.3)
 
   -- inside their own guard they are the parts that they would take
   pub guard_stands : Stands (with_variables (in_guard xs) env) w (behind (are_bound true xs) p)
@@ -185,4 +185,25 @@ knows_bound env t n xs k fresh types =
     key : (x : Entry) → Contains xs x ⊎ Contains env.variables x → IsBelow t.next_node x.meaning
     key x (inl new_) =
         let is = fresh_at t.next_node n xs x fresh new_ in subst (IsBelow t.next_node) (sym is.0) is.2
+    key x (inr old) = k.keys x old
+
+pub knows_guarded : (env : Env) (t : State) (n : ℕ) (xs : List Entry) → Knows env t → AreFresh n xs t.next_node →
+    AreReadyTypes t.items xs → Knows (with_variables (in_guard xs) env) t
+knows_guarded env t n xs k fresh types =
+    record {
+      types = λ x c. ty x (joined_cases (in_guard xs) env.variables x c);
+      keys = λ x c. key x (joined_cases (in_guard xs) env.variables x c);
+      loops = k.loops;
+    }
+  where
+    ty : (x : Entry) → Contains (in_guard xs) x ⊎ Contains env.variables x → IsReady t.items x.ty
+    ty x (inl new_) =
+        let y = guarded_from xs x new_ in subst (IsReady t.items) (sym y.2) (ready_at t.items xs y.0 types y.1)
+    ty x (inr old) = k.types x old
+
+    key : (x : Entry) → Contains (in_guard xs) x ⊎ Contains env.variables x → IsBelow t.next_node x.meaning
+    key x (inl new_) =
+        let y = guarded_from xs x new_ in
+        let is = fresh_at t.next_node n xs y.0 fresh y.1 in
+        subst (IsBelow t.next_node) (sym (y.3 ∙ ap guarded is.0)) is.2
     key x (inr old) = k.keys x old
