@@ -9,7 +9,9 @@ pub mod Gives
 pub mod Interned
 pub mod Jumps
 pub mod Later
+pub mod Literals
 pub mod Matching
+pub mod Named
 pub mod Operators
 pub mod Parts
 pub mod Places

@@ -1,0 +1,132 @@
+-- Calls of functions, of constructors, and of `ask`; structs and variants without parts.
+use Rattle.std.proofs.Common.{◌≡◌, ℕ, zero, suc, ◌≤◌, ◌+◌, Bool, true, false, ◌&&◌, ◌||◌, ◌==◌, not, if◌then◌else◌, List, [], ◌∷◌, length, slice_get, Option, Some, None, IsTrue, Contains, ◌⊎◌, inl, inr, refl, ap, sym, subst, ◌∙◌, arith}
+use Rattle.std.specs.Prelude.{option_and_then, is_some, is_none, nat_eq}
+use Rattle.std.specs.List.{list_any}
+use Rattle.std.specs.Option.{option_map_or}
+use Rattle.std.proofs.lemmas.Bool.{eqb-true, false≢true, true≢false}
+use Rattle.std.proofs.lemmas.Option.{none-some, same_Some}
+use Rattle.mir_base.specs.declared.int_kind.IntKind.{IntKind}
+use Rattle.mir_base.specs.declared.place_in_text.Pos.{Pos}
+use Rattle.mir_base.specs.declared.rule.Rule.{Rule}
+use Rattle.mir_ty.specs.declared.adt.Adt.{Adt}
+use Rattle.mir_ty.specs.declared.adt.Variant.{Variant}
+use Rattle.mir_ty.specs.declared.def.Sig.{Sig}
+use Rattle.mir_ty.specs.declared.ty.Ty.{Ty}
+use Rattle.mir_ty.specs.declared.ty.TyId.{TyId}
+use Rattle.mir_ty.specs.ItemTable.{ItemTable, type_at}
+use Rattle.mir_ty.specs.Parts.{held_by, parts_of, fields_of, variants_of}
+use Rattle.typed_tree.specs.Tree as tree
+use Rattle.typed_tree.specs.Tree.{Node, node, Form, Nodes, no_node, a_node, Fields, no_field, a_field}
+use Rattle.well_typed.specs.Claim.{Claim, Holds, some, fact, both}
+use Rattle.well_typed.specs.Names.{are_distinct_numbers, is_number_among}
+use Rattle.well_typed.specs.Nodes.{typed, row, arguments, made_fields, is_leaf, is_closure_body, is_drop_body}
+use Rattle.well_typed.specs.Patterns.{count_of, field_numbers}
+use Rattle.well_typed.specs.Places.{Context, ty_of, Taken, Wanted, Passed}
+use Rattle.well_typed.specs.Types.{fits, is_same, is_i32, is_kind, is_reference, kind_of, kind_in, adt_of, adt_in, variant_at, adt_at}
+use Rattle.well_typed.proofs.ClaimLemmas.{and_true, true_left, true_right}
+use Rattle.typing_rules.specs.Check.{Check, State, interned}
+use Rattle.typing_rules.specs.Places.{unit, int, a_node_of}
+use Rattle.typing_rules.specs.Promises.{Extends, IsReady, IsAlone, IsKnown, AreReady, Grows, Fact, Gives, Spot, at_spot, Stands, Knows, IsValue, IsTemporary, Sound, SoundTemporary}
+use Rattle.typing_rules.specs.RowPromises.{IsMade, IsArgument, AreGiven, IsGiven, SoundArgs}
+use Rattle.typing_rules.specs.Rows.{Typer, leaf, call, built_in, ask_form, make, numbered_fields}
+use Rattle.typing_rules.specs.Scope.{Env}
+use Rattle.typing_rules.proofs.Sound.Calls.{call_sound, from_passed, none_known}
+use Rattle.typing_rules.proofs.Sound.Fitted.{Is, IsPlain, fitted_gives, leaf_ends, passed_ends, or_left, or_right, same_self}
+use Rattle.typing_rules.proofs.Sound.Gives.{◌⋆◌, bind, with_ready, given, obeyed, found, after_number, numbered, grows_trans, grows_refl, grows_number, knows_later, knows_number}
+use Rattle.typing_rules.proofs.Sound.Interned.{interned_sound}
+use Rattle.typing_rules.proofs.Sound.Later.{alone_later, known_later, alone_no_reference, some_got}
+use Rattle.typing_rules.proofs.Sound.Operators.{int_ready, int_at, as_wanted}
+use Rattle.typing_rules.proofs.Sound.Places.{not_true}
+
+-- ---- functions
+
+-- a body that is called by a name: neither that of a `Drop` impl nor that of a closure
+abbrev pub IsFunction : State → ℕ → Sig → Type 0
+IsFunction s body head = (slice_get s.items.bodies body ≡ Some head) × ((w : State) → Grows s w → IsTrue (not
+    (is_closure_body w.items body)))
+
+drop_later : {old new : ItemTable} → Extends old new → (body : ℕ) → is_drop_body new body ≡ is_drop_body old body
+drop_later e body =
+    ap (λ adts. list_any (λ (adt : Adt). option_map_or (λ b. b == body) adt.drop_body false) adts) e.adts
+
+pub function_sound : (env : Env) (at : Pos) (body : ℕ) (head : Sig) (count : ℕ) (args : List TyId → Check Nodes) → SoundArgs
+    env count args → (want : Option TyId) (s : State) → Knows env s → IsFunction s body head → Gives s (IsTemporary env
+    want) (call at (tree.Call body) head.result count head.params args (not (is_drop_body s.items body)) want s)
+function_sound env at body head count args good want s k is =
+    with_ready λ all.
+    call_sound env at (tree.Call body) head.result count head.params args (not (is_drop_body s.items body)) (λ ns. refl) (λ
+    ns. refl) (λ w ns p. refl) good s (all.results body head is.0) (λ ty has. all.params body head ty is.0 has)
+    (λ may w id ns p ready g stands given_.
+    subst (λ o. Holds (some o (λ (sig : Sig). both (fact (is_same head.result sig.result)) (arguments (at_spot w.items
+    env.answer p) sig.params ns)))) (sym (ap (λ bodies. slice_get bodies body) g.items.bodies ∙ is.0)) (same_self
+    head.result.0 ⋆ given_) ⋆
+    and_true (not (is_drop_body w.items body)) _ (subst (λ b. IsTrue (not b)) (sym (drop_later g.items body)) may) (is.1 w
+    g)) want k
+
+-- ---- structs and variants by the order of their parts
+
+module _ (items : ItemTable) (adt variant : ℕ) (v : Variant) where
+  adt_fields : variant_at items adt variant ≡ Some v → fields_of (slice_get (variants_of (slice_get items.adts adt)) variant)
+      ≡ v.fields
+  adt_fields h = by (slice_get items.adts adt) h
+    where
+      by : (o : Option Adt) → option_and_then (λ (def : Adt). slice_get def.variants variant) o ≡ Some v → fields_of
+          (slice_get (variants_of o) variant) ≡ v.fields
+      by None h = absurd (none-some v h)
+      by (Some def) h = ap fields_of h
+
+numbered_from : (k : ℕ) (ns : Nodes) → List ℕ
+numbered_from k no_node = []
+numbered_from k (a_node first rest) = k ∷ numbered_from (suc k) rest
+
+not_among : (n k : ℕ) (ns : Nodes) → suc n ≤ k → IsTrue (not (is_number_among n (field_numbers (numbered_fields k ns))))
+not_among n k no_node h = refl
+not_among n k (a_node first rest) h = by (nat_eq n k) refl (not_among n (suc k) rest (omega (arith, h)))
+  where
+    by : (b : Bool) → nat_eq n k ≡ b → IsTrue (not (is_number_among n (field_numbers (numbered_fields (suc k) rest)))) →
+        IsTrue (not (b || is_number_among n (field_numbers (numbered_fields (suc k) rest))))
+    by true e on = absurd (let same = eqb-true n k e in omega (arith, h, same))
+    by false e on = on
+
+distinct_from : (k : ℕ) (ns : Nodes) → IsTrue (are_distinct_numbers (field_numbers (numbered_fields k ns)))
+distinct_from k no_node = refl
+distinct_from k (a_node first rest) =
+    and_true (not (is_number_among k (field_numbers (numbered_fields (suc k) rest)))) _ (not_among k (suc k) rest (omega
+    arith)) (distinct_from (suc k) rest)
+
+as_many : (k : ℕ) (ns : Nodes) → length (field_numbers (numbered_fields k ns)) ≡ count_of ns
+as_many k no_node = refl
+as_many k (a_node first rest) = ap suc (as_many (suc k) rest)
+
+-- the arguments are values for the fields
+fields_hold : (c : Context) (tys : List TyId) (all : List TyId) (k : ℕ) (ns : Nodes) → ((n : ℕ) (ty : TyId) → slice_get tys
+    n ≡ Some ty → (slice_get all (k + n) ≡ Some ty) × (is_reference c.items ty ≡ false)) → Holds (arguments c tys ns) →
+    Holds (made_fields c all (numbered_fields k ns))
+fields_hold c [] all k no_node at h = refl
+fields_hold c (ty ∷ tys) all k no_node at h = refl
+fields_hold c [] all k (a_node first rest) at h = absurd (let no_ : IsTrue false = h in cc)
+fields_hold c (ty ∷ tys) all k (a_node first rest) at h =
+    let here_ = at 0 ty refl in
+    let so = from_passed c ty first here_.1 h.0 in
+    (
+      subst (λ o. Holds (some o (λ t. typed c (Wanted t) first))) (sym (ap (slice_get all) (omega arith) ∙ here_.0))
+      (as_wanted c ty first so.0 so.1),
+      fields_hold c tys all (suc k) rest (λ n t is. let later = at (suc n) t is in (ap (slice_get all) (omega arith) ∙
+      later.0, later.1)) h.1,
+    )
+
+adt_made : (items : ItemTable) (adt : ℕ) → ((part : TyId) → Contains (held_by items (Ty.Adt adt)) part → IsAlone items
+    part) → ((part : TyId) (variant n : ℕ) → slice_get (parts_of items (Ty.Adt adt) variant) n ≡ Some part → IsAlone items
+    part) → IsMade items (Ty.Adt adt)
+adt_made items adt held parts =
+    record { held = held; parts = parts; inside = λ to is. absurd (none-some to is) }
+
+pub ask_sound : (env : Env) (at : Pos) (count : ℕ) (args : List TyId → Check Nodes) → SoundArgs env count args →
+    SoundTemporary env (built_in at (int IntKind.I32) ask_form count 0 (args []))
+ask_sound env at count args good want s k =
+    after_number (bind (good [] (numbered s) (knows_number env k) (none_known s.items)) λ ns t g d.
+    bind (fitted_gives env want (a_node_of s.next_node at (int IntKind.I32) tree.Ask) t refl) λ n u h e.
+    obeyed Rule.T04 at (count == 0) _ λ counted.
+    passed_ends env want u s.next_node at (int IntKind.I32) tree.Ask n refl (λ w p. refl) e λ w all l.
+    (int_ready w.items all IntKind.I32, λ p stands. subst (λ o. IsTrue (option_map_or (is_kind IntKind.I32) o false)) (sym
+    (ap (option_and_then kind_in) (int_at w.items all IntKind.I32))) refl))
