@@ -8,7 +8,7 @@ use Rattle.mir_ty.specs.declared.ty.Ty.{Ty}
 use Rattle.mir_ty.specs.declared.ty.TyId.{TyId}
 use Rattle.mir_ty.specs.AreItems.{AreDistinct}
 use Rattle.mir_ty.specs.ItemTable.{ItemTable, type_at}
-use Rattle.mir_ty.specs.Parts.{field_ty, held_by}
+use Rattle.mir_ty.specs.Parts.{field_ty, held_by, parts_of}
 use Rattle.typed_tree.specs.Tree.{Node}
 use Rattle.well_typed.specs.Claim.{Holds}
 use Rattle.well_typed.specs.Names.{are_distinct}
@@ -61,6 +61,9 @@ pub record AreReady (items : ItemTable) : Type 0 where
   pub held : (id part : TyId) (ty : Ty) → type_at items id ≡ Some ty → Contains (held_by items ty) part → IsAlone
       items part
   pub parts : (id part : TyId) (variant n : ℕ) → field_ty items id variant n ≡ Some part → IsAlone items part
+  pub held_fields : (n : ℕ) (part : TyId) → Contains (held_by items (Ty.Adt n)) part → IsAlone items part
+  pub fields : (n variant k : ℕ) (part : TyId) → slice_get (parts_of items (Ty.Adt n) variant) k ≡ Some part → IsAlone
+      items part
   pub inside : (id to : TyId) → inside_of items id ≡ Some to → IsReady items to × IsTrue (not (is_reference items to))
   pub results : (n : ℕ) (sig : Sig) → slice_get items.bodies n ≡ Some sig → IsAlone items sig.result
   pub methods : (n k : ℕ) (def : TraitDef) (sig : Sig) → slice_get items.traits n ≡ Some def →

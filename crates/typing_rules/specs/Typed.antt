@@ -25,7 +25,7 @@ use Rattle.typing_rules.specs.Written.{written}
 
 -- ---- paths
 
-abbrev makes_unit : Pos → PathValue → Typer
+abbrev pub makes_unit : Pos → PathValue → Typer
 makes_unit at (Makes adt variant) want = do
   ty ← interned (Ty.Adt adt)
   leaf at ty (tree.Make adt variant tree.no_field) want

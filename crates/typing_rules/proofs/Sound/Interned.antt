@@ -164,6 +164,8 @@ module _ (items : ItemTable) (ty : Ty) where
               items
               ty) id) part h in
               alone_later more_types part (parts_more id part variant n known.0 (two id.0 known.0 known.1) known.2);
+          held_fields = λ n part has. alone_later more_types part (all.held_fields n part has);
+          fields = λ n variant k part h. alone_later more_types part (all.fields n variant k part h);
           inside = λ id to h.
               let known = some_got inside_in (type_at (with_type items ty) id) to h in
               let was = inside_more id to known.0 (two id.0 known.0 known.1) known.2 in (

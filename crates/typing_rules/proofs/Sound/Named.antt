@@ -15,6 +15,7 @@ use Rattle.mir_ty.specs.declared.ty.Ty.{Ty}
 use Rattle.mir_ty.specs.declared.ty.TyId.{TyId}
 use Rattle.mir_ty.specs.ItemTable.{ItemTable, type_at}
 use Rattle.mir_ty.specs.Parts.{held_by, parts_of, fields_of, variants_of}
+use Rattle.mir_ty.proofs.ListLemmas.{slice_get-Contains}
 use Rattle.typed_tree.specs.Tree as tree
 use Rattle.typed_tree.specs.Tree.{Node, node, Form, Nodes, no_node, a_node, Fields, no_field, a_field}
 use Rattle.well_typed.specs.Claim.{Claim, Holds, some, fact, both}
@@ -24,12 +25,14 @@ use Rattle.well_typed.specs.Patterns.{count_of, field_numbers}
 use Rattle.well_typed.specs.Places.{Context, ty_of, Taken, Wanted, Passed}
 use Rattle.well_typed.specs.Types.{fits, is_same, is_i32, is_kind, is_reference, kind_of, kind_in, adt_of, adt_in, variant_at, adt_at}
 use Rattle.well_typed.proofs.ClaimLemmas.{and_true, true_left, true_right}
-use Rattle.typing_rules.specs.Check.{Check, State, interned}
+use Rattle.typing_rules.specs.Check.{Check, State, interned, ◌>>=◌}
 use Rattle.typing_rules.specs.Places.{unit, int, a_node_of}
 use Rattle.typing_rules.specs.Promises.{Extends, IsReady, IsAlone, IsKnown, AreReady, Grows, Fact, Gives, Spot, at_spot, Stands, Knows, IsValue, IsTemporary, Sound, SoundTemporary}
 use Rattle.typing_rules.specs.RowPromises.{IsMade, IsArgument, AreGiven, IsGiven, SoundArgs}
 use Rattle.typing_rules.specs.Rows.{Typer, leaf, call, built_in, ask_form, make, numbered_fields}
+use Rattle.typing_rules.specs.Named.{Makes}
 use Rattle.typing_rules.specs.Scope.{Env}
+use Rattle.typing_rules.specs.Typed.{makes_unit}
 use Rattle.typing_rules.proofs.Sound.Calls.{call_sound, from_passed, none_known}
 use Rattle.typing_rules.proofs.Sound.Fitted.{Is, IsPlain, fitted_gives, leaf_ends, passed_ends, or_left, or_right, same_self}
 use Rattle.typing_rules.proofs.Sound.Gives.{◌⋆◌, bind, with_ready, given, obeyed, found, after_number, numbered, grows_trans, grows_refl, grows_number, knows_later, knows_number}
@@ -115,11 +118,75 @@ fields_hold c (ty ∷ tys) all k (a_node first rest) at h =
       later.0, later.1)) h.1,
     )
 
-adt_made : (items : ItemTable) (adt : ℕ) → ((part : TyId) → Contains (held_by items (Ty.Adt adt)) part → IsAlone items
-    part) → ((part : TyId) (variant n : ℕ) → slice_get (parts_of items (Ty.Adt adt) variant) n ≡ Some part → IsAlone items
-    part) → IsMade items (Ty.Adt adt)
-adt_made items adt held parts =
-    record { held = held; parts = parts; inside = λ to is. absurd (none-some to is) }
+adt_made : (items : ItemTable) → AreReady items → (adt : ℕ) → IsMade items (Ty.Adt adt)
+adt_made items all adt =
+    record {
+      held = λ part has. all.held_fields adt part has;
+      parts = λ part variant n is. all.fields adt variant n part is;
+      inside = λ to is. absurd (none-some to is);
+    }
+
+-- a struct or a variant with these fields
+make_row : (c : Context) (ty : TyId) (id adt variant : ℕ) (v : Variant) (fields : Fields) → type_at c.items ty ≡ Some (Ty.Adt
+    adt) → variant_at c.items adt variant ≡ Some v → IsTrue (are_distinct_numbers (field_numbers fields) && length
+    (field_numbers fields) == length v.fields) → Holds (made_fields c v.fields fields) → Holds (row c id ty (tree.Make adt
+    variant fields))
+make_row c ty id adt variant v fields is at numbers holds =
+    subst (λ o. IsTrue (option_map_or (λ n. n == adt) (option_and_then adt_in o) false)) (sym is) (same_self adt) ⋆
+    subst (λ o. Holds (some o (λ (u : Variant). both (fact (are_distinct_numbers (field_numbers fields) && length
+    (field_numbers fields) == length u.fields)) (made_fields c u.fields fields)))) (sym at) (numbers ⋆ holds)
+
+variant_later : {old new : ItemTable} → Extends old new → (adt variant : ℕ) → variant_at new adt variant ≡ variant_at old adt
+    variant
+variant_later e adt variant =
+    ap (λ adts. option_and_then (λ (def : Adt). slice_get def.variants variant) (slice_get adts adt)) e.adts
+
+-- `S`, `E::V` of a struct or a variant without parts
+pub unit_struct_sound : (env : Env) (at : Pos) (adt variant : ℕ) (v : Variant) (want : Option TyId) (s : State) → variant_at
+    s.items adt variant ≡ Some v → v.fields ≡ [] → Knows env s → Gives s (IsTemporary env want) (makes_unit at (Makes adt
+    variant) want s)
+unit_struct_sound env at adt variant v want s has none k =
+    with_ready λ all. bind (interned_sound (Ty.Adt adt) s (adt_made s.items all adt)) λ ty t g d.
+    after_number (leaf_ends env want (numbered t) t.next_node at ty (tree.Make adt variant no_field) refl refl (λ w p. refl) λ
+    w ready l.
+    let on = grows_trans (grows_number t) l in
+    ((Ty.Adt adt, d w on, tt), λ p stands.
+    make_row (at_spot w.items env.answer p) ty t.next_node adt variant v no_field (d w on) (variant_later (grows_trans g
+    on).items adt variant ∙ has) (subst (λ (tys : List TyId). IsTrue (true && 0 == length tys)) (sym none) refl) refl))
+
+-- `S(a)`, `E::V(a)`
+pub constructor_sound : (env : Env) (at : Pos) (adt variant : ℕ) (v : Variant) (count : ℕ) (args : List TyId → Check Nodes) →
+    SoundArgs env count args → (want : Option TyId) (s : State) → variant_at s.items adt variant ≡ Some v → Knows env s →
+    Gives s (IsTemporary env want) ((interned (Ty.Adt adt) >>= (λ ty. call at (make adt variant) ty count v.fields args
+    true want)) s)
+constructor_sound env at adt variant v count args good want s has k =
+    with_ready λ all. bind (interned_sound (Ty.Adt adt) s (adt_made s.items all adt)) λ ty t g d.
+    with_ready λ ready.
+    let at_t = variant_later g.items adt variant ∙ has in
+    call_sound env at (make adt variant) ty count v.fields args true (λ ns. refl) (λ ns. refl) (λ w ns p. refl) good t (Ty.Adt
+    adt, d t (grows_refl t), tt) (λ part c. known t ready at_t part c.0 (slice_get-Contains v.fields part c))
+    (λ may w id ns p all_w h stands given_.
+    let at_w = variant_later h.items adt variant ∙ at_t in
+    make_row (at_spot w.items env.answer p) ty id adt variant v (numbered_fields 0 ns) (d w h) at_w
+    (and_true _ _ (distinct_from 0 ns) (subst (λ n. IsTrue (n == length v.fields)) (sym (as_many 0 ns ∙ counted
+    (at_spot w.items env.answer p) v.fields ns given_)) (same_self (length v.fields))))
+    (fields_hold (at_spot w.items env.answer p) v.fields v.fields 0 ns (λ n u is. (ap (slice_get v.fields) (omega arith) ∙ is, not_true _ (alone_no_reference
+    w.items u (alone w all_w at_w u n is)))) given_)) want (knows_later env g k)
+  where
+    alone : (w : State) → AreReady w.items → variant_at w.items adt variant ≡ Some v → (part : TyId) (n : ℕ) → slice_get
+        v.fields n ≡ Some part → IsAlone w.items part
+    alone w all at_w part n is =
+        all.fields adt variant n part (ap (λ tys. slice_get tys n) (adt_fields w.items adt variant v at_w) ∙ is)
+
+    known : (w : State) → AreReady w.items → variant_at w.items adt variant ≡ Some v → (part : TyId) (n : ℕ) → slice_get
+        v.fields n ≡ Some part → IsKnown w.items part
+    known w all at_w part n is = let a = alone w all at_w part n is in (a.0, a.1)
+
+    counted : (c : Context) (tys : List TyId) (ns : Nodes) → Holds (arguments c tys ns) → count_of ns ≡ length tys
+    counted c [] no_node h = refl
+    counted c (ty ∷ tys) no_node h = absurd (let no_ : IsTrue false = h in cc)
+    counted c [] (a_node first rest) h = absurd (let no_ : IsTrue false = h in cc)
+    counted c (ty ∷ tys) (a_node first rest) h = ap suc (counted c tys rest h.1)
 
 pub ask_sound : (env : Env) (at : Pos) (count : ℕ) (args : List TyId → Check Nodes) → SoundArgs env count args →
     SoundTemporary env (built_in at (int IntKind.I32) ask_form count 0 (args []))
