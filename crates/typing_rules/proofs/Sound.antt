@@ -11,6 +11,7 @@ pub mod Jumps
 pub mod Later
 pub mod Literals
 pub mod Matching
+pub mod Methods
 pub mod Named
 pub mod Operators
 pub mod Parts

@@ -190,7 +190,7 @@ store_sound env at place value good_place good_value want s k =
 -- ---- arguments
 
 -- a value that is passed for a parameter: no reference, or of type `!`
-passed_value : (c : Context) (param : TyId) (n : Node) → IsTrue (not (is_reference c.items param)) → Holds (typed c
+pub passed_value : (c : Context) (param : TyId) (n : Node) → IsTrue (not (is_reference c.items param)) → Holds (typed c
     Taken
     n) → IsTrue (fits c.items param (ty_of n)) → Holds (typed c (Passed param) n)
 passed_value c param (node id at ty by form) no_reference h f =

@@ -176,6 +176,9 @@ module _ (items : ItemTable) (ty : Ty) where
           results = λ n sig h. alone_later more_types sig.result (all.results n sig h);
           methods = λ n k def sig h g. alone_later more_types sig.result (all.methods n k def sig h g);
           params = λ n sig t h has. known_later more_types t (all.params n sig t h has);
+          closures = λ k def head at is.
+              let begins = all.closures k def head at is in
+              (begins.0, begins.1, begins.2, type_later more_types begins.0 (Ty.Closure k) begins.3);
           method_params = λ n k def sig t h g has. known_later more_types t (all.method_params n k def sig t h g has);
         }
 

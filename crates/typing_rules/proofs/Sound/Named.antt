@@ -48,7 +48,7 @@ abbrev pub IsFunction : State → ℕ → Sig → Type 0
 IsFunction s body head = (slice_get s.items.bodies body ≡ Some head) × ((w : State) → Grows s w → IsTrue (not
     (is_closure_body w.items body)))
 
-drop_later : {old new : ItemTable} → Extends old new → (body : ℕ) → is_drop_body new body ≡ is_drop_body old body
+pub drop_later : {old new : ItemTable} → Extends old new → (body : ℕ) → is_drop_body new body ≡ is_drop_body old body
 drop_later e body =
     ap (λ adts. list_any (λ (adt : Adt). option_map_or (λ b. b == body) adt.drop_body false) adts) e.adts
 

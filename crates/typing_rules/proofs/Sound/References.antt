@@ -21,11 +21,11 @@ use Rattle.typing_rules.specs.Check.{Check, State}
 use Rattle.typing_rules.specs.Places.{a_node_of, is_behind_shared, is_shared_root, names_shared, meaning_form, place_in_text}
 use Rattle.typing_rules.specs.Promises.{IsReady, AreReady, Grows, Gives, at_spot, IsBase, SoundBase}
 use Rattle.typing_rules.specs.RowPromises.{IsArgument, IsMade, SoundReferrer}
-use Rattle.typing_rules.specs.Rows.{borrow, borrow_of, borrow_by, reference_ty, used_if_place, is_same_truth, passed_on, passes}
+use Rattle.typing_rules.specs.Rows.{borrow, borrow_of, borrow_by, reference_ty, used_if_place, is_same_truth, passed_on, passes, is_unique_borrow}
 use Rattle.typing_rules.specs.Scope.{Env, Entry, Meaning, Local, Capture, InGuard}
 use Rattle.typing_rules.proofs.Sound.Arguments.{named_sound, passed_borrow, behind_same, behind_later}
 use Rattle.typing_rules.proofs.Sound.Fitted.{same_self}
-use Rattle.typing_rules.proofs.Sound.Gives.{◌⋆◌, bind, with_ready, given, obeyed, after_number, numbered, grows_trans, grows_refl, knows_number}
+use Rattle.typing_rules.proofs.Sound.Gives.{◌⋆◌, bind, weaker, with_ready, given, obeyed, after_number, numbered, grows_trans, grows_refl, knows_number}
 use Rattle.typing_rules.proofs.Sound.Interned.{interned_sound}
 use Rattle.typing_rules.proofs.Sound.Later.{ready_later, type_later, in_later, same_reference, some_got}
 use Rattle.typing_rules.proofs.Sound.Operators.{same_id}
@@ -144,14 +144,12 @@ own_truth : (unique : Bool) → IsTrue (if unique then unique else not unique)
 own_truth true = refl
 own_truth false = refl
 
--- a borrow of what is no reference and, if it is unique, is not behind `&`
-pub borrowed : (env : Env) (id : ℕ) (at : Pos) (param : TyId) (unique : Bool) (b : Node) (s : State) → ((w : State) →
-    Grows
-    s w → IsBase env w b) → IsTrue (not (is_reference s.items (ty_of b))) → IsTrue (not (unique && is_behind_shared
-    s.items
-    b)) → reference_of s.items param ≡ Some (unique, ty_of b) → Gives s (IsArgument env param) (borrow_of id at unique
-    b s)
-borrowed env id at param unique b s base no_reference shared is =
+-- a borrow of what is no reference; one by `&mut` has to be not behind `&`
+pub borrowed_if : (env : Env) (id : ℕ) (at : Pos) (param : TyId) (unique : Bool) (b : Node) (s : State) →
+    ((w : State) → Grows s w → IsBase env w b) → IsTrue (not (is_reference s.items (ty_of b))) →
+    reference_of s.items param ≡ Some (unique, ty_of b) → Gives s (λ w n. (is_unique_borrow (form_of n) ≡ unique) × (IsTrue
+    (not (unique && is_behind_shared s.items b)) → IsArgument env param w n)) (borrow_of id at unique b s)
+borrowed_if env id at param unique b s base no_reference is =
     bind (interned_sound (reference_ty unique (ty_of b)) s (reference_made s.items unique (ty_of b) (base s (grows_refl
     s)).ready no_reference)) λ ty t g d.
     given _ λ all w l.
@@ -162,8 +160,8 @@ borrowed env id at param unique b s base no_reference shared is =
     let number = (l.ready all).distinct param.0 ty.0 (reference_ty unique (ty_of b)) here_ (d w l) in
     let same : param ≡ ty = λ i. record { 0 = number i } in
     let of = ap (option_and_then reference_in) here_ ∙ reference_back unique (ty_of b) in
-    subst (λ u. IsArgument env param w (a_node_of id at u (tree.Borrow unique (used_if_place (borrow_by unique) b))))
-    same
+    (refl, λ shared. subst (λ u. IsArgument env param w (a_node_of id at u (tree.Borrow unique (used_if_place (borrow_by
+    unique) b)))) same
     (record {
       holds = λ p stands.
           let c = at_spot w.items env.answer p in
@@ -181,7 +179,14 @@ borrowed env id at param unique b s base no_reference shared is =
           (used_type (borrow_by unique) b)) (same_self (ty_of b).0) ⋆ own_truth unique))
           (subst (λ o. IsTrue (not (option_map_or is_never_ty o false))) (sym here_) (truth_of _ (never_no unique (ty_of
           b))));
-    })
+    }))
+
+pub borrowed : (env : Env) (id : ℕ) (at : Pos) (param : TyId) (unique : Bool) (b : Node) (s : State) →
+    ((w : State) → Grows s w → IsBase env w b) → IsTrue (not (is_reference s.items (ty_of b))) →
+    IsTrue (not (unique && is_behind_shared s.items b)) → reference_of s.items param ≡ Some (unique, ty_of b) →
+    Gives s (IsArgument env param) (borrow_of id at unique b s)
+borrowed env id at param unique b s base no_reference shared is =
+    weaker (IsArgument env param) (borrowed_if env id at param unique b s base no_reference is) λ n w ready g h. h.1 shared
 
 pub borrow_sound : (env : Env) (at : Pos) (unique : Bool) (base : Check Node) → SoundBase env base → SoundReferrer env
     (borrow at unique base)
