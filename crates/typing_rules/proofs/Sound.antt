@@ -1,5 +1,6 @@
 -- What the checks of expressions give is well typed.
 pub mod Arguments
+pub mod Bindings
 pub mod Blocks
 pub mod Branches
 pub mod Calls
@@ -15,6 +16,7 @@ pub mod Methods
 pub mod Named
 pub mod Operators
 pub mod Parts
+pub mod Patterns
 pub mod Places
 pub mod References
 pub mod Scopes

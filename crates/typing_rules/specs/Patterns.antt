@@ -20,18 +20,18 @@ use Rattle.typing_rules.specs.Scope.{Env, Entry, Local, variable, variant_named,
 use Rattle.typing_rules.specs.Syntax.{Word, Kind, Unit_, Fields_, Syn, syn, Shape, AnyPattern, BindPattern, LiteralPattern, TruthPattern, PathPattern, PartsPattern, FieldsPattern, FieldPattern, ParensPattern, TuplePattern, ArrayPattern, Alternatives, Syns, no_syn, a_syn, nothing, just}
 
 -- what a pattern gives: its node, and the bindings so far
-abbrev Bound : Type 0
+abbrev pub Bound : Type 0
 Bound = Node × List Entry
 
 abbrev pub count_of : Syns → ℕ
 count_of no_syn = 0
 count_of (a_syn first rest) = suc (count_of rest)
 
-abbrev agrees_kind : Option IntKind → TyId → Bool
+abbrev pub agrees_kind : Option IntKind → TyId → Bool
 agrees_kind None ty = true
 agrees_kind (Some kind) ty = is_same (int kind) ty
 
-abbrev literal_pattern : Pos → Expected → TyId → Bool → ℕ → Option IntKind → Check Node
+abbrev pub literal_pattern : Pos → Expected → TyId → Bool → ℕ → Option IntKind → Check Node
 literal_pattern at e ty is_negative value suffix = do
   id ← number
   items ← the_items
@@ -41,7 +41,7 @@ literal_pattern at e ty is_negative value suffix = do
   obeys Rule.T18 at (not e.takes_all)
   pure (used Use.Test (a_node_of id at ty (tree.NumberPattern (literal_value is_negative value))))
 
-abbrev truth_pattern : Pos → Expected → TyId → Bool → Check Node
+abbrev pub truth_pattern : Pos → Expected → TyId → Bool → Check Node
 truth_pattern at e ty value = do
   id ← number
   items ← the_items
@@ -49,7 +49,7 @@ truth_pattern at e ty value = do
   obeys Rule.T18 at (not e.takes_all)
   pure (used Use.Test (a_node_of id at ty (tree.TruthPattern value)))
 
-abbrev bind : Pos → Expected → TyId → Word → List Entry → Check Bound
+abbrev pub bind : Pos → Expected → TyId → Word → List Entry → Check Bound
 bind at e ty name earlier = do
   id ← number
   items ← the_items
@@ -65,38 +65,39 @@ pub record Target : Type 0 where
   pub adt : ℕ
   pub variant : ℕ
 
-abbrev target : ℕ → ℕ → Target
+abbrev pub target : ℕ → ℕ → Target
 target adt variant = record { adt = adt; variant = variant }
 
 abbrev pub target_of : ItemTable → Env → Option Word → Option Word → Option Target
 target_of items env first None =
     option_and_then (λ n. if is_enum items n then None else Some (target n 0)) (adt_at_head items env first)
 target_of items env first (Some second) =
-    option_and_then (λ n. option_map (target n) (variant_named items n second)) (adt_at_head items env first)
+    option_and_then (λ n. if is_enum items n then option_map (target n) (variant_named items n second) else None)
+    (adt_at_head items env first)
 
-abbrev variants_of : ItemTable → ℕ → ℕ
+abbrev pub variants_of : ItemTable → ℕ → ℕ
 variants_of items adt = option_map_or (λ def. length def.variants) (adt_at items adt) 0
 
-abbrev fields_of : ItemTable → Target → List TyId
+abbrev pub fields_of : ItemTable → Target → List TyId
 fields_of items t = option_map_or (λ v. v.fields) (variant_at items t.adt t.variant) []
 
 -- a variant of an enum with more than one is a test
-abbrev is_test : ItemTable → Target → Bool
+abbrev pub is_test : ItemTable → Target → Bool
 is_test items t = is_enum items t.adt && nat_lt 1 (variants_of items t.adt)
 
-abbrev parts_form : ItemTable → Target → Fields → Form
+abbrev pub parts_form : ItemTable → Target → Fields → Form
 parts_form items t fields =
     if is_enum items t.adt then tree.VariantPattern t.variant (is_test items t) fields else tree.StructPattern fields
 
-abbrev tested_if : Bool → Node → Node
+abbrev pub tested_if : Bool → Node → Node
 tested_if b n = if b then used Use.Test n else n
 
 -- what is inside a type with a `Drop` impl is not moved out of
-abbrev inside_of : ItemTable → TyId → Expected → Expected
+abbrev pub inside_of : ItemTable → TyId → Expected → Expected
 inside_of items ty e = record e { is_fixed = e.is_fixed || has_drop_impl items ty }
 
 -- the place is of the type that the path names; then its parts, how many there are, and whether it may be a test
-abbrev of_target : Pos → Expected → TyId → Target → (Expected → List TyId → Check (Fields × List Entry × Bool ×
+abbrev pub of_target : Pos → Expected → TyId → Target → (Expected → List TyId → Check (Fields × List Entry × Bool ×
     Bool)) → Check Bound
 of_target at e ty t parts = do
   id ← number
@@ -111,30 +112,30 @@ of_target at e ty t parts = do
   pure (tested_if (is_test items t) (a_node_of id at ty (parts_form items t ps.0)), ps.1)
 
 -- a lone name: a unit struct's pattern, or a binding; a struct with fields has no such pattern
-abbrev is_unit_kind : Kind → Bool
+abbrev pub is_unit_kind : Kind → Bool
 is_unit_kind Unit_ = true
 is_unit_kind _ = false
 
-abbrev no_parts : List Entry → Bool → Expected → List TyId → Check (Fields × List Entry × Bool × Bool)
+abbrev pub no_parts : List Entry → Bool → Expected → List TyId → Check (Fields × List Entry × Bool × Bool)
 no_parts earlier is_whole e tys = pure (tree.no_field, earlier, is_whole, true)
 
-abbrev lone_struct : Env → Pos → Expected → TyId → ℕ → List Entry → Check Bound
+abbrev pub lone_struct : Env → Pos → Expected → TyId → ℕ → List Entry → Check Bound
 lone_struct env at e ty adt earlier =
     if is_unit_kind (kind_at env.kinds adt 0) then of_target at e ty (target adt 0) (no_parts earlier true)
     else breaks Rule.T18 at
 
-abbrev lone_by : Env → Pos → Expected → TyId → Word → List Entry → Option ℕ → ItemTable → Check Bound
+abbrev pub lone_by : Env → Pos → Expected → TyId → Word → List Entry → Option ℕ → ItemTable → Check Bound
 lone_by env at e ty name earlier None items = bind at e ty name earlier
 lone_by env at e ty name earlier (Some adt) items =
     if is_enum items adt then bind at e ty name earlier else lone_struct env at e ty adt earlier
 
-abbrev lone_name : Env → Pos → Expected → TyId → Word → List Entry → Check Bound
+abbrev pub lone_name : Env → Pos → Expected → TyId → Word → List Entry → Check Bound
 lone_name env at e ty name earlier = do
   items ← the_items
   lone_by env at e ty name earlier (adt_named items name) items
 
 -- a path alone: `Self` as a lone name, a variant without parts
-abbrev path_alone : Env → Pos → Expected → TyId → Option Word → Option Word → List Entry → Check Bound
+abbrev pub path_alone : Env → Pos → Expected → TyId → Option Word → Option Word → List Entry → Check Bound
 path_alone env at e ty first None earlier = do
   adt ← known Rule.T01 at env.self_adt
   items ← the_items
@@ -146,57 +147,57 @@ path_alone env at e ty first (Some second) earlier = do
   of_target at e ty t (no_parts earlier (is_unit_kind (kind_at env.kinds t.adt t.variant)))
 
 -- parts by their order: as many as there are, or no more before `..`
-abbrev is_count : Bool → ℕ → ℕ → Bool
+abbrev pub is_count : Bool → ℕ → ℕ → Bool
 is_count dots given count = if dots then nat_le given count else given == count
 
-abbrev is_named_kind : Kind → Bool
+abbrev pub is_named_kind : Kind → Bool
 is_named_kind Fields_ = true
 is_named_kind _ = false
 
-abbrev has_named_parts : Env → Target → Bool
+abbrev pub has_named_parts : Env → Target → Bool
 has_named_parts env t = is_named_kind (kind_at env.kinds t.adt t.variant)
 
 -- ---- tuples
 
-abbrev tuple_types : ItemTable → TyId → Option (List TyId)
+abbrev pub tuple_types : ItemTable → TyId → Option (List TyId)
 tuple_types items ty = if is_unit items ty then Some [] else tuple_of items ty
 
-abbrev has_names : List Entry → List Entry → Bool
+abbrev pub has_names : List Entry → List Entry → Bool
 has_names earlier later = not (length earlier == length later)
 
-abbrev fields_from : ℕ → Nodes → Fields
+abbrev pub fields_from : ℕ → Nodes → Fields
 fields_from k no_node = tree.no_field
 fields_from k (a_node first rest) = tree.a_field k first (fields_from (suc k) rest)
 
-abbrev field_ty : List TyId → Option ℕ → Option (ℕ × TyId)
+abbrev pub field_ty : List TyId → Option ℕ → Option (ℕ × TyId)
 field_ty tys number = option_and_then (λ k. option_map (λ ty. (k, ty)) (slice_get tys k)) number
 
-abbrev no_variant : Variant
+abbrev pub no_variant : Variant
 no_variant = record { name = []; fields = []; field_names = [] }
 
-abbrev with_field : Option (ℕ × Node) → Fields → Fields
+abbrev pub with_field : Option (ℕ × Node) → Fields → Fields
 with_field None fields = fields
 with_field (Some f) fields = tree.a_field f.0 f.1 fields
 
-abbrev is_again : ℕ → Given → Bool
+abbrev pub is_again : ℕ → Given → Bool
 is_again k [] = false
 is_again k (None ∷ given) = is_again k given
 is_again k (Some n ∷ given) = k == n || is_again k given
 
-abbrev are_given_once : Given → Bool
+abbrev pub are_given_once : Given → Bool
 are_given_once [] = true
 are_given_once (None ∷ given) = are_given_once given
 are_given_once (Some n ∷ given) = not (is_again n given) && are_given_once given
 
-abbrev with_number : ℕ → Bound → Option (ℕ × Node) × List Entry × Option ℕ
+abbrev pub with_number : ℕ → Bound → Option (ℕ × Node) × List Entry × Option ℕ
 with_number k b = (Some (k, b.0), b.1, Some k)
 
-abbrev field_at : List Entry → Option (ℕ × TyId) → (TyId → Check Bound) → Check (Option (ℕ × Node) × List Entry ×
+abbrev pub field_at : List Entry → Option (ℕ × TyId) → (TyId → Check Bound) → Check (Option (ℕ × Node) × List Entry ×
     Option ℕ)
 field_at earlier None typed = pure (None, earlier, None)
 field_at earlier (Some f) typed = with_number f.0 <$> typed f.1
 
-abbrev field_by : Variant → Word → List Entry → (TyId → Check Bound) → Check (Option (ℕ × Node) × List Entry × Option ℕ)
+abbrev pub field_by : Variant → Word → List Entry → (TyId → Check Bound) → Check (Option (ℕ × Node) × List Entry × Option ℕ)
 field_by v name earlier typed = field_at earlier (field_ty v.fields (field_named v name)) typed
 
 abbrev mutual
@@ -204,7 +205,7 @@ abbrev mutual
   pub pattern : Env → Expected → TyId → Syn → List Entry → Check Bound
   pattern env e ty (syn at form) earlier = pattern_form env e ty at form earlier
 
-  pattern_form : Env → Expected → TyId → Pos → Shape → List Entry → Check Bound
+  pub pattern_form : Env → Expected → TyId → Pos → Shape → List Entry → Check Bound
   pattern_form env e ty at AnyPattern earlier = do
     id ← number
     pure (a_node_of id at ty tree.Wildcard, earlier)
@@ -258,7 +259,7 @@ abbrev mutual
   pattern_form env e ty at _ earlier = breaks Rule.T20 at
 
   -- patterns of parts in their order; those past the last part are not typed
-  part_patterns : Env → Expected → List TyId → Syns → List Entry → Check (Nodes × List Entry)
+  pub part_patterns : Env → Expected → List TyId → Syns → List Entry → Check (Nodes × List Entry)
   part_patterns env e tys no_syn earlier = pure (no_node, earlier)
   part_patterns env e [] (a_syn first rest) earlier = pure (no_node, earlier)
   part_patterns env e (ty ∷ tys) (a_syn first rest) earlier = do
@@ -266,7 +267,7 @@ abbrev mutual
     ps ← part_patterns env e tys rest p.1
     pure (a_node p.0 ps.0, ps.1)
 
-  each_pattern : Env → Expected → TyId → Syns → List Entry → Check (Nodes × List Entry)
+  pub each_pattern : Env → Expected → TyId → Syns → List Entry → Check (Nodes × List Entry)
   each_pattern env e ty no_syn earlier = pure (no_node, earlier)
   each_pattern env e ty (a_syn first rest) earlier = do
     p ← pattern env e ty first earlier
@@ -274,14 +275,14 @@ abbrev mutual
     pure (a_node p.0 ps.0, ps.1)
 
   -- patterns of fields by their names; one for a field that is not there is not typed
-  field_patterns : Env → Expected → Variant → Syns → List Entry → Check (Fields × List Entry × Given)
+  pub field_patterns : Env → Expected → Variant → Syns → List Entry → Check (Fields × List Entry × Given)
   field_patterns env e v no_syn earlier = pure (tree.no_field, earlier, [])
   field_patterns env e v (a_syn first rest) earlier = do
     p ← field_pattern env e v first earlier
     ps ← field_patterns env e v rest p.1
     pure (with_field p.0 ps.0, ps.1, p.2 ∷ ps.2)
 
-  field_pattern : Env → Expected → Variant → Syn → List Entry → Check (Option (ℕ × Node) × List Entry × Option ℕ)
+  pub field_pattern : Env → Expected → Variant → Syn → List Entry → Check (Option (ℕ × Node) × List Entry × Option ℕ)
   field_pattern env e v (syn at (FieldPattern name nothing)) earlier =
       field_by v name earlier (λ ty. bind at e ty name earlier)
   field_pattern env e v (syn at (FieldPattern name (just inside))) earlier =

@@ -24,7 +24,7 @@ use Rattle.typing_rules.proofs.Sound.Operators.{int_at, int_ready}
 one_less : (n m : ℕ) → IsTrue (nat_le (suc n) (suc m)) → IsTrue (nat_le n m)
 one_less n m h = le-leb n m (let less = leb-true (suc n) (suc m) h in omega (arith, less))
 
-within : (kind : IntKind) (is_negative : Bool) (value : ℕ) → IsTrue (not is_negative || is_signed_kind kind) → IsTrue
+pub within : (kind : IntKind) (is_negative : Bool) (value : ℕ) → IsTrue (not is_negative || is_signed_kind kind) → IsTrue
     (nat_le value (most kind is_negative)) → IsTrue (is_within (literal_value is_negative value) kind)
 within IntKind.I32 false value s h = and_true _ _ refl h
 within IntKind.I64 false value s h = and_true _ _ refl h

@@ -69,7 +69,7 @@ function_sound env at body head count args good want s k is =
 -- ---- structs and variants by the order of their parts
 
 module _ (items : ItemTable) (adt variant : ℕ) (v : Variant) where
-  adt_fields : variant_at items adt variant ≡ Some v → fields_of (slice_get (variants_of (slice_get items.adts adt)) variant)
+  pub adt_fields : variant_at items adt variant ≡ Some v → fields_of (slice_get (variants_of (slice_get items.adts adt)) variant)
       ≡ v.fields
   adt_fields h = by (slice_get items.adts adt) h
     where
@@ -118,7 +118,7 @@ fields_hold c (ty ∷ tys) all k (a_node first rest) at h =
       later.0, later.1)) h.1,
     )
 
-adt_made : (items : ItemTable) → AreReady items → (adt : ℕ) → IsMade items (Ty.Adt adt)
+pub adt_made : (items : ItemTable) → AreReady items → (adt : ℕ) → IsMade items (Ty.Adt adt)
 adt_made items all adt =
     record {
       held = λ part has. all.held_fields adt part has;
