@@ -253,6 +253,7 @@ abbrev mutual
     pure (a_node_of id at ty (tree.ArrayPattern ps.0), ps.1)
   pattern_form env e ty at (Alternatives patterns) earlier = do
     id ← number
+    obeys Rule.T20 at (nat_lt 1 (count_of patterns))
     ps ← each_pattern env e ty patterns earlier
     obeys Rule.T18 at (not (has_names earlier ps.1))
     pure (a_node_of id at ty (tree.OrPattern ps.0), ps.1)

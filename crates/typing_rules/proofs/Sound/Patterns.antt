@@ -17,6 +17,7 @@ use Rattle.mir_ty.specs.declared.ty.TyId.{TyId}
 use Rattle.mir_ty.specs.Facts.{is_copy, has_drop_impl}
 use Rattle.mir_ty.specs.ItemTable.{ItemTable, type_at}
 use Rattle.mir_ty.specs.Parts.{field_ty, held_by, parts_of, fields_of, variants_of}
+use Rattle.mir_ty.proofs.ListLemmas.{Contains-slice_get}
 use Rattle.typed_tree.specs.declared.node.Use.{Use}
 use Rattle.typed_tree.specs.Nodes.{nodes_of, nodes_among, nodes_of_fields}
 use Rattle.typed_tree.specs.Tree as tree
@@ -40,7 +41,7 @@ use Rattle.typing_rules.proofs.Sound.Bindings.{Binds, binds_none, binds_from, bi
 use Rattle.typing_rules.proofs.Sound.Fitted.{or_left, or_right, same_self}
 use Rattle.typing_rules.proofs.Sound.Gives.{◌⋆◌, bind, weaker, with_ready, given, gives_nothing, obeyed, found, after_number, numbered, grows_trans, grows_refl, grows_number}
 use Rattle.typing_rules.proofs.Sound.Interned.{interned_sound}
-use Rattle.typing_rules.proofs.Sound.Later.{type_later, ready_later, alone_ready, in_later, is_later, same_copy, same_dyn, same_drop_impl, some_got}
+use Rattle.typing_rules.proofs.Sound.Later.{same_is, type_later, ready_later, alone_ready, in_later, is_later, same_copy, same_dyn, same_drop_impl, some_got}
 use Rattle.typing_rules.proofs.Sound.Literals.{within}
 use Rattle.typing_rules.proofs.Sound.Named.{adt_made, adt_fields}
 use Rattle.typing_rules.proofs.Sound.Operators.{same_id, or_cases}
@@ -131,3 +132,250 @@ bind_sound at e ty name earlier s ready =
       binds = binds_one earlier s.next_node _ w (record { name = name; ty = ty; meaning = Local s.next_node }) s.next_node refl
           (omega arith) (omega (arith, g.numbers)) (ready_later g.items ty ready) refl refl new_name;
     })
+
+-- ---- parts
+
+-- patterns of parts in their order, and patterns of one type, after earlier names
+pub record ArePartsAfter (e : Expected) (tys : List TyId) (earlier : List Entry) (n : ℕ) (w : State) (b : Nodes × List Entry) :
+    Type 0 where
+  pub holds : (place : Matched) → IsFor e place → Holds (well.part_patterns w.items place tys b.0)
+  pub binds : Binds earlier n (nodes_among b.0) w b.1
+
+pub record AreEachAfter (e : Expected) (ty : TyId) (earlier : List Entry) (n count : ℕ) (w : State) (b : Nodes × List Entry) :
+    Type 0 where
+  pub holds : (place : Matched) → IsFor e place → Holds (well.each_pattern w.items place ty b.0)
+  pub binds : Binds earlier n (nodes_among b.0) w b.1
+  pub counted : count_of b.0 ≡ count
+
+under : (earlier : List Entry) (n m : ℕ) (inside outside : List Node) (w : State) (out : List Entry) → n ≤ m → filter_map
+    binding_entry outside ≡ filter_map binding_entry inside → filter_map binding_name outside ≡ filter_map binding_name inside
+    → Binds earlier m inside w out → Binds earlier n outside w out
+under earlier n m inside outside w out le entries names b =
+    let c = binds_from earlier n m inside w out le b in
+    record {
+      new_ = c.new_;
+      is = c.is;
+      entries = entries ∙ c.entries;
+      names = names ∙ c.names;
+      distinct = c.distinct;
+      fresh = c.fresh;
+      types = c.types;
+    }
+
+tuple_later : {old new : ItemTable} → Extends old new → (ty : TyId) (tys : List TyId) → IsReady old ty → rules.tuple_types old
+    ty ≡ Some tys → well.tuple_types new ty ≡ Some tys
+tuple_later {old} {new} e ty tys ready h = by (is_unit old ty) (is_unit new ty) (same_is e _ ty ready) h
+  where
+    by : (b c : Bool) → c ≡ b → (if b then Some [] else tuple_of old ty) ≡ Some tys → (if c then Some [] else tuple_of new ty)
+        ≡ Some tys
+    by true c same h = subst (λ x. (if x then Some [] else tuple_of new ty) ≡ Some tys) (sym same) h
+    by false c same h =
+        subst (λ x. (if x then Some [] else tuple_of new ty) ≡ Some tys) (sym same) (in_later e tuple_in ty tys h)
+
+parts_ready : (items : ItemTable) → AreReady items → (ty : TyId) (tys : List TyId) → rules.tuple_types items ty ≡ Some tys → (n
+    : ℕ) (t : TyId) → slice_get tys n ≡ Some t → IsReady items t
+parts_ready items all ty tys h n t is = by (is_unit items ty) h
+  where
+    parts : (u : Ty) → type_at items ty ≡ Some u → tuple_in u ≡ Some tys → IsReady items t
+    parts (Ty.Tuple others) at h =
+        alone_ready items t (all.held ty t (Ty.Tuple others) at (Contains-slice_get others n t (ap (λ xs. slice_get xs n)
+        (same_Some others tys h) ∙ is)))
+    parts _ at h = absurd (none-some tys h)
+
+    by : (b : Bool) → (if b then Some [] else tuple_of items ty) ≡ Some tys → IsReady items t
+    by true h = absurd (none-some t (ap (λ xs. slice_get xs n) (same_Some [] tys h) ∙ is))
+    by false h = let known = some_got tuple_in (type_at items ty) tys h in parts known.0 known.1 known.2
+
+elements_ready : (items : ItemTable) → AreReady items → (ty : TyId) (a : TyId × ℕ) → array_of items ty ≡ Some a → (n : ℕ) (t :
+    TyId) → slice_get (replicate a.1 a.0) n ≡ Some t → IsReady items t
+elements_ready items all ty a h n t is =
+    let known = some_got array_in (type_at items ty) a h in at known.0 known.1 known.2
+  where
+    same : (count n : ℕ) (x : TyId) → slice_get (replicate count x) n ≡ Some t → x ≡ t
+    same zero n x h = absurd (none-some t h)
+    same (suc count) zero x h = same_Some x t h
+    same (suc count) (suc n) x h = same count n x h
+
+    at : (u : Ty) → type_at items ty ≡ Some u → array_in u ≡ Some a → IsReady items t
+    at (Ty.Array element count) at_ h =
+        let e = same_Some (element, count) a h in
+        alone_ready items t (all.held ty t (Ty.Array element count) at_ (0, omega arith, ap (λ (x : TyId × ℕ). x.0) e ∙ same
+        a.1 n a.0 is))
+    at _ at_ h = absurd (none-some a h)
+
+-- as many names behind as before: none in between
+none_new : (earlier new_ out : List Entry) → out ≡ earlier ++ new_ → IsTrue (length earlier == length out) → new_ ≡ []
+none_new earlier new_ out is h = by new_ (eqb-true (length earlier) (length out) h ∙ (ap length is ∙ joined earlier new_))
+  where
+    joined : (xs ys : List Entry) → length (xs ++ ys) ≡ length xs + length ys
+    joined [] ys = omega arith
+    joined (x ∷ xs) ys = let on = joined xs ys in omega (arith, on)
+
+    by : (ys : List Entry) → length earlier ≡ length earlier + length ys → ys ≡ []
+    by [] e = refl
+    by (y ∷ ys) e = absurd (omega (arith, e))
+
+not_not : (b : Bool) → IsTrue (not (not b)) → IsTrue b
+not_not true h = refl
+not_not false h = h
+
+-- ---- structs and variants
+
+abbrev pub IsTarget : ItemTable → rules.Target → Type 0
+IsTarget items t =
+    ((is_enum items t.adt ≡ true) × IsTrue (nat_lt t.variant (well.variant_count items t.adt))) ⊎ ((is_enum items t.adt ≡
+    false) × (t.variant ≡ 0))
+
+-- patterns of fields after earlier names, and whether they are numbered apart
+pub record AreFieldsAfter (e : Expected) (tys : List TyId) (earlier : List Entry) (n : ℕ) (w : State) (b : Fields × List Entry
+    × Bool × Bool) : Type 0 where
+  pub holds : (place : Matched) → IsFor e place → (ty : TyId) (variant : ℕ) → ((k : ℕ) (part : TyId) → slice_get tys k ≡ Some
+      part → field_ty w.items ty variant k ≡ Some part) → Holds (well.field_patterns w.items place ty variant b.0)
+  pub distinct : IsTrue b.2 → IsTrue b.3 → IsTrue (are_distinct_numbers (field_numbers b.0))
+  pub binds : Binds earlier n (nodes_of_fields b.0) w b.1
+
+enum_later : {old new : ItemTable} → Extends old new → (adt : ℕ) → is_enum new adt ≡ is_enum old adt
+enum_later e adt =
+    ap (λ adts. option_map_or (λ (def : Adt). def.is_enum) (slice_get adts adt) false) e.adts
+
+count_later : {old new : ItemTable} → Extends old new → (adt : ℕ) → well.variant_count new adt ≡ rules.variants_of old adt
+count_later e adt = ap (λ adts. option_map_or (λ (def : Adt). length def.variants) (slice_get adts adt) 0) e.adts
+
+-- the fields that were asked for are those of the type
+target_fields : (items : ItemTable) (ty : TyId) (t : rules.Target) → type_at items ty ≡ Some (Ty.Adt t.adt) → (k : ℕ) (part :
+    TyId) → slice_get (rules.fields_of items t) k ≡ Some part → field_ty items ty t.variant k ≡ Some part
+target_fields items ty t at k part h =
+    ap (option_and_then (λ u. slice_get (parts_of items u t.variant) k)) at ∙ by (variant_at items t.adt t.variant) refl h
+  where
+    by : (o : Option Variant) → variant_at items t.adt t.variant ≡ o → slice_get (option_map_or (λ (v : Variant). v.fields) o
+        []) k ≡ Some part → slice_get (parts_of items (Ty.Adt t.adt) t.variant) k ≡ Some part
+    by None is h = absurd (none-some part h)
+    by (Some v) is h = ap (λ tys. slice_get tys k) (adt_fields items t.adt t.variant v is) ∙ h
+
+within_for : (e : Expected) (place : Matched) (drops drops_later : Bool) → drops_later ≡ drops → IsFor e place → IsFor (record e
+    { is_fixed = e.is_fixed || drops }) (well.within drops_later place)
+within_for e place drops drops_later same for =
+    (for.0, λ h. let so = or_false e.is_fixed drops h in and_true (not drops_later) place.may_move (subst (λ b. IsTrue (not b))
+    (sym same) so.1) (for.1 so.0))
+
+true_same : (b : Bool) → IsTrue (if b then b else not b)
+true_same true = refl
+true_same false = refl
+
+abbrev target_node : ℕ → Pos → TyId → rules.Target → Fields → Bool → Bool → Node
+target_node id at ty t fields is_enum_ many =
+    rules.tested_if (is_enum_ && many) (a_node_of id at ty (if is_enum_ then tree.VariantPattern t.variant (is_enum_ && many)
+    fields else tree.StructPattern fields))
+
+adt_is : (items : ItemTable) (ty : TyId) (n : ℕ) → type_at items ty ≡ Some (Ty.Adt n) → adt_of items ty ≡ Some n
+adt_is items ty n at = ap (option_and_then adt_in) at
+
+module _ (e : Expected) (ty : TyId) (earlier : List Entry) (id : ℕ) (at : Pos) (t : rules.Target) (n m : ℕ) (w : State)
+    (drops : Bool) (ps : Fields × List Entry × Bool × Bool) (tys : List TyId) where
+  struct_after : n ≤ m → type_at w.items ty ≡ Some (Ty.Adt t.adt) → is_enum w.items t.adt ≡ false → t.variant ≡ 0 →
+      has_drop_impl w.items ty ≡ drops → ((k : ℕ) (part : TyId) → slice_get tys k ≡ Some part → field_ty w.items ty t.variant
+      k ≡ Some part) → IsTrue ps.2 → IsTrue ps.3 → AreFieldsAfter (record e { is_fixed = e.is_fixed || drops }) tys earlier m
+      w ps → (many : Bool) → IsAfter e ty earlier n w (target_node id at ty t ps.0 false many, ps.1)
+  struct_after le at_ enum none drop fields two three after many =
+      record {
+        holds = λ place for.
+            same_self ty.0 ⋆ refl ⋆
+            subst (λ o. Holds (some o (λ k. fact (not (is_enum w.items k))))) (sym (adt_is w.items ty t.adt at_)) (subst (λ b.
+            IsTrue (not b)) (sym enum) refl) ⋆
+            after.distinct two three ⋆
+            after.holds (well.within (has_drop_impl w.items ty) place) (within_for e place drops (has_drop_impl w.items ty)
+            drop for) ty 0 (λ k part is. subst (λ v. field_ty w.items ty v k ≡ Some part) none (fields k part is));
+        binds = under earlier n m (nodes_of_fields ps.0) _ w ps.1 le refl refl after.binds;
+      }
+
+  variant_after : n ≤ m → type_at w.items ty ≡ Some (Ty.Adt t.adt) → is_enum w.items t.adt ≡ true → IsTrue (nat_lt t.variant
+      (well.variant_count w.items t.adt)) → has_drop_impl w.items ty ≡ drops → ((k : ℕ) (part : TyId) → slice_get tys k ≡ Some
+      part → field_ty w.items ty t.variant k ≡ Some part) → IsTrue ps.2 → IsTrue ps.3 → AreFieldsAfter (record e { is_fixed =
+      e.is_fixed || drops }) tys earlier m w ps → (many : Bool) → nat_lt 1 (well.variant_count w.items t.adt) ≡ many → IsTrue
+      (not (e.takes_all && many)) → IsAfter e ty earlier n w (target_node id at ty t ps.0 true many, ps.1)
+  variant_after le at_ enum below drop fields two three after many is_many all = by many is_many all
+    where
+      claim : (many : Bool) → nat_lt 1 (well.variant_count w.items t.adt) ≡ many → Holds (some (adt_of w.items ty) (λ k. both
+          (fact (is_enum w.items k && nat_lt t.variant (well.variant_count w.items k))) (fact (if many then nat_lt 1
+          (well.variant_count w.items k) else not (nat_lt 1 (well.variant_count w.items k))))))
+      claim many is =
+          subst (λ o. Holds (some o (λ k. both (fact (is_enum w.items k && nat_lt t.variant (well.variant_count w.items k)))
+          (fact (if many then nat_lt 1 (well.variant_count w.items k) else not (nat_lt 1 (well.variant_count w.items
+          k))))))) (sym (adt_is w.items ty t.adt at_)) (and_true _ _ enum below ⋆ subst (λ b. IsTrue (if many then b else not
+          b)) (sym is) (true_same many))
+
+      rest : (place : Matched) → IsFor e place → Holds (well.field_patterns w.items (well.within (has_drop_impl w.items ty)
+          place) ty t.variant ps.0)
+      rest place for =
+          after.holds (well.within (has_drop_impl w.items ty) place) (within_for e place drops (has_drop_impl w.items ty) drop
+          for) ty t.variant fields
+
+      by : (many : Bool) → nat_lt 1 (well.variant_count w.items t.adt) ≡ many → IsTrue (not (e.takes_all && many)) → IsAfter e
+          ty earlier n w (target_node id at ty t ps.0 true many, ps.1)
+      by true is all =
+          record {
+            holds = λ place for.
+                same_self ty.0 ⋆ not_taking (place.takes_all) (subst (λ b. IsTrue (not (b && true))) (sym for.0) all) ⋆ claim
+                true is ⋆ after.distinct two three ⋆ rest place for;
+            binds = under earlier n m (nodes_of_fields ps.0) _ w ps.1 le refl refl after.binds;
+          }
+        where
+          not_taking : (b : Bool) → IsTrue (not (b && true)) → IsTrue (is_by Use.Test (Some Use.Test) && not (true && b))
+          not_taking true h = h
+          not_taking false h = refl
+      by false is all =
+          record {
+            holds = λ place for. same_self ty.0 ⋆ refl ⋆ claim false is ⋆ after.distinct two three ⋆ rest place for;
+            binds = under earlier n m (nodes_of_fields ps.0) _ w ps.1 le refl refl after.binds;
+          }
+
+-- the check of parts that a struct or a variant asks for
+abbrev SoundFields : Expected → TyId → rules.Target → List Entry → State → (Expected → List TyId → Check (Fields × List Entry ×
+    Bool × Bool)) → Type 0
+SoundFields e ty t earlier s parts = (u : State) → Grows s u → AreReady u.items → type_at u.items ty ≡ Some (Ty.Adt t.adt) →
+    Gives u (AreFieldsAfter (rules.inside_of u.items ty e) (rules.fields_of u.items t) earlier u.next_node) (parts
+    (rules.inside_of u.items ty e) (rules.fields_of u.items t) u)
+
+of_target_sound : (at : Pos) (e : Expected) (ty : TyId) (t : rules.Target) (parts : Expected → List TyId → Check (Fields × List
+    Entry × Bool × Bool)) (earlier : List Entry) (s : State) → IsReady s.items ty → IsTarget s.items t → SoundFields e ty t
+    earlier s parts → Gives s (IsAfter e ty earlier s.next_node) (rules.of_target at e ty t parts s)
+of_target_sound at e ty t parts earlier s ready target good =
+    with_ready λ all₀. after_number (bind (interned_sound (Ty.Adt t.adt) (numbered s) (adt_made s.items all₀ t.adt)) λ self u g
+    d.
+    obeyed Rule.T03 at (is_same ty self) _ λ same.
+    with_ready λ all.
+    let at_u = subst (λ x. type_at u.items x ≡ Some (Ty.Adt t.adt)) (sym (same_id ty self same)) (d u (grows_refl u)) in
+    let to_u = grows_trans (grows_number s) g in
+    bind (good u to_u all at_u) λ ps v h f.
+    obeyed Rule.T04 at ps.2 _ λ two.
+    obeyed Rule.T12 at ps.3 _ λ three.
+    obeyed Rule.T18 at (not (e.takes_all && rules.is_test v.items t)) _ λ all_taken.
+    given _ λ ready_v w l.
+    let on = grows_trans h l in
+    let to_v = grows_trans to_u h in
+    by w ps u v (omega (arith, to_u.numbers)) (type_later on.items ty (Ty.Adt t.adt) at_u)
+    (same_drop_impl on.items ty (ready_later to_u.items ty ready))
+    (λ k part is. field_later on.items ty t.variant k part (target_fields u.items ty t at_u k part is)) two three (f w l) (is_enum
+    v.items t.adt) refl (enum_later l.items t.adt) (enum_later to_v.items t.adt) (count_later (grows_trans to_v l).items t.adt)
+    (count_later l.items t.adt) all_taken target)
+  where
+    by : (w : State) (ps : Fields × List Entry × Bool × Bool) (u v : State) → s.next_node ≤ u.next_node → type_at w.items ty ≡
+        Some (Ty.Adt t.adt) → has_drop_impl w.items ty ≡ has_drop_impl u.items ty → ((k : ℕ) (part : TyId) → slice_get
+        (rules.fields_of u.items t) k ≡ Some part → field_ty w.items ty t.variant k ≡ Some part) → IsTrue ps.2 → IsTrue ps.3 →
+        AreFieldsAfter (rules.inside_of u.items ty e) (rules.fields_of u.items t) earlier u.next_node w ps → (b : Bool) →
+        is_enum v.items t.adt ≡ b → is_enum w.items t.adt ≡ is_enum v.items t.adt → is_enum v.items t.adt ≡ is_enum s.items
+        t.adt → well.variant_count w.items t.adt ≡ rules.variants_of s.items t.adt → well.variant_count w.items t.adt ≡
+        rules.variants_of v.items t.adt → IsTrue (not (e.takes_all && (b && nat_lt 1 (rules.variants_of v.items t.adt)))) →
+        IsTarget s.items t → IsAfter e ty earlier s.next_node w (target_node s.next_node at ty t ps.0 b (nat_lt 1
+        (rules.variants_of v.items t.adt)), ps.1)
+    by w ps u v le at_ drop fields two three after true is same_w same_s count_s count_v all (inl target) =
+        variant_after e ty earlier s.next_node at t s.next_node u.next_node w (has_drop_impl u.items ty) ps (rules.fields_of
+        u.items t) le at_ (same_w ∙ is) (subst (λ c. IsTrue (nat_lt t.variant c)) (sym count_s) target.1) drop fields two three
+        after (nat_lt 1 (rules.variants_of v.items t.adt)) (ap (nat_lt 1) count_v) all
+    by w ps u v le at_ drop fields two three after false is same_w same_s count_s count_v all (inr target) =
+        struct_after e ty earlier s.next_node at t s.next_node u.next_node w (has_drop_impl u.items ty) ps (rules.fields_of
+        u.items t) le at_ (same_w ∙ is) target.1 drop fields two three after (nat_lt 1 (rules.variants_of v.items t.adt))
+    by w ps u v le at_ drop fields two three after true is same_w same_s count_s count_v all (inr target) =
+        absurd (true≢false (sym is ∙ (same_s ∙ target.0)))
+    by w ps u v le at_ drop fields two three after false is same_w same_s count_s count_v all (inl target) =
+        absurd (true≢false (sym target.0 ∙ (sym same_s ∙ is)))
