@@ -1,4 +1,5 @@
 -- What the checks of expressions give is well typed.
+pub mod AllPatterns
 pub mod Arguments
 pub mod Bindings
 pub mod Blocks

@@ -91,7 +91,7 @@ not_among n k (a_node first rest) h = by (nat_eq n k) refl (not_among n (suc k) 
     by true e on = absurd (let same = eqb-true n k e in omega (arith, h, same))
     by false e on = on
 
-distinct_from : (k : ℕ) (ns : Nodes) → IsTrue (are_distinct_numbers (field_numbers (numbered_fields k ns)))
+pub distinct_from : (k : ℕ) (ns : Nodes) → IsTrue (are_distinct_numbers (field_numbers (numbered_fields k ns)))
 distinct_from k no_node = refl
 distinct_from k (a_node first rest) =
     and_true (not (is_number_among k (field_numbers (numbered_fields (suc k) rest)))) _ (not_among k (suc k) rest (omega

@@ -147,7 +147,7 @@ pub record AreEachAfter (e : Expected) (ty : TyId) (earlier : List Entry) (n cou
   pub binds : Binds earlier n (nodes_among b.0) w b.1
   pub counted : count_of b.0 ≡ count
 
-under : (earlier : List Entry) (n m : ℕ) (inside outside : List Node) (w : State) (out : List Entry) → n ≤ m → filter_map
+pub under : (earlier : List Entry) (n m : ℕ) (inside outside : List Node) (w : State) (out : List Entry) → n ≤ m → filter_map
     binding_entry outside ≡ filter_map binding_entry inside → filter_map binding_name outside ≡ filter_map binding_name inside
     → Binds earlier m inside w out → Binds earlier n outside w out
 under earlier n m inside outside w out le entries names b =
@@ -162,7 +162,7 @@ under earlier n m inside outside w out le entries names b =
       types = c.types;
     }
 
-tuple_later : {old new : ItemTable} → Extends old new → (ty : TyId) (tys : List TyId) → IsReady old ty → rules.tuple_types old
+pub tuple_later : {old new : ItemTable} → Extends old new → (ty : TyId) (tys : List TyId) → IsReady old ty → rules.tuple_types old
     ty ≡ Some tys → well.tuple_types new ty ≡ Some tys
 tuple_later {old} {new} e ty tys ready h = by (is_unit old ty) (is_unit new ty) (same_is e _ ty ready) h
   where
@@ -172,7 +172,7 @@ tuple_later {old} {new} e ty tys ready h = by (is_unit old ty) (is_unit new ty) 
     by false c same h =
         subst (λ x. (if x then Some [] else tuple_of new ty) ≡ Some tys) (sym same) (in_later e tuple_in ty tys h)
 
-parts_ready : (items : ItemTable) → AreReady items → (ty : TyId) (tys : List TyId) → rules.tuple_types items ty ≡ Some tys → (n
+pub parts_ready : (items : ItemTable) → AreReady items → (ty : TyId) (tys : List TyId) → rules.tuple_types items ty ≡ Some tys → (n
     : ℕ) (t : TyId) → slice_get tys n ≡ Some t → IsReady items t
 parts_ready items all ty tys h n t is = by (is_unit items ty) h
   where
@@ -186,7 +186,7 @@ parts_ready items all ty tys h n t is = by (is_unit items ty) h
     by true h = absurd (none-some t (ap (λ xs. slice_get xs n) (same_Some [] tys h) ∙ is))
     by false h = let known = some_got tuple_in (type_at items ty) tys h in parts known.0 known.1 known.2
 
-elements_ready : (items : ItemTable) → AreReady items → (ty : TyId) (a : TyId × ℕ) → array_of items ty ≡ Some a → (n : ℕ) (t :
+pub elements_ready : (items : ItemTable) → AreReady items → (ty : TyId) (a : TyId × ℕ) → array_of items ty ≡ Some a → (n : ℕ) (t :
     TyId) → slice_get (replicate a.1 a.0) n ≡ Some t → IsReady items t
 elements_ready items all ty a h n t is =
     let known = some_got array_in (type_at items ty) a h in at known.0 known.1 known.2
@@ -204,7 +204,7 @@ elements_ready items all ty a h n t is =
     at _ at_ h = absurd (none-some a h)
 
 -- as many names behind as before: none in between
-none_new : (earlier new_ out : List Entry) → out ≡ earlier ++ new_ → IsTrue (length earlier == length out) → new_ ≡ []
+pub none_new : (earlier new_ out : List Entry) → out ≡ earlier ++ new_ → IsTrue (length earlier == length out) → new_ ≡ []
 none_new earlier new_ out is h = by new_ (eqb-true (length earlier) (length out) h ∙ (ap length is ∙ joined earlier new_))
   where
     joined : (xs ys : List Entry) → length (xs ++ ys) ≡ length xs + length ys
@@ -215,7 +215,7 @@ none_new earlier new_ out is h = by new_ (eqb-true (length earlier) (length out)
     by [] e = refl
     by (y ∷ ys) e = absurd (omega (arith, e))
 
-not_not : (b : Bool) → IsTrue (not (not b)) → IsTrue b
+pub not_not : (b : Bool) → IsTrue (not (not b)) → IsTrue b
 not_not true h = refl
 not_not false h = h
 
@@ -234,7 +234,7 @@ pub record AreFieldsAfter (e : Expected) (tys : List TyId) (earlier : List Entry
   pub distinct : IsTrue b.2 → IsTrue b.3 → IsTrue (are_distinct_numbers (field_numbers b.0))
   pub binds : Binds earlier n (nodes_of_fields b.0) w b.1
 
-enum_later : {old new : ItemTable} → Extends old new → (adt : ℕ) → is_enum new adt ≡ is_enum old adt
+pub enum_later : {old new : ItemTable} → Extends old new → (adt : ℕ) → is_enum new adt ≡ is_enum old adt
 enum_later e adt =
     ap (λ adts. option_map_or (λ (def : Adt). def.is_enum) (slice_get adts adt) false) e.adts
 
@@ -330,13 +330,13 @@ module _ (e : Expected) (ty : TyId) (earlier : List Entry) (id : ℕ) (at : Pos)
           }
 
 -- the check of parts that a struct or a variant asks for
-abbrev SoundFields : Expected → TyId → rules.Target → List Entry → State → (Expected → List TyId → Check (Fields × List Entry ×
+abbrev pub SoundFields : Expected → TyId → rules.Target → List Entry → State → (Expected → List TyId → Check (Fields × List Entry ×
     Bool × Bool)) → Type 0
 SoundFields e ty t earlier s parts = (u : State) → Grows s u → AreReady u.items → type_at u.items ty ≡ Some (Ty.Adt t.adt) →
     Gives u (AreFieldsAfter (rules.inside_of u.items ty e) (rules.fields_of u.items t) earlier u.next_node) (parts
     (rules.inside_of u.items ty e) (rules.fields_of u.items t) u)
 
-of_target_sound : (at : Pos) (e : Expected) (ty : TyId) (t : rules.Target) (parts : Expected → List TyId → Check (Fields × List
+pub of_target_sound : (at : Pos) (e : Expected) (ty : TyId) (t : rules.Target) (parts : Expected → List TyId → Check (Fields × List
     Entry × Bool × Bool)) (earlier : List Entry) (s : State) → IsReady s.items ty → IsTarget s.items t → SoundFields e ty t
     earlier s parts → Gives s (IsAfter e ty earlier s.next_node) (rules.of_target at e ty t parts s)
 of_target_sound at e ty t parts earlier s ready target good =
