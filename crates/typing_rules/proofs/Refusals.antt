@@ -2049,3 +2049,17 @@ t03_59 = refl
 t03_60 : outcome (codes "fn f() { let x: i32 = true; } struct S { a: i32, a: i32 } fn main() {}")
     ≡ Refused Rule.T03 (place 1 23)
 t03_60 = refl
+
+t01_34 : outcome (codes "struct S(i32); fn main() { let S::S(x) = S(1); }")
+    ≡ Refused Rule.T01 (place 1 32)
+t01_34 = refl
+
+t01_34_stands : stands (codes "struct S(i32); fn main() { let S(x) = S(1); }") ≡ true
+t01_34_stands = refl
+
+t01_35 : outcome (codes "struct S { a: i32 } fn main() { S::S { a: 1 }; }")
+    ≡ Refused Rule.T01 (place 1 33)
+t01_35 = refl
+
+t01_35_stands : stands (codes "struct S { a: i32 } fn main() { S { a: 1 }; }") ≡ true
+t01_35_stands = refl

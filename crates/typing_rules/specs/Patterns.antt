@@ -197,7 +197,8 @@ abbrev pub field_at : List Entry → Option (ℕ × TyId) → (TyId → Check Bo
 field_at earlier None typed = pure (None, earlier, None)
 field_at earlier (Some f) typed = with_number f.0 <$> typed f.1
 
-abbrev pub field_by : Variant → Word → List Entry → (TyId → Check Bound) → Check (Option (ℕ × Node) × List Entry × Option ℕ)
+abbrev pub field_by : Variant → Word → List Entry → (TyId → Check Bound) → Check (Option (ℕ × Node) × List Entry ×
+    Option ℕ)
 field_by v name earlier typed = field_at earlier (field_ty v.fields (field_named v name)) typed
 
 abbrev mutual

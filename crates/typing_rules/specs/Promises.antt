@@ -70,8 +70,10 @@ pub record AreReady (items : ItemTable) : Type 0 where
       slice_get def.methods k ≡ Some sig → IsAlone items sig.result
   pub params : (n : ℕ) (sig : Sig) (ty : TyId) → slice_get items.bodies n ≡ Some sig → Contains sig.params ty →
       IsKnown items ty
-  pub closures : (k : ℕ) (def : ClosureDef) (head : Sig) → slice_get items.closures k ≡ Some def → slice_get items.bodies
-      def.body ≡ Some head → (self : TyId) × (rest : List TyId) × (head.params ≡ self ∷ rest) × (type_at items self ≡ Some
+  pub closures : (k : ℕ) (def : ClosureDef) (head : Sig) → slice_get items.closures k ≡ Some def → slice_get
+      items.bodies
+      def.body ≡ Some head → (self : TyId) × (rest : List TyId) × (head.params ≡ self ∷ rest) × (type_at items self ≡
+      Some
       (Ty.Closure k))
   pub method_params : (n k : ℕ) (def : TraitDef) (sig : Sig) (ty : TyId) → slice_get items.traits n ≡ Some def →
       slice_get def.methods k ≡ Some sig → Contains sig.params ty → IsKnown items ty

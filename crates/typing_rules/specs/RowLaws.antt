@@ -1,21 +1,28 @@
 -- The rows of forms that keep the promise: where the checks of a node's parts give what is well typed, so does the row.
-use Rattle.std.specs.Prelude.{◌≡◌, ℕ, Bool, List, [], ◌∷◌, Option, Some, Contains}
+use Rattle.std.specs.Prelude.{◌≡◌, ℕ, Bool, true, List, [], ◌∷◌, Option, Some, Contains, None, not}
 use Rattle.mir_base.specs.declared.int_kind.IntKind.{IntKind}
 use Rattle.mir_base.specs.declared.operator.Cmp.{Cmp}
 use Rattle.mir_base.specs.declared.operator.Math.{Math}
 use Rattle.mir_base.specs.declared.place_in_text.Pos.{Pos}
 use Rattle.mir_ty.specs.declared.ty.Ty.{Ty}
 use Rattle.mir_ty.specs.declared.ty.TyId.{TyId}
-use Rattle.mir_ty.specs.ItemTable.{type_at}
+use Rattle.mir_ty.specs.ItemTable.{type_at, ItemTable}
 use Rattle.typed_tree.specs.Tree as tree
 use Rattle.typed_tree.specs.Tree.{Node, Nodes}
-use Rattle.typing_rules.specs.Check.{Check, State, interned}
+use Rattle.typing_rules.specs.Check.{Check, State, interned, ◌>>=◌}
 use Rattle.typing_rules.specs.Places.{unit, bool, never, int, variable_place, struct_field, numbered_part}
-use Rattle.typing_rules.specs.Promises.{Grows, Gives, IsKnown, Knows, IsValue, Sound, SoundTemporary, SoundBase}
-use Rattle.typing_rules.specs.RowPromises.{IsMade, IsPlace, IsArgument, SoundReferrer, SoundArgs, SoundParts, SoundElements, SoundMaybe, IsLoopOf, SoundStatements, SoundTail, SoundStatement}
-use Rattle.typing_rules.specs.Rows.{Typer, Referrer, leaf, taken, field, deref, element, not_row, negate, arithmetic, comparison, logic, store, borrow, passed_on, argument, built_in, print_form, drop_form, forget_form, new_box, tuple_row, array_row, block, if_alone, if_else, while_row, break_row, continue_row, return_row, evaluate}
-use Rattle.typing_rules.specs.Scope.{Env, Entry, Around, within_loop}
-use Rattle.typing_rules.specs.Syntax.{Word}
+use Rattle.typing_rules.specs.Promises.{Grows, Gives, IsKnown, Knows, IsValue, Sound, SoundTemporary, SoundBase, IsReady, IsTemporary, IsPattern, SoundMatcher}
+use Rattle.typing_rules.specs.RowPromises.{IsMade, IsPlace, IsArgument, SoundReferrer, SoundArgs, SoundParts, SoundElements, SoundMaybe, IsLoopOf, SoundStatements, SoundTail, SoundStatement, IsFunction, FindsMethods, IsArm, SoundArms, SoundGuard}
+use Rattle.typing_rules.specs.Rows.{Typer, Referrer, leaf, taken, field, deref, element, not_row, negate, arithmetic, comparison, logic, store, borrow, passed_on, argument, built_in, print_form, drop_form, forget_form, new_box, tuple_row, array_row, block, if_alone, if_else, while_row, break_row, continue_row, return_row, evaluate, Expected, Matcher, Method, literal, ask_form, call, make, if_let_alone, if_let_else, while_let_row, arm, match_row, method_call, closure_call}
+use Rattle.typing_rules.specs.Scope.{Env, Entry, Around, within_loop, with_variables}
+use Rattle.typing_rules.specs.Syntax.{Word, Syn}
+use Rattle.mir_ty.specs.declared.adt.Variant.{Variant}
+use Rattle.mir_ty.specs.declared.def.Sig.{Sig}
+use Rattle.well_typed.specs.Nodes.{is_drop_body}
+use Rattle.well_typed.specs.Types.{variant_at}
+use Rattle.typing_rules.specs.Named.{Makes}
+use Rattle.typing_rules.specs.Patterns.{pattern}
+use Rattle.typing_rules.specs.Typed.{makes_unit}
 
 -- a type gets one number, and all types stay what they are
 abbrev pub TypesAreKept : Type 0
@@ -25,6 +32,9 @@ TypesAreKept = (ty : Ty) (s : State) → IsMade s.items ty → Gives s (λ w id.
 pub record Leaves : Type 0 where
   pub truth : (env : Env) (at : Pos) (value : Bool) → SoundTemporary env (leaf at bool (tree.Truth value))
   pub unit_value : (env : Env) (at : Pos) → SoundTemporary env (leaf at unit tree.UnitValue)
+  pub number : (env : Env) (at : Pos) (is_negative : Bool) (value : ℕ) (suffix : Option IntKind) → SoundTemporary env
+      (literal
+      at is_negative value suffix)
   pub panic : (env : Env) (at : Pos) → SoundTemporary env (leaf at never tree.Panic)
 
 pub record Operators : Type 0 where
@@ -79,6 +89,9 @@ pub record BuiltIns : Type 0 where
   pub print : (env : Env) (at : Pos) (count : ℕ) (args : List TyId → Check Nodes) → SoundArgs env count args →
       SoundTemporary
       env (built_in at unit print_form count 1 (args (int IntKind.I32 ∷ [])))
+  pub ask : (env : Env) (at : Pos) (count : ℕ) (args : List TyId → Check Nodes) → SoundArgs env count args →
+      SoundTemporary env
+      (built_in at (int IntKind.I32) ask_form count 0 (args []))
   pub drop_value : (env : Env) (at : Pos) (count : ℕ) (args : List TyId → Check Nodes) → SoundArgs env count args →
       SoundTemporary env (built_in at unit drop_form count 1 (args []))
   pub forget : (env : Env) (at : Pos) (count : ℕ) (args : List TyId → Check Nodes) → SoundArgs env count args →
@@ -123,3 +136,63 @@ pub record Blocks : Type 0 where
   pub braces : (env : Env) (at : Pos) (check : Check (Nodes × Bool × Env)) (tail : Env → Option TyId → Check
       tree.MaybeNode) →
       SoundStatements env check → SoundTail env tail → SoundTemporary env (block at check tail)
+
+-- each pattern, of whatever form
+abbrev pub PatternsAreSound : Type 0
+PatternsAreSound = (env : Env) (p : Syn) → SoundMatcher (λ e ty. pattern env e ty p [])
+
+pub record Matches : Type 0 where
+  pub if_let : (env : Env) (at : Pos) (scrutinee : Check Node) (matcher : Matcher) (body : List Entry → Typer) →
+      SoundBase env
+      scrutinee → SoundMatcher matcher → ((xs : List Entry) → Sound (with_variables xs env) (body xs)) →
+      SoundTemporary env
+      (if_let_alone env at scrutinee matcher body)
+  pub if_let_or_else : (env : Env) (at : Pos) (scrutinee : Check Node) (matcher : Matcher) (body : List Entry → Typer)
+      (otherwise : Typer) → SoundBase env scrutinee → SoundMatcher matcher → ((xs : List Entry) → Sound
+      (with_variables xs env)
+      (body xs)) → Sound env otherwise → SoundTemporary env (if_let_else env at scrutinee matcher body otherwise)
+  pub while_let : (env : Env) (at : Pos) (label : Option Word) (scrutinee : Around → Check Node) (matcher : Matcher)
+      (body :
+      Around → List Entry → Typer) → ((a : Around) → SoundBase (within_loop a env) (scrutinee a)) → SoundMatcher
+      matcher → ((a :
+      Around) (xs : List Entry) → Sound (with_variables xs (within_loop a env)) (body a xs)) → SoundTemporary env
+      (while_let_row
+      env at label scrutinee matcher body)
+  pub arms : (env : Env) (e : Expected) (ty : TyId) (check : Check (Node × List Entry)) (guard : List Entry → Check
+      tree.MaybeNode) (body : List Entry → Typer) → ((s : State) → IsReady s.items ty → Gives s (IsPattern e ty
+      s.next_node)
+      (check s)) → SoundGuard env guard → ((xs : List Entry) → Sound (with_variables xs env) (body xs)) → (want :
+      Option TyId) (s
+      : State) → Knows env s → IsReady s.items ty → Gives s (IsArm env e ty want) (arm check guard body want s)
+  pub matches : (env : Env) (at : Pos) (scrutinee : Check Node) (arms : Expected → TyId → Option TyId → Check (Nodes ×
+      List
+      TyId)) → SoundBase env scrutinee → SoundArms env arms → SoundTemporary env (match_row env at scrutinee arms)
+
+-- functions, methods, closures and constructors that are called
+pub record Calls : Type 0 where
+  pub function : (env : Env) (at : Pos) (body : ℕ) (head : Sig) (count : ℕ) (args : List TyId → Check Nodes) →
+      SoundArgs env
+      count args → (want : Option TyId) (s : State) → Knows env s → IsFunction s body head → Gives s (IsTemporary env
+      want) (call
+      at (tree.Call body) head.result count head.params args (not (is_drop_body s.items body)) want s)
+  pub method : (env : Env) (at : Pos) (named : ItemTable → TyId → Option Method) (count : ℕ) (receiver : Check Node)
+      (args : List
+      TyId → Check Nodes) → FindsMethods named → SoundBase env receiver → SoundArgs env count args → SoundTemporary env
+      (method_call env at named count receiver args)
+  pub closure : (env : Env) (at : Pos) (count : ℕ) (callee : Check Node) (args : List TyId → Check Nodes) → ((s :
+      State) → Knows
+      env s → Gives s (IsValue env None) (callee s)) → SoundArgs env count args → SoundTemporary env (closure_call at
+      count
+      callee args)
+  pub constructor : (env : Env) (at : Pos) (adt variant : ℕ) (v : Variant) (count : ℕ) (args : List TyId → Check
+      Nodes) →
+      SoundArgs env count args → (want : Option TyId) (s : State) → variant_at s.items adt variant ≡ Some v → Knows
+      env s →
+      Gives s (IsTemporary env want) ((interned (Ty.Adt adt) >>= (λ ty. call at (make adt variant) ty count v.fields
+      args true
+      want)) s)
+  pub unit_struct : (env : Env) (at : Pos) (adt variant : ℕ) (v : Variant) (want : Option TyId) (s : State) →
+      variant_at s.items
+      adt variant ≡ Some v → v.fields ≡ [] → Knows env s → Gives s (IsTemporary env want) (makes_unit at (Makes adt
+      variant)
+      want s)

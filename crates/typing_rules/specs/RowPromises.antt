@@ -1,19 +1,21 @@
 -- What the rows of forms ask of the checks of a node's parts, and what such checks give.
 use Rattle.std.specs.Prelude.{◌≡◌, ℕ, Bool, true, not, ◌||◌, List, [], ◌∷◌, Option, Some, None, IsTrue, Contains, slice_get, nat_lt}
+use Rattle.mir_ty.specs.declared.def.Sig.{Sig}
+use Rattle.mir_ty.specs.declared.def.TraitDef.{TraitDef}
 use Rattle.mir_ty.specs.declared.ty.Ty.{Ty}
 use Rattle.mir_ty.specs.declared.ty.TyId.{TyId}
-use Rattle.mir_ty.specs.ItemTable.{ItemTable}
+use Rattle.mir_ty.specs.ItemTable.{ItemTable, type_at}
 use Rattle.mir_ty.specs.Parts.{held_by, parts_of, field_ty}
 use Rattle.typed_tree.specs.Tree.{Node, Nodes, no_node, a_node, MaybeNode, absent, present}
 use Rattle.well_typed.specs.Claim.{Claim, Holds}
-use Rattle.well_typed.specs.Nodes.{typed, statements, ends_in, arm}
+use Rattle.well_typed.specs.Nodes.{is_closure_body, is_drop_body, typed, statements, ends_in, arm}
 use Rattle.well_typed.specs.Patterns.{Matched, count_of}
 use Rattle.well_typed.specs.Places.{Context, ty_of, form_of, is_place, Wanted, Passed}
-use Rattle.well_typed.specs.Types.{is_reference, reference_of, has_fields, inside_in}
+use Rattle.well_typed.specs.Types.{reference_in, is_reference, reference_of, has_fields, inside_in}
 use Rattle.typing_rules.specs.Check.{Check, State}
 use Rattle.typing_rules.specs.Places.{bool, Member, agrees}
-use Rattle.typing_rules.specs.Promises.{IsReady, IsAlone, IsKnown, Gives, Spot, at_spot, Stands, Knows, IsValue, IsBase}
-use Rattle.typing_rules.specs.Rows.{Referrer, Expected}
+use Rattle.typing_rules.specs.Promises.{IsReady, IsAlone, IsKnown, Gives, Spot, at_spot, Stands, Knows, IsValue, IsBase, Grows}
+use Rattle.typing_rules.specs.Rows.{Method, OfAdt, OfTrait, Referrer, Expected}
 use Rattle.typing_rules.specs.Scope.{Env, Entry, Around, with_variables, in_guard}
 
 -- a place of the text
@@ -132,7 +134,8 @@ IsMember member = (items : ItemTable) (id : TyId) (f : ℕ × TyId) → member i
 
 -- an arm for a place of a type: what it asks of its place, and the type of its body
 pub record IsArm (env : Env) (e : Expected) (ty : TyId) (want : Option TyId) (w : State) (n : Node) : Type 0 where
-  pub holds : (p : Spot) → Stands env w p → (place : Matched) → place.takes_all ≡ e.takes_all → (IsTrue (not e.is_fixed) →
+  pub holds : (p : Spot) → Stands env w p → (place : Matched) → place.takes_all ≡ e.takes_all → (IsTrue (not
+      e.is_fixed) →
       IsTrue place.may_move) → Holds (arm (at_spot w.items env.answer p) place ty n)
   pub alone : IsAlone w.items (ty_of n)
   pub fit : IsTrue (agrees w.items want (ty_of n))
@@ -147,10 +150,34 @@ AreArms env e ty want w (a_node first rest) (t ∷ tys) =
 
 -- the checks of one arm or more
 abbrev pub SoundArms : Env → (Expected → TyId → Option TyId → Check (Nodes × List TyId)) → Type 0
-SoundArms env arms = (e : Expected) (ty : TyId) (want : Option TyId) (s : State) → Knows env s → IsReady s.items ty → Gives s
+SoundArms env arms = (e : Expected) (ty : TyId) (want : Option TyId) (s : State) → Knows env s → IsReady s.items ty →
+    Gives s
     (λ w ns. AreArms env e ty want w ns.0 ns.1 × IsTrue (nat_lt 0 (count_of ns.0))) (arms e ty want s)
 
 -- a condition that may be left out
 abbrev pub SoundGuard : Env → (List Entry → Check MaybeNode) → Type 0
 SoundGuard env guard = (xs : List Entry) (s : State) → Knows (with_variables (in_guard xs) env) s → Gives s (IsMaybe
     (with_variables (in_guard xs) env) (Some bool)) (guard xs s)
+
+-- a body that is called by a name: neither that of a `Drop` impl nor that of a closure
+abbrev pub IsFunction : State → ℕ → Sig → Type 0
+IsFunction s body head = (slice_get s.items.bodies body ≡ Some head) × ((w : State) → Grows s w → IsTrue (not
+    (is_closure_body w.items body)))
+
+-- what a type has of a name: a body that is called by it, or a method of a trait
+pub data IsMethodOf (s : State) (own : TyId) : Method → Type 0 where
+  of_adt : {body : ℕ} {is_drop : Bool} {head : Sig} → IsFunction s body head → is_drop ≡ is_drop_body s.items body →
+      IsMethodOf s own (OfAdt body is_drop head)
+  of_trait : {trait_no method : ℕ} {head : Sig} (def : TraitDef) → slice_get s.items.traits trait_no ≡ Some def →
+      slice_get
+      def.methods method ≡ Some head → IsMethodOf s own (OfTrait trait_no method head)
+
+-- a type that is no reference
+abbrev pub IsPlainType : ItemTable → TyId → Type 0
+IsPlainType items own = (ty : Ty) × (type_at items own ≡ Some ty) × (reference_in ty ≡ None)
+
+-- what a look-up finds is a method of its type, which is no reference
+abbrev pub FindsMethods : (ItemTable → TyId → Option Method) → Type 0
+FindsMethods named = (s : State) (own : TyId) (m : Method) → named s.items own ≡ Some m → IsMethodOf s own m ×
+    IsPlainType
+    s.items own

@@ -1,81 +1,92 @@
 -- Each pattern gives what is well typed: the recursion, one line a form.
-use Rattle.std.proofs.Common.{◌≡◌, ℕ, zero, suc, ◌≤◌, ◌+◌, ◌<◌, Bool, true, false, ◌&&◌, ◌||◌, ◌==◌, not, nat_lt, nat_le, if◌then◌else◌, List, [], ◌∷◌, ◌++◌, length, map, slice_get, replicate, Option, Some, None, IsTrue, ◌⊎◌, inl, inr, refl, ap, sym, subst, ◌∙◌, arith}
-use Rattle.std.specs.Prelude.{option_and_then, option_map, is_some, is_none, nat_eq}
-use Rattle.std.specs.List.{filter_map, list_any, position as position_of}
+use Rattle.std.proofs.Common.{◌≡◌, ℕ, suc, ◌+◌, Bool, true, false, ◌&&◌, ◌||◌, ◌==◌, not, nat_lt, if◌then◌else◌, List, [], ◌∷◌, ◌++◌, length, map, slice_get, replicate, Option, Some, None, IsTrue, inl, inr, refl, ap, sym, subst, ◌∙◌, arith}
+use Rattle.std.specs.Prelude.{option_and_then, option_map}
+use Rattle.std.specs.List.{filter_map, position as position_of}
 use Rattle.std.specs.Option.{option_map_or}
 use Rattle.std.specs.Str.{bytes_eq}
-use Rattle.std.proofs.lemmas.Bool.{eqb-true, false≢true, true≢false, lt-ltb}
+use Rattle.std.proofs.lemmas.Bool.{lt-ltb}
 use Rattle.std.proofs.lemmas.List.Quantifiers.{position-Some}
 use Rattle.std.proofs.lemmas.Option.{none-some, same_Some}
-use Rattle.mir_base.specs.declared.int_kind.IntKind.{IntKind}
 use Rattle.mir_base.specs.declared.place_in_text.Pos.{Pos}
 use Rattle.mir_base.specs.declared.rule.Rule.{Rule}
 use Rattle.mir_ty.specs.declared.adt.Adt.{Adt}
 use Rattle.mir_ty.specs.declared.adt.Variant.{Variant}
-use Rattle.mir_ty.specs.declared.ty.Ty.{Ty}
 use Rattle.mir_ty.specs.declared.ty.TyId.{TyId}
-use Rattle.mir_ty.specs.ItemTable.{ItemTable, type_at}
+use Rattle.mir_ty.specs.ItemTable.{ItemTable}
 use Rattle.mir_ty.specs.Parts.{field_ty}
 use Rattle.typed_tree.specs.Nodes.{nodes_of, nodes_among, nodes_of_fields}
-use Rattle.typed_tree.specs.Tree as tree
-use Rattle.typed_tree.specs.Tree.{Node, node, Nodes, no_node, a_node, Fields, no_field, a_field}
-use Rattle.well_typed.specs.Claim.{Claim, Holds, some, fact, both}
+use Rattle.typed_tree.specs.Tree.{Node, Nodes, no_node, a_node, Fields, a_field}
+use Rattle.well_typed.specs.Claim.{Holds, some}
 use Rattle.well_typed.specs.Names.{are_distinct, are_distinct_numbers, is_number_among}
 use Rattle.well_typed.specs.Patterns as well
 use Rattle.well_typed.specs.Patterns.{Matched, pattern, binding_name, binding_entry, field_numbers}
-use Rattle.well_typed.specs.Types.{is_enum, variant_at, adt_at, array_of, array_in}
-use Rattle.well_typed.proofs.ClaimLemmas.{and_true, true_left, true_right}
-use Rattle.typing_rules.specs.Check.{Check, State, ◌>>=◌, pure, number, breaks}
+use Rattle.well_typed.specs.Types.{is_enum, variant_at, array_of, array_in}
+use Rattle.well_typed.proofs.ClaimLemmas.{true_left}
+use Rattle.typing_rules.specs.Check.{Check, State, ◌>>=◌, pure, breaks}
 use Rattle.typing_rules.specs.Patterns as rules
-use Rattle.typing_rules.specs.Places.{a_node_of}
-use Rattle.typing_rules.specs.Promises.{Extends, IsReady, IsAlone, AreReady, Grows, Fact, Gives, are_bound, AreFresh, AreReadyTypes, IsPattern, SoundMatcher}
+use Rattle.typing_rules.specs.Promises.{Extends, IsReady, AreReady, Gives, are_bound, AreFresh, AreReadyTypes, IsPattern, SoundMatcher}
 use Rattle.typing_rules.specs.Rows.{Expected, Given, numbered_fields, are_known, all_given}
 use Rattle.typing_rules.specs.Scope.{Env, Entry, adt_named, adt_at_head, variant_named, field_named, kind_at}
 use Rattle.typing_rules.specs.Syntax.{Word, Syn, syn, Shape, AnyPattern, BindPattern, LiteralPattern, TruthPattern, PathPattern, PartsPattern, FieldsPattern, FieldPattern, ParensPattern, TuplePattern, ArrayPattern, Alternatives, Syns, no_syn, a_syn, nothing, just}
-use Rattle.typing_rules.proofs.Sound.Bindings.{Binds, binds_none, binds_from, binds_join, binds_one}
-use Rattle.typing_rules.proofs.Sound.Fitted.{or_left, or_right, same_self}
-use Rattle.typing_rules.proofs.Sound.Gives.{◌⋆◌, bind, weaker, with_ready, given, gives_nothing, obeyed, found, after_number, numbered, grows_trans, grows_refl, grows_number}
+use Rattle.typing_rules.proofs.Sound.Bindings.{Binds, binds_none, binds_join}
+use Rattle.typing_rules.proofs.Sound.Fitted.{same_self}
+use Rattle.typing_rules.proofs.Sound.Gives.{◌⋆◌, bind, weaker, with_ready, given, gives_nothing, obeyed, found, after_number, numbered, grows_trans, grows_refl}
 use Rattle.typing_rules.proofs.Sound.Later.{ready_later, alone_ready, in_later, some_got}
 use Rattle.typing_rules.proofs.Sound.Named.{adt_fields, distinct_from}
 use Rattle.typing_rules.proofs.Sound.Places.{not_true}
-use Rattle.typing_rules.proofs.Sound.Patterns.{IsFor, IsAfter, ArePartsAfter, AreEachAfter, AreFieldsAfter, IsTarget, SoundFields, under, wildcard_sound, literal_pattern_sound, truth_pattern_sound, bind_sound, tuple_later, parts_ready, elements_ready, none_new, not_not, enum_later, of_target_sound}
+use Rattle.typing_rules.proofs.Sound.Patterns.{IsFor, IsAfter, ArePartsAfter, AreEachAfter, AreFieldsAfter, IsTarget, SoundFields, under, wildcard_sound, literal_pattern_sound, truth_pattern_sound, bind_sound, tuple_later, parts_ready, elements_ready, none_new, not_not, of_target_sound}
 
 -- ---- what a path names
 
-variant_below : (items : ItemTable) (adt : ℕ) (name : Word) (k : ℕ) → variant_named items adt name ≡ Some k → IsTrue (nat_lt k
+variant_below : (items : ItemTable) (adt : ℕ) (name : Word) (k : ℕ) → variant_named items adt name ≡ Some k → IsTrue
+    (nat_lt k
     (well.variant_count items adt))
 variant_below items adt name k h = by (slice_get items.adts adt) h
   where
-    by : (o : Option Adt) → option_and_then (λ (def : Adt). position_of (λ (v : Variant). bytes_eq v.name name) def.variants) o ≡
+    by : (o : Option Adt) → option_and_then (λ (def : Adt). position_of (λ (v : Variant). bytes_eq v.name name)
+        def.variants) o ≡
         Some k → IsTrue (nat_lt k (option_map_or (λ (def : Adt). length def.variants) o 0))
     by None h = absurd (none-some k h)
     by (Some def) h =
-        lt-ltb k (length def.variants) (position-Some (λ (v : Variant). bytes_eq v.name name) def.variants k (record { name =
-        []; fields = []; field_names = [] }) h).0
+        lt-ltb k (length def.variants) (position-Some (λ (v : Variant). bytes_eq v.name name) def.variants k (record {
+          name =
+              [];
+          fields = [];
+          field_names = [];
+        }) h).0
 
-target_is : (items : ItemTable) (env : Env) (first second : Option Word) (t : rules.Target) → rules.target_of items env first
+target_is : (items : ItemTable) (env : Env) (first second : Option Word) (t : rules.Target) → rules.target_of items
+    env first
     second ≡ Some t → IsTarget items t
 target_is items env first None t h =
-    let n = some_got (λ n. if is_enum items n then None else Some (rules.target n 0)) (adt_at_head items env first) t h in
+    let n = some_got (λ n. if is_enum items n then None else Some (rules.target n 0)) (adt_at_head items env first) t
+    h in
     by n.0 (is_enum items n.0) refl n.2
   where
-    by : (n : ℕ) (b : Bool) → is_enum items n ≡ b → (if b then None else Some (rules.target n 0)) ≡ Some t → IsTarget items t
+    by : (n : ℕ) (b : Bool) → is_enum items n ≡ b → (if b then None else Some (rules.target n 0)) ≡ Some t → IsTarget
+        items t
     by n true e h = absurd (none-some t h)
     by n false e h =
         let same = same_Some (rules.target n 0) t h in
-        inr (ap (λ (u : rules.Target). is_enum items u.adt) (sym same) ∙ e, ap (λ (u : rules.Target). u.variant) (sym same))
+        inr (
+          ap (λ (u : rules.Target). is_enum items u.adt) (sym same) ∙ e,
+          ap (λ (u : rules.Target). u.variant) (sym
+              same),
+        )
 target_is items env first (Some second) t h =
     let n = some_got (λ n. if is_enum items n then option_map (rules.target n) (variant_named items n second) else None)
     (adt_at_head items env first) t h in
     by n.0 (is_enum items n.0) refl n.2
   where
-    at : (n : ℕ) → is_enum items n ≡ true → (o : Option ℕ) → variant_named items n second ≡ o → option_map (rules.target n) o ≡
+    at : (n : ℕ) → is_enum items n ≡ true → (o : Option ℕ) → variant_named items n second ≡ o → option_map
+        (rules.target n) o ≡
         Some t → IsTarget items t
     at n e None is h = absurd (none-some t h)
     at n e (Some k) is h =
         subst (IsTarget items) (same_Some (rules.target n k) t h) (inl (e, variant_below items n second k is))
 
-    by : (n : ℕ) (b : Bool) → is_enum items n ≡ b → (if b then option_map (rules.target n) (variant_named items n second) else
+    by : (n : ℕ) (b : Bool) → is_enum items n ≡ b → (if b then option_map (rules.target n) (variant_named items n
+        second) else
         None) ≡ Some t → IsTarget items t
     by n true e h = at n e (variant_named items n second) refl h
     by n false e h = absurd (none-some t h)
@@ -90,29 +101,40 @@ fields_nodes : (k : ℕ) (ns : Nodes) → nodes_of_fields (rules.fields_from k n
 fields_nodes k no_node = refl
 fields_nodes k (a_node first rest) = ap (λ xs. nodes_of first ++ xs) (fields_nodes (suc k) rest)
 
-fields_hold : (items : ItemTable) (place : Matched) (tys : List TyId) (ty : TyId) (variant k : ℕ) (ns : Nodes) → ((n : ℕ) (part
-    : TyId) → slice_get tys n ≡ Some part → field_ty items ty variant (k + n) ≡ Some part) → Holds (well.part_patterns items
+fields_hold : (items : ItemTable) (place : Matched) (tys : List TyId) (ty : TyId) (variant k : ℕ) (ns : Nodes) → ((n :
+    ℕ) (part
+    : TyId) → slice_get tys n ≡ Some part → field_ty items ty variant (k + n) ≡ Some part) → Holds (well.part_patterns
+    items
     place tys ns) → Holds (well.field_patterns items place ty variant (rules.fields_from k ns))
 fields_hold items place tys ty variant k no_node at h = refl
 fields_hold items place [] ty variant k (a_node first rest) at h = absurd (let no_ : IsTrue false = h in cc)
-fields_hold items place (t ∷ tys) ty variant k (a_node first rest) at h =
-    (
-      subst (λ o. Holds (some o (λ want. pattern items place want first))) (sym (ap (field_ty items ty variant) (omega arith) ∙
+fields_hold items place (t ∷ tys) ty variant k (a_node first rest) at h = (
+  subst (λ o. Holds (some o (λ want. pattern items place want first))) (sym (ap (field_ty items ty variant) (omega
+      arith) ∙
       at 0 t refl)) h.0,
-      fields_hold items place tys ty variant (suc k) rest (λ n part is. ap (field_ty items ty variant) (omega arith) ∙ at (suc
+  fields_hold items place tys ty variant (suc k) rest (λ n part is. ap (field_ty items ty variant) (omega arith) ∙ at
+      (suc
       n) part is) h.1,
-    )
+)
 
-parts_as_fields : (e : Expected) (tys : List TyId) (earlier : List Entry) (n : ℕ) (w : State) (b : Nodes × List Entry) (counted :
-    Bool) → ArePartsAfter e tys earlier n w b → AreFieldsAfter e tys earlier n w (rules.fields_from 0 b.0, b.1, counted, true)
+parts_as_fields : (e : Expected) (tys : List TyId) (earlier : List Entry) (n : ℕ) (w : State) (b : Nodes × List Entry)
+    (counted :
+    Bool) → ArePartsAfter e tys earlier n w b → AreFieldsAfter e tys earlier n w (
+      rules.fields_from 0 b.0,
+      b.1,
+      counted,
+      true,
+    )
 parts_as_fields e tys earlier n w b counted are =
     record {
       holds = λ place for ty variant at.
-          fields_hold w.items place tys ty variant 0 b.0 (λ k part is. ap (field_ty w.items ty variant) (omega arith) ∙ at k
+          fields_hold w.items place tys ty variant 0 b.0 (λ k part is. ap (field_ty w.items ty variant) (omega arith)
+          ∙ at k
           part is) (are.holds place for);
       distinct = λ two three. subst (λ fs. IsTrue (are_distinct_numbers (field_numbers fs))) (sym (same_fields 0 b.0))
           (distinct_from 0 b.0);
-      binds = under earlier n n (nodes_among b.0) _ w b.1 (omega arith) (ap (filter_map binding_entry) (fields_nodes 0 b.0)) (ap
+      binds = under earlier n n (nodes_among b.0) _ w b.1 (omega arith) (ap (filter_map binding_entry) (fields_nodes 0
+          b.0)) (ap
           (filter_map binding_name) (fields_nodes 0 b.0)) are.binds;
     }
 
@@ -144,9 +166,11 @@ once_same (None ∷ given) = once_same given
 once_same (Some n ∷ given) = λ i. not (again_same n given i) && once_same given i
 
 -- patterns of fields of a variant, after earlier names
-record AreNamedAfter (e : Expected) (tys : List TyId) (earlier : List Entry) (n : ℕ) (w : State) (b : Fields × List Entry ×
+record AreNamedAfter (e : Expected) (tys : List TyId) (earlier : List Entry) (n : ℕ) (w : State) (b : Fields × List
+    Entry ×
     Given) : Type 0 where
-  holds : (place : Matched) → IsFor e place → (ty : TyId) (variant : ℕ) → ((k : ℕ) (part : TyId) → slice_get tys k ≡ Some part →
+  holds : (place : Matched) → IsFor e place → (ty : TyId) (variant : ℕ) → ((k : ℕ) (part : TyId) → slice_get tys k ≡
+      Some part →
       field_ty w.items ty variant k ≡ Some part) → Holds (well.field_patterns w.items place ty variant b.0)
   numbers : field_numbers b.0 ≡ somes b.2
   binds : Binds earlier n (nodes_of_fields b.0) w b.1
@@ -160,10 +184,13 @@ number_in None = None
 number_in (Some f) = Some f.0
 
 -- one field, or none of that name
-record IsFieldAfter (e : Expected) (tys : List TyId) (earlier : List Entry) (n : ℕ) (w : State) (b : Option (ℕ × Node) × List
+record IsFieldAfter (e : Expected) (tys : List TyId) (earlier : List Entry) (n : ℕ) (w : State) (b : Option (ℕ × Node)
+    × List
     Entry × Option ℕ) : Type 0 where
-  holds : (place : Matched) → IsFor e place → (ty : TyId) (variant : ℕ) → ((k : ℕ) (part : TyId) → slice_get tys k ≡ Some part →
-      field_ty w.items ty variant k ≡ Some part) → (rest : Fields) → Holds (well.field_patterns w.items place ty variant rest) →
+  holds : (place : Matched) → IsFor e place → (ty : TyId) (variant : ℕ) → ((k : ℕ) (part : TyId) → slice_get tys k ≡
+      Some part →
+      field_ty w.items ty variant k ≡ Some part) → (rest : Fields) → Holds (well.field_patterns w.items place ty
+      variant rest) →
       Holds (well.field_patterns w.items place ty variant (rules.with_field b.0 rest))
   numbers : number_in b.0 ≡ b.2
   binds : Binds earlier n (nodes_in_field b.0) w b.1
@@ -173,13 +200,16 @@ with_nodes : (f : Option (ℕ × Node)) (rest : Fields) → nodes_of_fields (rul
 with_nodes None rest = refl
 with_nodes (Some f) rest = refl
 
-with_numbers : (f : Option (ℕ × Node)) (k : Option ℕ) (rest : Fields) (given : Given) → number_in f ≡ k → field_numbers rest ≡
+with_numbers : (f : Option (ℕ × Node)) (k : Option ℕ) (rest : Fields) (given : Given) → number_in f ≡ k →
+    field_numbers rest ≡
     somes given → field_numbers (rules.with_field f rest) ≡ somes (k ∷ given)
 with_numbers None k rest given is e = e ∙ ap (λ o. somes (o ∷ given)) is
 with_numbers (Some f) k rest given is e = ap (λ ns. f.0 ∷ ns) e ∙ ap (λ o. somes (o ∷ given)) is
 
-field_by_sound : (e : Expected) (v : Variant) (name : Word) (earlier : List Entry) (typed : TyId → Check (Node × List Entry)) (s :
-    State) → ((k : ℕ) (t : TyId) → slice_get v.fields k ≡ Some t → Gives s (IsAfter e t earlier s.next_node) (typed t s)) →
+field_by_sound : (e : Expected) (v : Variant) (name : Word) (earlier : List Entry) (typed : TyId → Check (Node × List
+    Entry)) (s :
+    State) → ((k : ℕ) (t : TyId) → slice_get v.fields k ≡ Some t → Gives s (IsAfter e t earlier s.next_node) (typed t
+    s)) →
     Gives s (IsFieldAfter e v.fields earlier s.next_node) (rules.field_by v name earlier typed s)
 field_by_sound e v name earlier typed s good = by (rules.field_ty v.fields (field_named v name)) refl
   where
@@ -188,14 +218,16 @@ field_by_sound e v name earlier typed s good = by (rules.field_ty v.fields (fiel
         let k = some_got (λ k. option_map (λ (ty : TyId). (k, ty)) (slice_get v.fields k)) (field_named v name) f h in
         at k.0 (slice_get v.fields k.0) refl k.2
       where
-        at : (k : ℕ) (o : Option TyId) → slice_get v.fields k ≡ o → option_map (λ (ty : TyId). (k, ty)) o ≡ Some f → slice_get
+        at : (k : ℕ) (o : Option TyId) → slice_get v.fields k ≡ o → option_map (λ (ty : TyId). (k, ty)) o ≡ Some f →
+            slice_get
             v.fields f.0 ≡ Some f.1
         at k None is h = absurd (none-some f h)
         at k (Some ty) is h =
             let same = same_Some (k, ty) f h in
             ap (λ (x : ℕ × TyId). slice_get v.fields x.0) (sym same) ∙ (is ∙ ap (λ (x : ℕ × TyId). Some x.1) same)
 
-    by : (o : Option (ℕ × TyId)) → rules.field_ty v.fields (field_named v name) ≡ o → Gives s (IsFieldAfter e v.fields earlier
+    by : (o : Option (ℕ × TyId)) → rules.field_ty v.fields (field_named v name) ≡ o → Gives s (IsFieldAfter e v.fields
+        earlier
         s.next_node) (rules.field_at earlier o typed s)
     by None is =
         given _ λ ready w l.
@@ -207,28 +239,36 @@ field_by_sound e v name earlier typed s good = by (rules.field_ty v.fields (fiel
     by (Some f) is =
         bind (good f.0 f.1 (got f is)) λ b t g d. given _ λ ready w l.
         record {
-          holds = λ place for ty variant at rest h.
-              (subst (λ o. Holds (some o (λ want. pattern w.items place want b.0))) (sym (at f.0 f.1 (got f is))) ((d w l).holds
-              place for), h);
+          holds = λ place for ty variant at rest h. (
+            subst (λ o. Holds (some o (λ want. pattern w.items place want b.0))) (sym (at f.0 f.1 (got f is))) ((d w
+                l).holds
+                place for),
+            h,
+          );
           numbers = refl;
           binds = (d w l).binds;
         }
 
-fields_ready : (items : ItemTable) → AreReady items → (t : rules.Target) (k : ℕ) (part : TyId) → slice_get (rules.fields_of items
+fields_ready : (items : ItemTable) → AreReady items → (t : rules.Target) (k : ℕ) (part : TyId) → slice_get
+    (rules.fields_of items
     t) k ≡ Some part → IsReady items part
 fields_ready items all t k part h = by (variant_at items t.adt t.variant) refl h
   where
-    by : (o : Option Variant) → variant_at items t.adt t.variant ≡ o → slice_get (option_map_or (λ (v : Variant). v.fields) o
+    by : (o : Option Variant) → variant_at items t.adt t.variant ≡ o → slice_get (option_map_or (λ (v : Variant).
+        v.fields) o
         []) k ≡ Some part → IsReady items part
     by None is h = absurd (none-some part h)
     by (Some v) is h =
-        alone_ready items part (all.fields t.adt t.variant k part (ap (λ tys. slice_get tys k) (adt_fields items t.adt t.variant
+        alone_ready items part (all.fields t.adt t.variant k part (ap (λ tys. slice_get tys k) (adt_fields items t.adt
+        t.variant
         v is) ∙ h))
 
-variant_fields : {old new : ItemTable} → Extends old new → (t : rules.Target) → (option_map_or (λ (v : Variant). v) (variant_at
+variant_fields : {old new : ItemTable} → Extends old new → (t : rules.Target) → (option_map_or (λ (v : Variant). v)
+    (variant_at
     old t.adt t.variant) rules.no_variant).fields ≡ rules.fields_of new t
 variant_fields {old} {new} e t =
-    same (variant_at old t.adt t.variant) ∙ ap (λ adts. option_map_or (λ (v : Variant). v.fields) (option_and_then (λ (def :
+    same (variant_at old t.adt t.variant) ∙ ap (λ adts. option_map_or (λ (v : Variant). v.fields) (option_and_then (λ
+    (def :
     Adt). slice_get def.variants t.variant) (slice_get adts t.adt)) []) (sym e.adts)
   where
     same : (o : Option Variant) → (option_map_or (λ (v : Variant). v) o rules.no_variant).fields ≡ option_map_or (λ (v :
@@ -236,92 +276,141 @@ variant_fields {old} {new} e t =
     same None = refl
     same (Some v) = refl
 
-named_as_fields : (e : Expected) (tys others : List TyId) (earlier : List Entry) (n : ℕ) (w : State) (b : Fields × List Entry ×
-    Given) (more known : Bool) → tys ≡ others → AreNamedAfter e tys earlier n w b → AreFieldsAfter e others earlier n w (b.0,
-    b.1, rules.are_given_once b.2 && more, known)
+named_as_fields : (e : Expected) (tys others : List TyId) (earlier : List Entry) (n : ℕ) (w : State) (b : Fields ×
+    List Entry ×
+    Given) (more known : Bool) → tys ≡ others → AreNamedAfter e tys earlier n w b → AreFieldsAfter e others earlier n
+    w (
+      b.0,
+      b.1,
+      rules.are_given_once b.2 && more,
+      known,
+    )
 named_as_fields e tys others earlier n w b more known same are =
     record {
-      holds = λ place for ty variant at. are.holds place for ty variant (λ k part is. at k part (ap (λ xs. slice_get xs k) (sym
+      holds = λ place for ty variant at. are.holds place for ty variant (λ k part is. at k part (ap (λ xs. slice_get
+          xs k) (sym
           same) ∙ is));
-      distinct = λ two three. subst (λ ns. IsTrue (are_distinct_numbers ns)) (sym are.numbers) (subst IsTrue (once_same b.2)
+      distinct = λ two three. subst (λ ns. IsTrue (are_distinct_numbers ns)) (sym are.numbers) (subst IsTrue
+          (once_same b.2)
           (true_left (rules.are_given_once b.2) more two));
       binds = are.binds;
     }
 
-lone_sound : (env : Env) (at : Pos) (e : Expected) (ty : TyId) (adt : ℕ) (earlier : List Entry) (s : State) → IsReady s.items ty
-    → is_enum s.items adt ≡ false → Gives s (IsAfter e ty earlier s.next_node) (rules.lone_struct env at e ty adt earlier s)
+lone_sound : (env : Env) (at : Pos) (e : Expected) (ty : TyId) (adt : ℕ) (earlier : List Entry) (s : State) → IsReady
+    s.items ty
+    → is_enum s.items adt ≡ false → Gives s (IsAfter e ty earlier s.next_node) (rules.lone_struct env at e ty adt
+    earlier s)
 lone_sound env at e ty adt earlier s ready no_enum = by (rules.is_unit_kind (kind_at env.kinds adt 0))
   where
-    by : (b : Bool) → Gives s (IsAfter e ty earlier s.next_node) ((if b then rules.of_target at e ty (rules.target adt 0)
+    by : (b : Bool) → Gives s (IsAfter e ty earlier s.next_node) ((if b then rules.of_target at e ty (rules.target adt
+        0)
         (rules.no_parts earlier true) else breaks Rule.T18 at) s)
     by true =
         of_target_sound at e ty (rules.target adt 0) (rules.no_parts earlier true) earlier s ready (inr (no_enum, refl))
         (no_parts_sound e ty (rules.target adt 0) earlier s true)
     by false = gives_nothing Rule.T18 at
 
-lone_name_sound : (env : Env) (at : Pos) (e : Expected) (ty : TyId) (name : Word) (earlier : List Entry) (s : State) → IsReady
+lone_name_sound : (env : Env) (at : Pos) (e : Expected) (ty : TyId) (name : Word) (earlier : List Entry) (s : State) →
+    IsReady
     s.items ty → Gives s (IsAfter e ty earlier s.next_node) (rules.lone_name env at e ty name earlier s)
 lone_name_sound env at e ty name earlier s ready = by (adt_named s.items name)
   where
-    if_enum : (adt : ℕ) (b : Bool) → is_enum s.items adt ≡ b → Gives s (IsAfter e ty earlier s.next_node) ((if b then rules.bind
+    if_enum : (adt : ℕ) (b : Bool) → is_enum s.items adt ≡ b → Gives s (IsAfter e ty earlier s.next_node) ((if b then
+        rules.bind
         at e ty name earlier else rules.lone_struct env at e ty adt earlier) s)
     if_enum adt true is = bind_sound at e ty name earlier s ready
     if_enum adt false is = lone_sound env at e ty adt earlier s ready is
 
-    by : (o : Option ℕ) → Gives s (IsAfter e ty earlier s.next_node) (rules.lone_by env at e ty name earlier o s.items s)
+    by : (o : Option ℕ) → Gives s (IsAfter e ty earlier s.next_node) (rules.lone_by env at e ty name earlier o s.items
+        s)
     by None = bind_sound at e ty name earlier s ready
     by (Some adt) = if_enum adt (is_enum s.items adt) refl
 
-path_sound : (env : Env) (at : Pos) (e : Expected) (ty : TyId) (first second : Option Word) (earlier : List Entry) (s : State) →
-    IsReady s.items ty → Gives s (IsAfter e ty earlier s.next_node) (rules.path_alone env at e ty first second earlier s)
+path_sound : (env : Env) (at : Pos) (e : Expected) (ty : TyId) (first second : Option Word) (earlier : List Entry) (s
+    : State) →
+    IsReady s.items ty → Gives s (IsAfter e ty earlier s.next_node) (rules.path_alone env at e ty first second earlier
+    s)
 path_sound env at e ty first None earlier s ready =
     found Rule.T01 at env.self_adt _ λ adt is.
     obeyed Rule.T01 at (not (is_enum s.items adt)) _ λ no_enum.
     lone_sound env at e ty adt earlier s ready (not_true (is_enum s.items adt) no_enum)
 path_sound env at e ty first (Some second) earlier s ready =
     found Rule.T01 at (rules.target_of s.items env first (Some second)) _ λ t is.
-    of_target_sound at e ty t (rules.no_parts earlier (rules.is_unit_kind (kind_at env.kinds t.adt t.variant))) earlier s ready
-    (target_is s.items env first (Some second) t is) (no_parts_sound e ty t earlier s (rules.is_unit_kind (kind_at env.kinds
+    of_target_sound at e ty t (rules.no_parts earlier (rules.is_unit_kind (kind_at env.kinds t.adt t.variant)))
+    earlier s ready
+    (target_is s.items env first (Some second) t is) (no_parts_sound e ty t earlier s (rules.is_unit_kind (kind_at
+    env.kinds
     t.adt t.variant)))
 
 -- a struct or a variant by the order of its parts, and by the names of its fields
-in_order_sound : (at : Pos) (e : Expected) (ty : TyId) (t : rules.Target) (earlier : List Entry) (s : State) (counted : List TyId →
-    Bool) (check : Expected → List TyId → Check (Nodes × List Entry)) → IsReady s.items ty → IsTarget s.items t → ((inside :
-    Expected) (tys : List TyId) (u : State) → ((n : ℕ) (x : TyId) → slice_get tys n ≡ Some x → IsReady u.items x) → Gives u
+in_order_sound : (at : Pos) (e : Expected) (ty : TyId) (t : rules.Target) (earlier : List Entry) (s : State) (counted
+    : List TyId →
+    Bool) (check : Expected → List TyId → Check (Nodes × List Entry)) → IsReady s.items ty → IsTarget s.items t →
+    ((inside :
+    Expected) (tys : List TyId) (u : State) → ((n : ℕ) (x : TyId) → slice_get tys n ≡ Some x → IsReady u.items x) →
+    Gives u
     (ArePartsAfter inside tys earlier u.next_node) (check inside tys u)) → Gives s (IsAfter e ty earlier s.next_node)
-    (rules.of_target at e ty t (λ inside tys. check inside tys >>= (λ ps. pure (rules.fields_from 0 ps.0, ps.1, counted tys,
-    true))) s)
+    (rules.of_target at e ty t (λ inside tys. check inside tys >>= (λ ps. pure (
+      rules.fields_from 0 ps.0,
+      ps.1,
+      counted tys,
+      true,
+    ))) s)
 in_order_sound at e ty t earlier s counted check ready target good =
-    of_target_sound at e ty t (λ inside tys. check inside tys >>= (λ ps. pure (rules.fields_from 0 ps.0, ps.1, counted tys,
-    true))) earlier s ready target λ u g all at_.
-    bind (good (rules.inside_of u.items ty e) (rules.fields_of u.items t) u (fields_ready u.items all t)) λ b v h d. given _ λ
-    all_v w l. parts_as_fields (rules.inside_of u.items ty e) (rules.fields_of u.items t) earlier u.next_node w b (counted
+    of_target_sound at e ty t (λ inside tys. check inside tys >>= (λ ps. pure (
+      rules.fields_from 0 ps.0,
+      ps.1,
+      counted tys,
+      true,
+    ))) earlier s ready target λ u g all at_.
+    bind (good (rules.inside_of u.items ty e) (rules.fields_of u.items t) u (fields_ready u.items all t)) λ b v h d.
+    given _ λ
+    all_v w l. parts_as_fields (rules.inside_of u.items ty e) (rules.fields_of u.items t) earlier u.next_node w b
+    (counted
     (rules.fields_of u.items t)) (d w l)
 
-by_name_sound : (at : Pos) (e : Expected) (ty : TyId) (t : rules.Target) (earlier : List Entry) (s : State) (more : List TyId →
-    Given → Bool) (check : Expected → Check (Fields × List Entry × Given)) → IsReady s.items ty → IsTarget s.items t → ((inside :
-    Expected) (u : State) → ((k : ℕ) (x : TyId) → slice_get (option_map_or (λ (v : Variant). v) (variant_at s.items t.adt
-    t.variant) rules.no_variant).fields k ≡ Some x → IsReady u.items x) → Gives u (AreNamedAfter inside (option_map_or (λ (v :
-    Variant). v) (variant_at s.items t.adt t.variant) rules.no_variant).fields earlier u.next_node) (check inside u)) → Gives s
-    (IsAfter e ty earlier s.next_node) (rules.of_target at e ty t (λ inside tys. check inside >>= (λ ps. pure (ps.0, ps.1,
-    rules.are_given_once ps.2 && more tys ps.2, are_known ps.2))) s)
+by_name_sound : (at : Pos) (e : Expected) (ty : TyId) (t : rules.Target) (earlier : List Entry) (s : State) (more :
+    List TyId →
+    Given → Bool) (check : Expected → Check (Fields × List Entry × Given)) → IsReady s.items ty → IsTarget s.items t →
+    ((inside :
+    Expected) (u : State) → ((k : ℕ) (x : TyId) → slice_get (option_map_or (λ (v : Variant). v) (variant_at s.items
+    t.adt
+    t.variant) rules.no_variant).fields k ≡ Some x → IsReady u.items x) → Gives u (AreNamedAfter inside (option_map_or
+    (λ (v :
+    Variant). v) (variant_at s.items t.adt t.variant) rules.no_variant).fields earlier u.next_node) (check inside u))
+    → Gives s
+    (IsAfter e ty earlier s.next_node) (rules.of_target at e ty t (λ inside tys. check inside >>= (λ ps. pure (
+      ps.0,
+      ps.1,
+      rules.are_given_once ps.2 && more tys ps.2,
+      are_known ps.2,
+    ))) s)
 by_name_sound at e ty t earlier s more check ready target good =
-    of_target_sound at e ty t (λ inside tys. check inside >>= (λ ps. pure (ps.0, ps.1, rules.are_given_once ps.2 && more tys
-    ps.2, are_known ps.2))) earlier s ready target λ u g all at_.
-    bind (good (rules.inside_of u.items ty e) u (λ k part h. fields_ready u.items all t k part (ap (λ xs. slice_get xs k) (sym
+    of_target_sound at e ty t (λ inside tys. check inside >>= (λ ps. pure (
+      ps.0,
+      ps.1,
+      rules.are_given_once ps.2 && more tys
+          ps.2,
+      are_known ps.2,
+    ))) earlier s ready target λ u g all at_.
+    bind (good (rules.inside_of u.items ty e) u (λ k part h. fields_ready u.items all t k part (ap (λ xs. slice_get xs
+    k) (sym
     (variant_fields g.items t)) ∙ h))) λ b v h d. given _ λ all_v w l.
-    named_as_fields (rules.inside_of u.items ty e) (option_map_or (λ (x : Variant). x) (variant_at s.items t.adt t.variant)
+    named_as_fields (rules.inside_of u.items ty e) (option_map_or (λ (x : Variant). x) (variant_at s.items t.adt
+    t.variant)
     rules.no_variant).fields (rules.fields_of u.items t) earlier u.next_node w b (more (rules.fields_of u.items t) b.2)
     (are_known b.2) (variant_fields g.items t) (d w l)
 
 -- ---- the recursion
 
 mutual
-  pub pattern_sound : (env : Env) (e : Expected) (ty : TyId) (p : Syn) (earlier : List Entry) (s : State) → IsReady s.items ty →
+  pub pattern_sound : (env : Env) (e : Expected) (ty : TyId) (p : Syn) (earlier : List Entry) (s : State) → IsReady
+      s.items ty →
       Gives s (IsAfter e ty earlier s.next_node) (rules.pattern env e ty p earlier s)
   pattern_sound env e ty (syn at form) earlier s ready = form_sound env e ty at form earlier s ready
 
-  form_sound : (env : Env) (e : Expected) (ty : TyId) (at : Pos) (form : Shape) (earlier : List Entry) (s : State) → IsReady
+  form_sound : (env : Env) (e : Expected) (ty : TyId) (at : Pos) (form : Shape) (earlier : List Entry) (s : State) →
+      IsReady
       s.items ty → Gives s (IsAfter e ty earlier s.next_node) (rules.pattern_form env e ty at form earlier s)
   form_sound env e ty at AnyPattern earlier s = λ ready. wildcard_sound at e ty earlier s
   form_sound env e ty at (BindPattern name) earlier s = λ ready. lone_name_sound env at e ty name earlier s ready
@@ -329,18 +418,24 @@ mutual
       bind (literal_pattern_sound at e ty is_negative value suffix earlier s) λ n t g d. given _ λ all w l. d w l
   form_sound env e ty at (TruthPattern value) earlier s = λ ready.
       bind (truth_pattern_sound at e ty value earlier s) λ n t g d. given _ λ all w l. d w l
-  form_sound env e ty at (PathPattern first second) earlier s = λ ready. path_sound env at e ty first second earlier s ready
+  form_sound env e ty at (PathPattern first second) earlier s = λ ready. path_sound env at e ty first second earlier s
+      ready
   form_sound env e ty at (PartsPattern first second parts dots) earlier s = λ ready.
       found Rule.T01 at (rules.target_of s.items env first second) _ λ t is.
       in_order_sound at e ty t earlier s (λ tys. rules.is_count dots (rules.count_of parts) (length tys) && not
-      (rules.has_named_parts env t && not (rules.count_of parts == 0))) (λ inside tys. rules.part_patterns env inside tys parts
-      earlier) ready (target_is s.items env first second t is) (λ inside tys u types. parts_sound env inside tys parts earlier u
+      (rules.has_named_parts env t && not (rules.count_of parts == 0))) (λ inside tys. rules.part_patterns env inside
+      tys parts
+      earlier) ready (target_is s.items env first second t is) (λ inside tys u types. parts_sound env inside tys parts
+      earlier u
       types)
   form_sound env e ty at (FieldsPattern first second fields dots) earlier s = λ ready.
       found Rule.T01 at (rules.target_of s.items env first second) _ λ t is.
-      by_name_sound at e ty t earlier s (λ tys given_. dots || all_given (length tys) given_) (λ inside. rules.field_patterns env
-      inside (option_map_or (λ (v : Variant). v) (variant_at s.items t.adt t.variant) rules.no_variant) fields earlier) ready
-      (target_is s.items env first second t is) (λ inside u types. fields_sound env inside (option_map_or (λ (v : Variant). v)
+      by_name_sound at e ty t earlier s (λ tys given_. dots || all_given (length tys) given_) (λ inside.
+      rules.field_patterns env
+      inside (option_map_or (λ (v : Variant). v) (variant_at s.items t.adt t.variant) rules.no_variant) fields
+      earlier) ready
+      (target_is s.items env first second t is) (λ inside u types. fields_sound env inside (option_map_or (λ (v :
+      Variant). v)
       (variant_at s.items t.adt t.variant) rules.no_variant) fields earlier u types)
   form_sound env e ty at (ParensPattern inside) earlier s = λ ready. pattern_sound env e ty inside earlier s ready
   form_sound env e ty at (TuplePattern parts dots) earlier s = λ ready.
@@ -352,18 +447,22 @@ mutual
         holds = λ place for.
             same_self ty.0 ⋆ refl ⋆ subst (λ o. Holds (some o (λ ts. well.part_patterns w.items place ts b.0))) (sym
             (tuple_later (grows_trans g l).items ty tys ready is)) ((d w l).holds place for);
-        binds = under earlier s.next_node (suc s.next_node) (nodes_among b.0) _ w b.1 (omega arith) refl refl (d w l).binds;
+        binds = under earlier s.next_node (suc s.next_node) (nodes_among b.0) _ w b.1 (omega arith) refl refl (d w
+            l).binds;
       })
   form_sound env e ty at (ArrayPattern elements dots) earlier s = λ ready.
       with_ready λ all. after_number (found Rule.T03 at (array_of s.items ty) _ λ a is.
-      bind (parts_sound env e (replicate a.1 a.0) elements earlier (numbered s) (elements_ready s.items all ty a is)) λ b t g d.
+      bind (parts_sound env e (replicate a.1 a.0) elements earlier (numbered s) (elements_ready s.items all ty a is))
+      λ b t g d.
       obeyed Rule.T04 at (rules.is_count dots (rules.count_of elements) a.1) _ λ counted.
       given _ λ ready_t w l.
       record {
         holds = λ place for.
-            same_self ty.0 ⋆ refl ⋆ subst (λ o. Holds (some o (λ (x : TyId × ℕ). well.part_patterns w.items place (replicate x.1
+            same_self ty.0 ⋆ refl ⋆ subst (λ o. Holds (some o (λ (x : TyId × ℕ). well.part_patterns w.items place
+            (replicate x.1
             x.0) b.0))) (sym (in_later (grows_trans g l).items array_in ty a is)) ((d w l).holds place for);
-        binds = under earlier s.next_node (suc s.next_node) (nodes_among b.0) _ w b.1 (omega arith) refl refl (d w l).binds;
+        binds = under earlier s.next_node (suc s.next_node) (nodes_among b.0) _ w b.1 (omega arith) refl refl (d w
+            l).binds;
       })
   form_sound env e ty at (Alternatives patterns) earlier s = λ ready.
       after_number (obeyed Rule.T20 at (nat_lt 1 (rules.count_of patterns)) _ λ many.
@@ -374,73 +473,104 @@ mutual
       let none = none_new earlier is.binds.new_ b.1 is.binds.is (not_not _ no_names) in
       record {
         holds = λ place for.
-            same_self ty.0 ⋆ subst (λ ns. IsTrue (well.has_no_names ns)) (sym (is.binds.names ∙ ap (λ (xs : List Entry). map (λ
-            (x : Entry). x.name) xs) none)) refl ⋆ subst (λ n. IsTrue (nat_lt 1 n)) (sym is.counted) many ⋆ is.holds place for;
+            same_self ty.0 ⋆ subst (λ ns. IsTrue (well.has_no_names ns)) (sym (is.binds.names ∙ ap (λ (xs : List
+            Entry). map (λ
+            (x : Entry). x.name) xs) none)) refl ⋆ subst (λ n. IsTrue (nat_lt 1 n)) (sym is.counted) many ⋆ is.holds
+            place for;
         binds = under earlier s.next_node (suc s.next_node) (nodes_among b.0) _ w b.1 (omega arith) refl refl is.binds;
       })
   form_sound env e ty at _ earlier s = λ ready. gives_nothing Rule.T20 at
 
-  parts_sound : (env : Env) (e : Expected) (tys : List TyId) (parts : Syns) (earlier : List Entry) (s : State) → ((n : ℕ) (t :
+  parts_sound : (env : Env) (e : Expected) (tys : List TyId) (parts : Syns) (earlier : List Entry) (s : State) → ((n :
+      ℕ) (t :
       TyId) → slice_get tys n ≡ Some t → IsReady s.items t) → Gives s (ArePartsAfter e tys earlier s.next_node)
       (rules.part_patterns env e tys parts earlier s)
   parts_sound env e tys no_syn earlier s ready =
-      given _ λ all w l. record { holds = λ place for. refl; binds = binds_none earlier s.next_node [] w l.numbers refl refl }
+      given _ λ all w l. record {
+        holds = λ place for. refl;
+        binds = binds_none earlier s.next_node [] w l.numbers
+            refl refl;
+      }
   parts_sound env e [] (a_syn first rest) earlier s ready =
-      given _ λ all w l. record { holds = λ place for. refl; binds = binds_none earlier s.next_node [] w l.numbers refl refl }
+      given _ λ all w l. record {
+        holds = λ place for. refl;
+        binds = binds_none earlier s.next_node [] w l.numbers
+            refl refl;
+      }
   parts_sound env e (ty ∷ tys) (a_syn first rest) earlier s ready =
       bind (pattern_sound env e ty first earlier s (ready 0 ty refl)) λ p t g d.
       bind (parts_sound env e tys rest p.1 t (λ n u is. ready_later g.items u (ready (suc n) u is))) λ ps u h f.
       given _ λ all w l.
       record {
         holds = λ place for. ((d w (grows_trans h l)).holds place for, (f w l).holds place for);
-        binds = binds_join earlier p.1 ps.1 s.next_node (nodes_of p.0) (nodes_among ps.0) t w (d t (grows_refl t)).binds (d w
+        binds = binds_join earlier p.1 ps.1 s.next_node (nodes_of p.0) (nodes_among ps.0) t w (d t (grows_refl
+            t)).binds (d w
             (grows_trans h l)).binds (f w l).binds;
       }
 
-  each_sound : (env : Env) (e : Expected) (ty : TyId) (patterns : Syns) (earlier : List Entry) (s : State) → IsReady s.items ty →
-      Gives s (AreEachAfter e ty earlier s.next_node (rules.count_of patterns)) (rules.each_pattern env e ty patterns earlier s)
+  each_sound : (env : Env) (e : Expected) (ty : TyId) (patterns : Syns) (earlier : List Entry) (s : State) → IsReady
+      s.items ty →
+      Gives s (AreEachAfter e ty earlier s.next_node (rules.count_of patterns)) (rules.each_pattern env e ty patterns
+      earlier s)
   each_sound env e ty no_syn earlier s ready =
-      given _ λ all w l. record { holds = λ place for. refl; binds = binds_none earlier s.next_node [] w l.numbers refl refl;
-      counted = refl }
+      given _ λ all w l. record {
+        holds = λ place for. refl;
+        binds = binds_none earlier s.next_node [] w l.numbers refl refl;
+        counted = refl;
+      }
   each_sound env e ty (a_syn first rest) earlier s ready =
       bind (pattern_sound env e ty first earlier s ready) λ p t g d.
       bind (each_sound env e ty rest p.1 t (ready_later g.items ty ready)) λ ps u h f.
       given _ λ all w l.
       record {
         holds = λ place for. ((d w (grows_trans h l)).holds place for, (f w l).holds place for);
-        binds = binds_join earlier p.1 ps.1 s.next_node (nodes_of p.0) (nodes_among ps.0) t w (d t (grows_refl t)).binds (d w
+        binds = binds_join earlier p.1 ps.1 s.next_node (nodes_of p.0) (nodes_among ps.0) t w (d t (grows_refl
+            t)).binds (d w
             (grows_trans h l)).binds (f w l).binds;
         counted = ap suc (f w l).counted;
       }
 
-  fields_sound : (env : Env) (e : Expected) (v : Variant) (fields : Syns) (earlier : List Entry) (s : State) → ((k : ℕ) (t :
-      TyId) → slice_get v.fields k ≡ Some t → IsReady s.items t) → Gives s (AreNamedAfter e v.fields earlier s.next_node)
+  fields_sound : (env : Env) (e : Expected) (v : Variant) (fields : Syns) (earlier : List Entry) (s : State) → ((k :
+      ℕ) (t :
+      TyId) → slice_get v.fields k ≡ Some t → IsReady s.items t) → Gives s (AreNamedAfter e v.fields earlier
+      s.next_node)
       (rules.field_patterns env e v fields earlier s)
   fields_sound env e v no_syn earlier s ready =
-      given _ λ all w l. record { holds = λ place for ty variant at. refl; numbers = refl; binds = binds_none earlier s.next_node []
-      w l.numbers refl refl }
+      given _ λ all w l. record {
+        holds = λ place for ty variant at. refl;
+        numbers = refl;
+        binds = binds_none earlier s.next_node []
+            w l.numbers refl refl;
+      }
   fields_sound env e v (a_syn first rest) earlier s ready =
       bind (field_sound env e v first earlier s ready) λ p t g d.
       bind (fields_sound env e v rest p.1 t (λ k u is. ready_later g.items u (ready k u is))) λ ps u h f.
       given _ λ all w l.
       let dw = d w (grows_trans h l) in
       record {
-        holds = λ place for ty variant at. dw.holds place for ty variant at ps.0 ((f w l).holds place for ty variant at);
+        holds = λ place for ty variant at. dw.holds place for ty variant at ps.0 ((f w l).holds place for ty variant
+            at);
         numbers = with_numbers p.0 p.2 ps.0 ps.2 dw.numbers (f w l).numbers;
-        binds = under earlier s.next_node s.next_node (nodes_in_field p.0 ++ nodes_of_fields ps.0) _ w ps.1 (omega arith) (ap
-            (filter_map binding_entry) (with_nodes p.0 ps.0)) (ap (filter_map binding_name) (with_nodes p.0 ps.0)) (binds_join
-            earlier p.1 ps.1 s.next_node (nodes_in_field p.0) (nodes_of_fields ps.0) t w (d t (grows_refl t)).binds dw.binds (f w
+        binds = under earlier s.next_node s.next_node (nodes_in_field p.0 ++ nodes_of_fields ps.0) _ w ps.1 (omega
+            arith) (ap
+            (filter_map binding_entry) (with_nodes p.0 ps.0)) (ap (filter_map binding_name) (with_nodes p.0 ps.0))
+            (binds_join
+            earlier p.1 ps.1 s.next_node (nodes_in_field p.0) (nodes_of_fields ps.0) t w (d t (grows_refl t)).binds
+            dw.binds (f w
             l).binds);
       }
 
-  field_sound : (env : Env) (e : Expected) (v : Variant) (field : Syn) (earlier : List Entry) (s : State) → ((k : ℕ) (t : TyId)
+  field_sound : (env : Env) (e : Expected) (v : Variant) (field : Syn) (earlier : List Entry) (s : State) → ((k : ℕ)
+      (t : TyId)
       → slice_get v.fields k ≡ Some t → IsReady s.items t) → Gives s (IsFieldAfter e v.fields earlier s.next_node)
       (rules.field_pattern env e v field earlier s)
   field_sound env e v (syn at (FieldPattern name nothing)) earlier s = λ ready.
-      field_by_sound e v name earlier (λ ty. rules.bind at e ty name earlier) s (λ k t is. bind_sound at e t name earlier s (ready
+      field_by_sound e v name earlier (λ ty. rules.bind at e ty name earlier) s (λ k t is. bind_sound at e t name
+      earlier s (ready
       k t is))
   field_sound env e v (syn at (FieldPattern name (just inside))) earlier s = λ ready.
-      field_by_sound e v name earlier (λ ty. rules.pattern env e ty inside earlier) s (λ k t is. pattern_sound env e t inside
+      field_by_sound e v name earlier (λ ty. rules.pattern env e ty inside earlier) s (λ k t is. pattern_sound env e t
+      inside
       earlier s (ready k t is))
   field_sound env e v (syn at _) earlier s = λ ready. gives_nothing Rule.T20 at
 
@@ -451,7 +581,8 @@ matcher_sound env p e ty s ready =
     let same : b.1 ≡ is.binds.new_ = is.binds.is in
     record {
       holds = λ place takes moves. is.holds place (takes, moves);
-      names = subst (λ ns. IsTrue (are_distinct ns)) (sym (is.binds.names ∙ ap (λ (xs : List Entry). map (λ (x : Entry). x.name)
+      names = subst (λ ns. IsTrue (are_distinct ns)) (sym (is.binds.names ∙ ap (λ (xs : List Entry). map (λ (x :
+          Entry). x.name)
           xs) (sym same))) (is.binds.distinct refl);
       entries = is.binds.entries ∙ ap (are_bound false) (sym same);
       fresh = subst (λ xs. AreFresh s.next_node xs w.next_node) (sym same) is.binds.fresh;

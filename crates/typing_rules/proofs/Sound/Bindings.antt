@@ -1,7 +1,7 @@
 -- The names that patterns bind, as they are threaded through the parts of a pattern.
-use Rattle.std.proofs.Common.{◌≡◌, ℕ, zero, suc, ◌≤◌, Bool, true, false, ◌&&◌, ◌||◌, not, if◌then◌else◌, List, [], ◌∷◌, ◌++◌, map, Option, Some, None, IsTrue, refl, ap, sym, subst, ◌∙◌, arith}
+use Rattle.std.proofs.Common.{◌≡◌, ℕ, suc, ◌≤◌, Bool, true, false, ◌||◌, not, if◌then◌else◌, List, [], ◌∷◌, ◌++◌, map, Some, IsTrue, refl, ap, sym, subst, ◌∙◌, arith}
 use Rattle.std.specs.Prelude.{is_some}
-use Rattle.std.specs.List.{list_any, filter_map, find}
+use Rattle.std.specs.List.{list_any, filter_map}
 use Rattle.std.specs.Str.{bytes_eq}
 use Rattle.std.proofs.lemmas.List.{append_assoc, map-append}
 use Rattle.std.proofs.lemmas.List.Elements.{filter_map-append}
@@ -9,10 +9,9 @@ use Rattle.mir_ty.specs.ItemTable.{ItemTable}
 use Rattle.typed_tree.specs.Tree.{Node}
 use Rattle.well_typed.specs.Names.{are_distinct, is_among}
 use Rattle.well_typed.specs.Patterns.{binding_name, binding_entry}
-use Rattle.well_typed.specs.Places.{InScope}
 use Rattle.well_typed.proofs.ClaimLemmas.{and_true, true_left, true_right}
 use Rattle.typing_rules.specs.Check.{State}
-use Rattle.typing_rules.specs.Promises.{IsReady, Grows, in_scope, key_of, are_bound, AreFresh, AreReadyTypes}
+use Rattle.typing_rules.specs.Promises.{IsReady, in_scope, key_of, are_bound, AreFresh, AreReadyTypes}
 use Rattle.typing_rules.specs.Scope.{Entry, Local, variable}
 
 abbrev pub words : List Entry → List (List ℕ)
@@ -54,14 +53,16 @@ fresh_join : (n m k : ℕ) (xs ys : List Entry) → AreFresh n xs m → AreFresh
 fresh_join n m k [] ys h g = fresh_from n m k ys h g
 fresh_join n m k (x ∷ xs) ys h g = (h.0, h.1, fresh_join (suc (key_of x.meaning)) m k xs ys h.2 g)
 
-types_join : (items : ItemTable) (xs ys : List Entry) → AreReadyTypes items xs → AreReadyTypes items ys → AreReadyTypes items
+types_join : (items : ItemTable) (xs ys : List Entry) → AreReadyTypes items xs → AreReadyTypes items ys →
+    AreReadyTypes items
     (xs ++ ys)
 types_join items [] ys h g = g
 types_join items (x ∷ xs) ys h g = (h.0, types_join items xs ys h.1 g)
 
 -- ---- rules
 
-pub binds_none : (earlier : List Entry) (n : ℕ) (nodes : List Node) (w : State) → n ≤ w.next_node → filter_map binding_entry
+pub binds_none : (earlier : List Entry) (n : ℕ) (nodes : List Node) (w : State) → n ≤ w.next_node → filter_map
+    binding_entry
     nodes ≡ [] → filter_map binding_name nodes ≡ [] → Binds earlier n nodes w earlier
 binds_none earlier n nodes w le entries names =
     record {
@@ -74,7 +75,8 @@ binds_none earlier n nodes w le entries names =
       types = tt;
     }
 
-pub binds_from : (earlier : List Entry) (n m : ℕ) (nodes : List Node) (w : State) (out : List Entry) → n ≤ m → Binds earlier m
+pub binds_from : (earlier : List Entry) (n m : ℕ) (nodes : List Node) (w : State) (out : List Entry) → n ≤ m → Binds
+    earlier m
     nodes w out → Binds earlier n nodes w out
 binds_from earlier n m nodes w out le b =
     record {
@@ -88,25 +90,31 @@ binds_from earlier n m nodes w out le b =
     }
 
 -- the names of some nodes, and then those of others
-pub binds_join : (earlier middle out : List Entry) (n : ℕ) (first rest : List Node) (t w : State) → Binds earlier n first t
-    middle → Binds earlier n first w middle → Binds middle t.next_node rest w out → Binds earlier n (first ++ rest) w out
+pub binds_join : (earlier middle out : List Entry) (n : ℕ) (first rest : List Node) (t w : State) → Binds earlier n
+    first t
+    middle → Binds earlier n first w middle → Binds middle t.next_node rest w out → Binds earlier n (first ++ rest) w
+    out
 binds_join earlier middle out n first rest t w now later next =
     record {
       new_ = later.new_ ++ next.new_;
       is = next.is ∙ (ap (λ xs. xs ++ next.new_) later.is ∙ append_assoc earlier later.new_ next.new_);
-      entries = filter_map-append binding_entry first rest ∙ ((λ i. later.entries i ++ next.entries i) ∙ sym (bound_join false
+      entries = filter_map-append binding_entry first rest ∙ ((λ i. later.entries i ++ next.entries i) ∙ sym
+          (bound_join false
           later.new_ next.new_));
-      names = filter_map-append binding_name first rest ∙ ((λ i. later.names i ++ next.names i) ∙ sym (map-append (λ (x :
+      names = filter_map-append binding_name first rest ∙ ((λ i. later.names i ++ next.names i) ∙ sym (map-append (λ
+          (x :
           Entry). x.name) later.new_ next.new_));
       distinct = λ h. next.distinct (later.distinct h);
-      fresh = fresh_join n t.next_node w.next_node later.new_ next.new_ (subst (λ xs. AreFresh n xs t.next_node) (append_same
+      fresh = fresh_join n t.next_node w.next_node later.new_ next.new_ (subst (λ xs. AreFresh n xs t.next_node)
+          (append_same
           earlier now.new_ later.new_ (sym now.is ∙ later.is)) now.fresh) next.fresh;
       types = types_join w.items later.new_ next.new_ later.types next.types;
     }
 
 -- ---- one more name
 
-no_any : {A : Type 0} (p : A → Bool) (xs : List A) (x : A) → IsTrue (not (list_any p xs)) → IsTrue (not (p x)) → IsTrue (not
+no_any : {A : Type 0} (p : A → Bool) (xs : List A) (x : A) → IsTrue (not (list_any p xs)) → IsTrue (not (p x)) →
+    IsTrue (not
     (list_any p (xs ++ x ∷ [])))
 no_any p [] x h g = by (p x) g
   where
@@ -115,12 +123,14 @@ no_any p [] x h g = by (p x) g
     by false g = refl
 no_any p (y ∷ ys) x h g = by (p y) h (λ k. no_any p ys x k g)
   where
-    by : (b : Bool) → IsTrue (not (b || list_any p ys)) → (IsTrue (not (list_any p ys)) → IsTrue (not (list_any p (ys ++ x ∷
+    by : (b : Bool) → IsTrue (not (b || list_any p ys)) → (IsTrue (not (list_any p ys)) → IsTrue (not (list_any p (ys
+        ++ x ∷
         [])))) → IsTrue (not (b || list_any p (ys ++ x ∷ [])))
     by true h on = absurd (let no_ : IsTrue false = h in cc)
     by false h on = on h
 
-distinct_more : (xs : List Entry) (x : Entry) → IsTrue (are_distinct (words xs)) → IsTrue (not (is_some (variable xs x.name)))
+distinct_more : (xs : List Entry) (x : Entry) → IsTrue (are_distinct (words xs)) → IsTrue (not (is_some (variable xs
+    x.name)))
     → IsTrue (are_distinct (words xs ++ x.name ∷ []))
 distinct_more [] x h g = refl
 distinct_more (y ∷ ys) x h g =
@@ -131,12 +141,16 @@ distinct_more (y ∷ ys) x h g =
         (are_distinct (words (y ∷ ys) ++ x.name ∷ []))
     by on true e g = absurd (let no_ : IsTrue false = g in cc)
     by on false e g =
-        and_true _ _ (no_any (bytes_eq y.name) (words ys) x.name (true_left (not (is_among y.name (words ys))) _ h) (subst (λ
+        and_true _ _ (no_any (bytes_eq y.name) (words ys) x.name (true_left (not (is_among y.name (words ys))) _ h)
+        (subst (λ
         b. IsTrue (not b)) (sym e) refl)) (on g)
 
-pub binds_one : (earlier : List Entry) (n : ℕ) (nodes : List Node) (w : State) (x : Entry) (key : ℕ) → x.meaning ≡ Local key →
-    n ≤ key → suc key ≤ w.next_node → IsReady w.items x.ty → filter_map binding_entry nodes ≡ in_scope key x.ty false ∷ [] →
-    filter_map binding_name nodes ≡ x.name ∷ [] → IsTrue (not (is_some (variable earlier x.name))) → Binds earlier n nodes w
+pub binds_one : (earlier : List Entry) (n : ℕ) (nodes : List Node) (w : State) (x : Entry) (key : ℕ) → x.meaning ≡
+    Local key →
+    n ≤ key → suc key ≤ w.next_node → IsReady w.items x.ty → filter_map binding_entry nodes ≡ in_scope key x.ty false
+    ∷ [] →
+    filter_map binding_name nodes ≡ x.name ∷ [] → IsTrue (not (is_some (variable earlier x.name))) → Binds earlier n
+    nodes w
     (earlier ++ x ∷ [])
 binds_one earlier n nodes w x key is le below ready entries names new_name =
     record {

@@ -3,7 +3,7 @@ use Rattle.std.proofs.Common.{◌≡◌, ℕ, zero, suc, Bool, true, false, ◌&
 use Rattle.std.specs.Prelude.{option_and_then, is_some, is_none, drop}
 use Rattle.std.specs.List.{list_any}
 use Rattle.std.specs.Option.{option_map_or}
-use Rattle.std.proofs.lemmas.Bool.{eqb-true, false≢true, true≢false}
+use Rattle.std.proofs.lemmas.Bool.{eqb-true, true≢false}
 use Rattle.std.proofs.lemmas.Option.{none-some, same_Some}
 use Rattle.mir_base.specs.declared.place_in_text.Pos.{Pos}
 use Rattle.mir_base.specs.declared.rule.Rule.{Rule}
@@ -21,30 +21,23 @@ use Rattle.well_typed.specs.Nodes.{typed, row, arguments, first_and_rest, is_clo
 use Rattle.well_typed.specs.Places as well
 use Rattle.well_typed.specs.Places.{Context, ty_of, form_of, is_place, is_borrow, Taken, Base, Passed}
 use Rattle.well_typed.specs.Types.{closure_of, closure_in, fits, is_same, is_reference, reference_of, reference_in, is_dyn}
-use Rattle.well_typed.proofs.ClaimLemmas.{and_true, true_left, true_right}
-use Rattle.typing_rules.specs.Check.{Check, State, Broken, and_then, breaks, ◌>>◌, the_items, pure}
-use Rattle.typing_rules.specs.Places.{a_node_of, is_behind_shared, is_fixed, in_own_guard, place_in_text, Member}
-use Rattle.typing_rules.specs.Promises.{Extends, IsReady, IsAlone, IsKnown, AreReady, Grows, Fact, Gives, Spot, at_spot, Stands, Knows, IsValue, IsTemporary, IsBase, Sound, SoundBase, SoundTemporary}
-use Rattle.typing_rules.specs.RowPromises.{IsPlace, IsArgument, AreGiven, SoundArgs}
-use Rattle.typing_rules.specs.Rows.{Typer, Method, OfAdt, OfTrait, head_of, is_drop_method, method_form, received, received_by, taking, taken, is_unique_borrow, with_self, with_method, takes_self, method_call, with_closure, closure_call}
+use Rattle.well_typed.proofs.ClaimLemmas.{and_true}
+use Rattle.typing_rules.specs.Check.{Check, State, Broken, and_then, breaks, ◌>>◌, pure}
+use Rattle.typing_rules.specs.Places.{a_node_of, is_behind_shared, is_fixed, in_own_guard, place_in_text}
+use Rattle.typing_rules.specs.Promises.{IsAlone, IsKnown, AreReady, Grows, Fact, Gives, Spot, at_spot, Stands, Knows, IsValue, IsTemporary, IsBase, SoundBase, SoundTemporary}
+use Rattle.typing_rules.specs.RowPromises.{IsArgument, AreGiven, SoundArgs, FindsMethods, IsMethodOf, of_adt, of_trait}
+use Rattle.typing_rules.specs.Rows.{Method, OfAdt, OfTrait, head_of, is_drop_method, method_form, received, received_by, taking, taken, is_unique_borrow, with_self, with_method, takes_self, method_call, with_closure, closure_call}
 use Rattle.typing_rules.specs.Scope.{Env}
 use Rattle.typing_rules.proofs.Sound.Arguments.{passed_value, used_ty, behind_later}
 use Rattle.typing_rules.proofs.Sound.Calls.{arguments_hold}
-use Rattle.typing_rules.proofs.Sound.Fitted.{Is, IsPlain, fitted_gives, passed_ends, or_left, or_right, same_self, fits_self}
-use Rattle.typing_rules.proofs.Sound.Gives.{◌⋆◌, bind, weaker, with_ready, given, gives_nothing, obeyed, found, after_number, numbered, grows_trans, grows_refl, grows_number, knows_later, knows_number}
-use Rattle.typing_rules.proofs.Sound.Later.{type_later, alone_later, known_later, same_known, same_reference, alone_no_reference, some_got}
-use Rattle.typing_rules.proofs.Sound.Named.{IsFunction, drop_later}
+use Rattle.typing_rules.proofs.Sound.Fitted.{IsPlain, fitted_gives, passed_ends, or_left, or_right, same_self, fits_self}
+use Rattle.typing_rules.proofs.Sound.Gives.{◌⋆◌, bind, weaker, with_ready, given, obeyed, after_number, numbered, grows_trans, grows_refl, grows_number, knows_later, knows_number}
+use Rattle.typing_rules.proofs.Sound.Later.{type_later, alone_later, known_later, same_known, alone_no_reference, some_got}
+use Rattle.typing_rules.proofs.Sound.Named.{drop_later}
 use Rattle.typing_rules.proofs.Sound.Operators.{same_id, or_cases}
 use Rattle.typing_rules.proofs.Sound.Parts.{IsFound, through_sound}
-use Rattle.typing_rules.proofs.Sound.Places.{taken_value, truth_of, not_true, if_holds, else_holds}
+use Rattle.typing_rules.proofs.Sound.Places.{taken_value, truth_of, not_true}
 use Rattle.typing_rules.proofs.Sound.References.{borrowed_if}
-
--- what a type has of a name: a body that is called by it, or a method of a trait
-pub data IsMethodOf (s : State) (own : TyId) : Method → Type 0 where
-  of_adt : {body : ℕ} {is_drop : Bool} {head : Sig} → IsFunction s body head → is_drop ≡ is_drop_body s.items body →
-      IsMethodOf s own (OfAdt body is_drop head)
-  of_trait : {trait_no method : ℕ} {head : Sig} (def : TraitDef) → slice_get s.items.traits trait_no ≡ Some def → slice_get
-      def.methods method ≡ Some head → IsMethodOf s own (OfTrait trait_no method head)
 
 -- ---- receivers
 
@@ -52,7 +45,8 @@ not_place : (c : Context) (n : Node) → is_place (form_of n) ≡ false → Hold
 not_place c (node id at ty by form) is h = (so (is_place form) is h.0, h.1)
   where
     place_taken : Claim
-    place_taken = both (fact (well.is_by (well.taking c.items ty) by)) (both (fact (well.may_take c (is_copy c.items ty) ty
+    place_taken = both (fact (well.is_by (well.taking c.items ty) by)) (both (fact (well.may_take c (is_copy c.items
+        ty) ty
         form)) (fact (not (is_reference c.items ty))))
 
     so : (b : Bool) → b ≡ false → IsTrue (is_none by && not (is_borrow form)) → Holds (if b then place_taken else fact
@@ -62,14 +56,17 @@ not_place c (node id at ty by form) is h = (so (is_place form) is h.0, h.1)
 
 -- a receiver by value, and by reference once it is known not to be behind `&`
 abbrev pub IsReceiver : Env → TyId → State → Node → Fact Node
-IsReceiver env self s base w n = IsTrue (not (is_unique_borrow (form_of n) && is_behind_shared s.items base)) → IsArgument env
+IsReceiver env self s base w n = IsTrue (not (is_unique_borrow (form_of n) && is_behind_shared s.items base)) →
+    IsArgument env
     self w n
 
 abbrev SelfCase : TyId → TyId → Option (Bool × TyId) → Type 0
 SelfCase self own o = ((o ≡ None) × IsTrue (is_same self own)) ⊎ ((unique : Bool) × (o ≡ Some (unique, own)))
 
-self_cases : (items : ItemTable) (self own : TyId) → IsTrue (not (is_reference items own)) → (o : Option (Bool × TyId)) →
-    reference_of items self ≡ o → IsTrue (is_same self own || option_map_or (λ (r : Bool × TyId). is_same r.1 own) o false) →
+self_cases : (items : ItemTable) (self own : TyId) → IsTrue (not (is_reference items own)) → (o : Option (Bool ×
+    TyId)) →
+    reference_of items self ≡ o → IsTrue (is_same self own || option_map_or (λ (r : Bool × TyId). is_same r.1 own) o
+    false) →
     SelfCase self own o
 self_cases items self own plain None e h = by (or_cases (is_same self own) false h)
   where
@@ -87,14 +84,19 @@ self_cases items self own plain (Some r) e h = by (or_cases (is_same self own) (
 fits_same : (items : ItemTable) (a b : TyId) → IsTrue (is_same a b) → IsTrue (fits items a b)
 fits_same items a b h = or_left (is_same b a) _ (subst (λ x. IsTrue (is_same x a)) (same_id a b h) (same_self a.0))
 
-received_sound : (env : Env) (at : Pos) (base : Node) (self : TyId) (s : State) → ((w : State) → Grows s w → IsBase env w
-    base) → IsTrue (not (is_reference s.items (ty_of base))) → IsKnown s.items self → IsTrue (is_same self (ty_of base) ||
-    option_map_or (λ (r : Bool × TyId). is_same r.1 (ty_of base)) (reference_of s.items self) false) → Gives s (IsReceiver
+received_sound : (env : Env) (at : Pos) (base : Node) (self : TyId) (s : State) → ((w : State) → Grows s w → IsBase
+    env w
+    base) → IsTrue (not (is_reference s.items (ty_of base))) → IsKnown s.items self → IsTrue (is_same self (ty_of
+    base) ||
+    option_map_or (λ (r : Bool × TyId). is_same r.1 (ty_of base)) (reference_of s.items self) false) → Gives s
+    (IsReceiver
     env self s base) (received env at base self s)
 received_sound env at base self s is plain known takes =
-    by (reference_of s.items self) refl (self_cases s.items self (ty_of base) plain (reference_of s.items self) refl takes)
+    by (reference_of s.items self) refl (self_cases s.items self (ty_of base) plain (reference_of s.items self) refl
+    takes)
   where
-    value : (w : State) → Grows s w → (n : Node) → ((p : Spot) → Stands env w p → Holds (typed (at_spot w.items env.answer
+    value : (w : State) → Grows s w → (n : Node) → ((p : Spot) → Stands env w p → Holds (typed (at_spot w.items
+        env.answer
         p) Taken n)) → IsTrue (fits w.items self (ty_of n)) → reference_of s.items self ≡ None → IsArgument env self w n
     value w g n holds fit_ none =
         record {
@@ -102,13 +104,15 @@ received_sound env at base self s is plain known takes =
               is_some (same_known g.items reference_in self known ∙ none))) refl) (holds p stands) fit_;
         }
 
-    by : (o : Option (Bool × TyId)) → reference_of s.items self ≡ o → SelfCase self (ty_of base) o → Gives s (IsReceiver env self s base) (received_by env at base o
+    by : (o : Option (Bool × TyId)) → reference_of s.items self ≡ o → SelfCase self (ty_of base) o → Gives s
+        (IsReceiver env self s base) (received_by env at base o
         s)
     by None e (inr some_) = absurd (none-some _ some_.1)
     by (Some r) e (inl none) = absurd (none-some r (sym none.0))
     by None e (inl same) = either (is_place (form_of base)) refl
       where
-        either : (b : Bool) → is_place (form_of base) ≡ b → Gives s (IsReceiver env self s base) ((if b then taken env None
+        either : (b : Bool) → is_place (form_of base) ≡ b → Gives s (IsReceiver env self s base) ((if b then taken env
+            None
             base else pure base) s)
         either true place =
             with_ready λ all.
@@ -118,7 +122,8 @@ received_sound env at base self s is plain known takes =
             given _ λ ready w g h.
             let v = taken_value env s w base all g (record { base = is s (grows_refl s); is = place }) (is w g) moves
             no_reference in
-            value w g _ v.holds (subst (λ t. IsTrue (fits w.items self t)) (sym (used_ty (taking s.items (ty_of base)) base))
+            value w g _ v.holds (subst (λ t. IsTrue (fits w.items self t)) (sym (used_ty (taking s.items (ty_of base))
+            base))
             (fits_same w.items self (ty_of base) same.1)) e
         either false place =
             given base λ ready w g h.
@@ -126,14 +131,16 @@ received_sound env at base self s is plain known takes =
             (fits_same w.items self (ty_of base) same.1) e
     by (Some r) e (inr some_) =
         let same = same_Some r (some_.0, ty_of base) some_.1 in
-        after_number (weaker (IsReceiver env self s base) (borrowed_if env s.next_node at self r.0 base (numbered s) (λ w g. is
+        after_number (weaker (IsReceiver env self s base) (borrowed_if env s.next_node at self r.0 base (numbered s)
+        (λ w g. is
         w (grows_trans (grows_number s) g)) plain (e ∙ λ i. Some (r.0, (same i).1)))
         λ n w ready g h may. h.1 (subst (λ b. IsTrue (not (b && is_behind_shared s.items base))) h.0 may))
 
 -- ---- methods
 
 -- the arguments behind a receiver
-pub receiver_hold : (c : Context) (self : TyId) (params : List TyId) (receiver : Node) (args : Nodes) → Holds (typed c (Passed
+pub receiver_hold : (c : Context) (self : TyId) (params : List TyId) (receiver : Node) (args : Nodes) → Holds (typed c
+    (Passed
     self) receiver) → Holds (arguments c params args) → Holds (first_and_rest (λ t. typed c (Passed t) receiver) (λ ts.
     arguments c ts args) (self ∷ params))
 receiver_hold c self params receiver args first rest = (first, rest)
@@ -151,7 +158,8 @@ method_plain : (env : Env) (w : State) (ty : TyId) (m : Method) (receiver : Node
 method_plain env w ty (OfAdt body is_drop head) receiver args p = refl
 method_plain env w ty (OfTrait trait_no method head) receiver args p = refl
 
-method_alone : (s : State) → AreReady s.items → (own : TyId) (m : Method) → IsMethodOf s own m → IsAlone s.items (head_of
+method_alone : (s : State) → AreReady s.items → (own : TyId) (m : Method) → IsMethodOf s own m → IsAlone s.items
+    (head_of
     m).result
 method_alone s all own _ (of_adt {body} {is_drop} {head} is drop_is) = all.results body head is.0
 method_alone s all own _ (of_trait {trait_no} {method} {head} def at is) = all.methods trait_no method def head at is
@@ -162,37 +170,48 @@ method_known s all own _ (of_adt {body} {is_drop} {head} is drop_is) ty has = al
 method_known s all own _ (of_trait {trait_no} {method} {head} def at is) ty has =
     all.method_params trait_no method def head ty at is has
 
-method_row : (s w : State) (c : Context) → c.items ≡ w.items → Grows s w → (own : TyId) (m : Method) → IsMethodOf s own m →
+method_row : (s w : State) (c : Context) → c.items ≡ w.items → Grows s w → (own : TyId) (m : Method) → IsMethodOf s
+    own m →
     IsTrue (not (is_drop_method m)) → (id : ℕ) (receiver : Node) (args : Nodes) → Holds (first_and_rest (λ t. typed c
-    (Passed t) receiver) (λ ts. arguments c ts args) (head_of m).params) → Holds (row c id (head_of m).result (method_form m
+    (Passed t) receiver) (λ ts. arguments c ts args) (head_of m).params) → Holds (row c id (head_of m).result
+    (method_form m
     receiver args))
 method_row s w c same g own _ (of_adt {body} {is_drop} {head} is drop_is) no_drop id receiver args h =
     subst (λ o. Holds (some o (λ (sig : Sig). both (fact (is_same head.result sig.result)) (first_and_rest (λ t. typed c
-    (Passed t) receiver) (λ ts. arguments c ts args) sig.params)))) (sym (ap (λ (items : ItemTable). slice_get items.bodies
+    (Passed t) receiver) (λ ts. arguments c ts args) sig.params)))) (sym (ap (λ (items : ItemTable). slice_get
+    items.bodies
     body) same ∙ (ap (λ bodies. slice_get bodies body) g.items.bodies ∙ is.0))) (same_self head.result.0 ⋆ h) ⋆
     subst (λ (items : ItemTable). IsTrue (not (is_drop_body items body) && not (is_closure_body items body))) (sym same)
     (and_true (not (is_drop_body w.items body)) _ (subst (λ b. IsTrue (not b)) (drop_is ∙ sym (drop_later g.items body))
     no_drop) (is.1 w g))
 method_row s w c same g own _ (of_trait {trait_no} {method} {head} def at is) no_drop id receiver args h =
     subst (λ o. Holds (some o (λ (d : TraitDef). some (slice_get d.methods method) (λ (sig : Sig). both (fact (is_same
-    head.result sig.result)) (first_and_rest (λ t. typed c (Passed t) receiver) (λ ts. arguments c ts args) sig.params)))))
+    head.result sig.result)) (first_and_rest (λ t. typed c (Passed t) receiver) (λ ts. arguments c ts args)
+    sig.params)))))
     (sym (ap (λ (items : ItemTable). slice_get items.traits trait_no) same ∙ (ap (λ traits. slice_get traits trait_no)
     g.items.traits ∙ at)))
-    (subst (λ o. Holds (some o (λ (sig : Sig). both (fact (is_same head.result sig.result)) (first_and_rest (λ t. typed c
+    (subst (λ o. Holds (some o (λ (sig : Sig). both (fact (is_same head.result sig.result)) (first_and_rest (λ t.
+    typed c
     (Passed t) receiver) (λ ts. arguments c ts args) sig.params)))) (sym is) (same_self head.result.0 ⋆ h))
 
-with_self_sound : (env : Env) (at : Pos) (id : ℕ) (base : Node) (m : Method) (count : ℕ) (args : List TyId → Check Nodes)
-    (want : Option TyId) (params : List TyId) (s : State) → Knows env s → ((w : State) → Grows s w → IsBase env w base) →
-    IsTrue (not (is_reference s.items (ty_of base))) → IsMethodOf s (ty_of base) m → (head_of m).params ≡ params → IsTrue
-    (takes_self s.items (ty_of base) params) → SoundArgs env count args → Gives s (IsTemporary env want) (with_self env at
+with_self_sound : (env : Env) (at : Pos) (id : ℕ) (base : Node) (m : Method) (count : ℕ) (args : List TyId → Check
+    Nodes)
+    (want : Option TyId) (params : List TyId) (s : State) → Knows env s → ((w : State) → Grows s w → IsBase env w
+    base) →
+    IsTrue (not (is_reference s.items (ty_of base))) → IsMethodOf s (ty_of base) m → (head_of m).params ≡ params →
+    IsTrue
+    (takes_self s.items (ty_of base) params) → SoundArgs env count args → Gives s (IsTemporary env want) (with_self
+    env at
     id base m count args want params s)
 with_self_sound env at id base m count args want [] s k is plain method e takes good = absurd (let no_ : IsTrue false =
     takes in cc)
 with_self_sound env at id base m count args want (self ∷ params) s k is plain method e takes good =
     with_ready λ all.
-    bind (received_sound env at base self s is plain (method_known s all (ty_of base) m method self (subst (λ tys. Contains
+    bind (received_sound env at base self s is plain (method_known s all (ty_of base) m method self (subst (λ tys.
+    Contains
     tys self) (sym e) (0, omega arith, refl))) takes) λ receiver t g d.
-    bind (good params t (knows_later env g k) (λ ty has. known_later g.items ty (method_known s all (ty_of base) m method ty
+    bind (good params t (knows_later env g k) (λ ty has. known_later g.items ty (method_known s all (ty_of base) m
+    method ty
     (subst (λ tys. Contains tys ty) (sym e) (suc has.0, omega (arith, has.1), has.2))))) λ given_ u h f.
     bind (fitted_gives env want (a_node_of id at (head_of m).result (method_form m receiver given_)) u (method_leaf m
     receiver given_)) λ n v i r.
@@ -200,27 +219,25 @@ with_self_sound env at id base m count args want (self ∷ params) s k is plain 
     obeyed Rule.T08 at (not (is_unique_borrow (form_of receiver) && is_behind_shared v.items base)) _ λ shared.
     obeyed Rule.T13 at (not (is_drop_method m)) _ λ no_drop.
     let to_v = grows_trans g (grows_trans h i) in
-    let shared_then = subst (λ b. IsTrue (not (is_unique_borrow (form_of receiver) && b))) (behind_later env s v base (is s
+    let shared_then = subst (λ b. IsTrue (not (is_unique_borrow (form_of receiver) && b))) (behind_later env s v base
+    (is s
     (grows_refl s)) to_v) shared in
-    passed_ends env want v id at (head_of m).result (method_form m receiver given_) n (method_place m receiver given_) (λ w.
+    passed_ends env want v id at (head_of m).result (method_form m receiver given_) n (method_place m receiver given_)
+    (λ w.
     method_plain env w (head_of m).result m receiver given_) r λ w ready l.
     let on = grows_trans to_v l in
-    let args_ = f w (grows_trans i l) in
-    (alone_later on.items (head_of m).result (method_alone s all (ty_of base) m method), λ p stands.
-    method_row s w (at_spot w.items env.answer p) refl on (ty_of base) m method no_drop id receiver given_
-    (subst (λ tys. Holds (first_and_rest (λ t. typed (at_spot w.items env.answer p) (Passed t) receiver) (λ ts. arguments
-    (at_spot w.items env.answer p) ts given_) tys)) (sym e)
-    ((d w (grows_trans (grows_trans h i) l) shared_then).holds p stands, arguments_hold env w p stands params given_ args_.are
-    (args_.counted ∙ eqb-true count (length params) counted))))
-
--- a type that is no reference
-abbrev pub IsPlainType : ItemTable → TyId → Type 0
-IsPlainType items own = (ty : Ty) × (type_at items own ≡ Some ty) × (reference_in ty ≡ None)
-
--- what a look-up finds is a method of its type, which is no reference
-abbrev pub FindsMethods : (ItemTable → TyId → Option Method) → Type 0
-FindsMethods named = (s : State) (own : TyId) (m : Method) → named s.items own ≡ Some m → IsMethodOf s own m × IsPlainType
-    s.items own
+    let args_ = f w (grows_trans i l) in (
+      alone_later on.items (head_of m).result (method_alone s all (ty_of base) m method),
+      λ p stands.
+          method_row s w (at_spot w.items env.answer p) refl on (ty_of base) m method no_drop id receiver given_
+          (subst (λ tys. Holds (first_and_rest (λ t. typed (at_spot w.items env.answer p) (Passed t) receiver) (λ ts.
+          arguments
+          (at_spot w.items env.answer p) ts given_) tys)) (sym e) (
+            (d w (grows_trans (grows_trans h i) l) shared_then).holds p stands,
+            arguments_hold env w p stands params given_ args_.are
+                (args_.counted ∙ eqb-true count (length params) counted),
+          )),
+    )
 
 method_later : {t u : State} → Grows t u → (own : TyId) (m : Method) → IsMethodOf t own m → IsMethodOf u own m
 method_later g own _ (of_adt {body} {is_drop} {head} is drop_is) =
@@ -229,12 +246,15 @@ method_later g own _ (of_adt {body} {is_drop} {head} is drop_is) =
 method_later g own _ (of_trait {trait_no} {method} {head} def at is) =
     of_trait def (ap (λ traits. slice_get traits trait_no) g.items.traits ∙ at) is
 
-pub method_sound : (env : Env) (at : Pos) (named : ItemTable → TyId → Option Method) (count : ℕ) (receiver : Check Node) (args
-    : List TyId → Check Nodes) → FindsMethods named → SoundBase env receiver → SoundArgs env count args → SoundTemporary env
+pub method_sound : (env : Env) (at : Pos) (named : ItemTable → TyId → Option Method) (count : ℕ) (receiver : Check
+    Node) (args
+    : List TyId → Check Nodes) → FindsMethods named → SoundBase env receiver → SoundArgs env count args →
+    SoundTemporary env
     (method_call env at named count receiver args)
 method_sound env at named count receiver args finds good_receiver good want s k =
     after_number (bind (good_receiver (numbered s) (knows_number env k)) λ b t g d.
-    bind (through_sound named at env b t d) λ r u h e. by r u t (knows_later env (grows_trans g h) (knows_number env k)) h e)
+    bind (through_sound named at env b t d) λ r u h e. by r u t (knows_later env (grows_trans g h) (knows_number env
+    k)) h e)
   where
     R : Fact Node
     R = IsTemporary env want
@@ -246,18 +266,23 @@ method_sound env at named count receiver args finds good_receiver good want s k 
         by (Ok a) = record { so = λ ready. tt }
         by (Err x) = record { so = λ ready. tt }
 
-    by : (r : Node × Option Method) (u t : State) → Knows env u → Grows t u → ((w : State) → Grows u w → IsFound named t.items
+    by : (r : Node × Option Method) (u t : State) → Knows env u → Grows t u → ((w : State) → Grows u w → IsFound named
+        t.items
         env w r) → Gives u R (with_method env at s.next_node r.0 r.1 count args want u)
     by (base, None) u t k h e = broken (args []) u
     by (base, Some m) u t k h e =
         let of = finds t (ty_of base) m ((e u (grows_refl u)).1 m refl) in
-        let plain = ap is_some (ap (option_and_then reference_in) (type_later h.items (ty_of base) of.1.0 of.1.1) ∙ of.1.2) in
+        let plain = ap is_some (ap (option_and_then reference_in) (type_later h.items (ty_of base) of.1.0 of.1.1) ∙
+        of.1.2) in
         if_takes (takes_self u.items (ty_of base) (head_of m).params) refl
-        (λ takes. with_self_sound env at s.next_node base m count args want (head_of m).params u k (λ w g. (e w g).0) (truth_of
+        (λ takes. with_self_sound env at s.next_node base m count args want (head_of m).params u k (λ w g. (e w g).0)
+        (truth_of
         _ plain) (method_later h (ty_of base) m of.0) refl takes good)
       where
-        if_takes : (b : Bool) → takes_self u.items (ty_of base) (head_of m).params ≡ b → (IsTrue b → Gives u R (with_self env
-            at s.next_node base m count args want (head_of m).params u)) → Gives u R ((if b then with_self env at s.next_node
+        if_takes : (b : Bool) → takes_self u.items (ty_of base) (head_of m).params ≡ b → (IsTrue b → Gives u R
+            (with_self env
+            at s.next_node base m count args want (head_of m).params u)) → Gives u R ((if b then with_self env at
+            s.next_node
             base m count args want (head_of m).params else (args [] >> breaks Rule.T12 at)) u)
         if_takes true is on = on refl
         if_takes false is on = broken (args []) u
@@ -270,49 +295,69 @@ any_by p [] k x is h = absurd (none-some x is)
 any_by p (y ∷ ys) zero x is h = or_left (p y) _ (subst (λ z. IsTrue (p z)) (sym (same_Some y x is)) h)
 any_by p (y ∷ ys) (suc k) x is h = or_right (p y) _ (any_by p ys k x is h)
 
-closure_type : (items : ItemTable) (id : TyId) (k : ℕ) → closure_of items id ≡ Some k → type_at items id ≡ Some (Ty.Closure k)
+closure_type : (items : ItemTable) (id : TyId) (k : ℕ) → closure_of items id ≡ Some k → type_at items id ≡ Some
+    (Ty.Closure k)
 closure_type items id k h = let known = some_got closure_in (type_at items id) k h in known.1 ∙ by known.0 known.2
   where
     by : (ty : Ty) → closure_in ty ≡ Some k → Some ty ≡ Some (Ty.Closure k)
     by (Ty.Closure n) h = ap (λ m. Some (Ty.Closure m)) (same_Some n k h)
     by _ h = absurd (none-some k h)
 
-called_sound : (env : Env) (at : Pos) (id : ℕ) (c : Node) (count : ℕ) (args : List TyId → Check Nodes) (want : Option TyId)
-    (k : ℕ) (def : ClosureDef) (head : Sig) (t : State) → Knows env t → ((w : State) → Grows t w → IsValue env None w c) →
-    AreReady t.items → type_at t.items (ty_of c) ≡ Some (Ty.Closure k) → slice_get t.items.closures k ≡ Some def → slice_get
-    t.items.bodies def.body ≡ Some head → SoundArgs env count args → Gives t (IsTemporary env want) (with_closure at id c
+called_sound : (env : Env) (at : Pos) (id : ℕ) (c : Node) (count : ℕ) (args : List TyId → Check Nodes) (want : Option
+    TyId)
+    (k : ℕ) (def : ClosureDef) (head : Sig) (t : State) → Knows env t → ((w : State) → Grows t w → IsValue env None w
+    c) →
+    AreReady t.items → type_at t.items (ty_of c) ≡ Some (Ty.Closure k) → slice_get t.items.closures k ≡ Some def →
+    slice_get
+    t.items.bodies def.body ≡ Some head → SoundArgs env count args → Gives t (IsTemporary env want) (with_closure at
+    id c
     count args want def.body (Some head) t)
 called_sound env at id c count args want k def head t knows is all of at_k body good =
     let begins = all.closures k def head at_k body in
     let number = all.distinct (ty_of c).0 begins.0.0 (Ty.Closure k) of begins.3 in
     let same : ty_of c ≡ begins.0 = λ i. record { 0 = number i } in
-    bind (good (drop 1 head.params) t knows (λ ty has. all.params def.body head ty body (behind begins.0 begins.1 ty begins.2
+    bind (good (drop 1 head.params) t knows (λ ty has. all.params def.body head ty body (behind begins.0 begins.1 ty
+    begins.2
     has))) λ ns u g d.
     bind (fitted_gives env want (a_node_of id at head.result (tree.ClosureCall def.body c ns)) u refl) λ n v h e.
     obeyed Rule.T04 at (count == length (drop 1 head.params)) _ λ counted.
     passed_ends env want v id at head.result (tree.ClosureCall def.body c ns) n refl (λ w p. refl) e λ w ready l.
     let on = grows_trans g (grows_trans h l) in
     let args_ = d w (grows_trans h l) in
-    let value = is w on in
-    (alone_later on.items head.result (all.results def.body head body), λ p stands.
-    subst (λ o. Holds (some o (λ (sig : Sig). both (fact (is_same head.result sig.result)) (first_and_rest (λ x. typed (at_spot
-    w.items env.answer p) (Passed x) c) (λ ts. arguments (at_spot w.items env.answer p) ts ns) sig.params)))) (sym (ap (λ
-    bodies. slice_get bodies def.body) on.items.bodies ∙ body)) (same_self head.result.0 ⋆ subst (λ tys. Holds (first_and_rest
-    (λ x. typed (at_spot w.items env.answer p) (Passed x) c) (λ ts. arguments (at_spot w.items env.answer p) ts ns) tys)) (sym
-    begins.2) (passed_value (at_spot w.items env.answer p) begins.0 c (alone_no_reference w.items begins.0 (subst (IsAlone
-    w.items) same value.alone)) (value.holds p stands) (subst (λ x. IsTrue (fits w.items x (ty_of c))) same (fits_self w.items
-    (ty_of c))), arguments_hold env w p stands begins.1 ns (subst (λ tys. AreGiven env tys w ns) (ap (drop 1) begins.2)
-    args_.are) (args_.counted ∙ (eqb-true count (length (drop 1 head.params)) counted ∙ ap (λ tys. length (drop 1 tys))
-    begins.2)))) ⋆
-    any_by (λ (x : ClosureDef). x.body == def.body) w.items.closures k def (on.items.closures k def at_k) (same_self def.body))
+    let value = is w on in (
+      alone_later on.items head.result (all.results def.body head body),
+      λ p stands.
+          subst (λ o. Holds (some o (λ (sig : Sig). both (fact (is_same head.result sig.result)) (first_and_rest (λ x.
+          typed (at_spot
+          w.items env.answer p) (Passed x) c) (λ ts. arguments (at_spot w.items env.answer p) ts ns) sig.params))))
+          (sym (ap (λ
+          bodies. slice_get bodies def.body) on.items.bodies ∙ body)) (same_self head.result.0 ⋆ subst (λ tys. Holds
+          (first_and_rest
+          (λ x. typed (at_spot w.items env.answer p) (Passed x) c) (λ ts. arguments (at_spot w.items env.answer p) ts
+          ns) tys)) (sym
+          begins.2) (
+            passed_value (at_spot w.items env.answer p) begins.0 c (alone_no_reference w.items begins.0 (subst (IsAlone
+                w.items) same value.alone)) (value.holds p stands) (subst (λ x. IsTrue (fits w.items x (ty_of c)))
+                same (fits_self w.items
+                (ty_of c))),
+            arguments_hold env w p stands begins.1 ns (subst (λ tys. AreGiven env tys w ns) (ap (drop 1) begins.2)
+                args_.are) (args_.counted ∙ (eqb-true count (length (drop 1 head.params)) counted ∙ ap (λ tys. length
+                (drop 1 tys))
+                begins.2)),
+          )) ⋆
+          any_by (λ (x : ClosureDef). x.body == def.body) w.items.closures k def (on.items.closures k def at_k)
+          (same_self def.body),
+    )
   where
-    behind : (self : TyId) (rest : List TyId) (ty : TyId) → head.params ≡ self ∷ rest → Contains (drop 1 head.params) ty →
+    behind : (self : TyId) (rest : List TyId) (ty : TyId) → head.params ≡ self ∷ rest → Contains (drop 1 head.params)
+        ty →
         Contains head.params ty
     behind self rest ty e has =
         let later : Contains rest ty = subst (λ tys. Contains (drop 1 tys) ty) e has in
         subst (λ tys. Contains tys ty) (sym e) (suc later.0, omega (arith, later.1), later.2)
 
-pub closure_call_sound : (env : Env) (at : Pos) (count : ℕ) (callee : Check Node) (args : List TyId → Check Nodes) → ((s :
+pub closure_call_sound : (env : Env) (at : Pos) (count : ℕ) (callee : Check Node) (args : List TyId → Check Nodes) →
+    ((s :
     State) → Knows env s → Gives s (IsValue env None) (callee s)) → SoundArgs env count args → SoundTemporary env
     (closure_call at count callee args)
 closure_call_sound env at count callee args good_c good want s k =
@@ -331,27 +376,36 @@ closure_call_sound env at count callee args good_c good want s k =
 
     called : Node → State → Option ℕ → Result (Node × State) Broken
     called c t o =
-        with_closure at s.next_node c count args want (option_map_or (λ (d : ClosureDef). d.body) (option_and_then (slice_get
+        with_closure at s.next_node c count args want (option_map_or (λ (d : ClosureDef). d.body) (option_and_then
+        (slice_get
         t.items.closures) o) 0) (option_and_then (λ (d : ClosureDef). slice_get t.items.bodies d.body) (option_and_then
         (slice_get t.items.closures) o)) t
 
-    with_head : (c : Node) (t : State) → Knows env t → ((w : State) → Grows t w → IsValue env None w c) → AreReady t.items →
-        (n : ℕ) → closure_of t.items (ty_of c) ≡ Some n → (def : ClosureDef) → slice_get t.items.closures n ≡ Some def → (o :
+    with_head : (c : Node) (t : State) → Knows env t → ((w : State) → Grows t w → IsValue env None w c) → AreReady
+        t.items →
+        (n : ℕ) → closure_of t.items (ty_of c) ≡ Some n → (def : ClosureDef) → slice_get t.items.closures n ≡ Some def
+        → (o :
         Option Sig) → slice_get t.items.bodies def.body ≡ o → Gives t R (with_closure at s.next_node c count args want
         def.body o t)
     with_head c t knows d all n e def at_n None is = broken (args []) t
     with_head c t knows d all n e def at_n (Some head) is =
-        called_sound env at s.next_node c count args want n def head t knows d all (closure_type t.items (ty_of c) n e) at_n is
+        called_sound env at s.next_node c count args want n def head t knows d all (closure_type t.items (ty_of c) n
+        e) at_n is
         good
 
-    with_def : (c : Node) (t : State) → Knows env t → ((w : State) → Grows t w → IsValue env None w c) → AreReady t.items → (n
-        : ℕ) → closure_of t.items (ty_of c) ≡ Some n → (o : Option ClosureDef) → slice_get t.items.closures n ≡ o → Gives t R
-        (with_closure at s.next_node c count args want (option_map_or (λ (d : ClosureDef). d.body) o 0) (option_and_then (λ (d
+    with_def : (c : Node) (t : State) → Knows env t → ((w : State) → Grows t w → IsValue env None w c) → AreReady
+        t.items → (n
+        : ℕ) → closure_of t.items (ty_of c) ≡ Some n → (o : Option ClosureDef) → slice_get t.items.closures n ≡ o →
+        Gives t R
+        (with_closure at s.next_node c count args want (option_map_or (λ (d : ClosureDef). d.body) o 0)
+        (option_and_then (λ (d
         : ClosureDef). slice_get t.items.bodies d.body) o) t)
     with_def c t knows d all n e None is = broken (args []) t
-    with_def c t knows d all n e (Some def) is = with_head c t knows d all n e def is (slice_get t.items.bodies def.body) refl
+    with_def c t knows d all n e (Some def) is = with_head c t knows d all n e def is (slice_get t.items.bodies
+        def.body) refl
 
-    by : (c : Node) (t : State) → Knows env t → ((w : State) → Grows t w → IsValue env None w c) → AreReady t.items → (o :
+    by : (c : Node) (t : State) → Knows env t → ((w : State) → Grows t w → IsValue env None w c) → AreReady t.items →
+        (o :
         Option ℕ) → closure_of t.items (ty_of c) ≡ o → Gives t R (called c t o)
     by c t knows d all None e = broken (args []) t
     by c t knows d all (Some n) e = with_def c t knows d all n e (slice_get t.items.closures n) refl

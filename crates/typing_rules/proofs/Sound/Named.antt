@@ -1,10 +1,10 @@
 -- Calls of functions, of constructors, and of `ask`; structs and variants without parts.
-use Rattle.std.proofs.Common.{◌≡◌, ℕ, zero, suc, ◌≤◌, ◌+◌, Bool, true, false, ◌&&◌, ◌||◌, ◌==◌, not, if◌then◌else◌, List, [], ◌∷◌, length, slice_get, Option, Some, None, IsTrue, Contains, ◌⊎◌, inl, inr, refl, ap, sym, subst, ◌∙◌, arith}
-use Rattle.std.specs.Prelude.{option_and_then, is_some, is_none, nat_eq}
+use Rattle.std.proofs.Common.{◌≡◌, ℕ, suc, ◌≤◌, ◌+◌, Bool, true, false, ◌&&◌, ◌||◌, ◌==◌, not, List, [], ◌∷◌, length, slice_get, Option, Some, None, IsTrue, refl, ap, sym, subst, ◌∙◌, arith}
+use Rattle.std.specs.Prelude.{option_and_then, nat_eq}
 use Rattle.std.specs.List.{list_any}
 use Rattle.std.specs.Option.{option_map_or}
-use Rattle.std.proofs.lemmas.Bool.{eqb-true, false≢true, true≢false}
-use Rattle.std.proofs.lemmas.Option.{none-some, same_Some}
+use Rattle.std.proofs.lemmas.Bool.{eqb-true}
+use Rattle.std.proofs.lemmas.Option.{none-some}
 use Rattle.mir_base.specs.declared.int_kind.IntKind.{IntKind}
 use Rattle.mir_base.specs.declared.place_in_text.Pos.{Pos}
 use Rattle.mir_base.specs.declared.rule.Rule.{Rule}
@@ -14,62 +14,61 @@ use Rattle.mir_ty.specs.declared.def.Sig.{Sig}
 use Rattle.mir_ty.specs.declared.ty.Ty.{Ty}
 use Rattle.mir_ty.specs.declared.ty.TyId.{TyId}
 use Rattle.mir_ty.specs.ItemTable.{ItemTable, type_at}
-use Rattle.mir_ty.specs.Parts.{held_by, parts_of, fields_of, variants_of}
+use Rattle.mir_ty.specs.Parts.{fields_of, variants_of}
 use Rattle.mir_ty.proofs.ListLemmas.{slice_get-Contains}
 use Rattle.typed_tree.specs.Tree as tree
 use Rattle.typed_tree.specs.Tree.{Node, node, Form, Nodes, no_node, a_node, Fields, no_field, a_field}
-use Rattle.well_typed.specs.Claim.{Claim, Holds, some, fact, both}
+use Rattle.well_typed.specs.Claim.{Holds, some, fact, both}
 use Rattle.well_typed.specs.Names.{are_distinct_numbers, is_number_among}
-use Rattle.well_typed.specs.Nodes.{typed, row, arguments, made_fields, is_leaf, is_closure_body, is_drop_body}
+use Rattle.well_typed.specs.Nodes.{typed, row, arguments, made_fields, is_drop_body}
 use Rattle.well_typed.specs.Patterns.{count_of, field_numbers}
-use Rattle.well_typed.specs.Places.{Context, ty_of, Taken, Wanted, Passed}
-use Rattle.well_typed.specs.Types.{fits, is_same, is_i32, is_kind, is_reference, kind_of, kind_in, adt_of, adt_in, variant_at, adt_at}
-use Rattle.well_typed.proofs.ClaimLemmas.{and_true, true_left, true_right}
+use Rattle.well_typed.specs.Places.{Context, Wanted}
+use Rattle.well_typed.specs.Types.{is_same, is_kind, is_reference, kind_in, adt_in, variant_at}
+use Rattle.well_typed.proofs.ClaimLemmas.{and_true}
 use Rattle.typing_rules.specs.Check.{Check, State, interned, ◌>>=◌}
-use Rattle.typing_rules.specs.Places.{unit, int, a_node_of}
-use Rattle.typing_rules.specs.Promises.{Extends, IsReady, IsAlone, IsKnown, AreReady, Grows, Fact, Gives, Spot, at_spot, Stands, Knows, IsValue, IsTemporary, Sound, SoundTemporary}
-use Rattle.typing_rules.specs.RowPromises.{IsMade, IsArgument, AreGiven, IsGiven, SoundArgs}
-use Rattle.typing_rules.specs.Rows.{Typer, leaf, call, built_in, ask_form, make, numbered_fields}
+use Rattle.typing_rules.specs.Places.{int, a_node_of}
+use Rattle.typing_rules.specs.Promises.{Extends, IsAlone, IsKnown, AreReady, Gives, at_spot, Knows, IsTemporary, SoundTemporary}
+use Rattle.typing_rules.specs.RowPromises.{IsMade, SoundArgs, IsFunction}
+use Rattle.typing_rules.specs.Rows.{call, built_in, ask_form, make, numbered_fields}
 use Rattle.typing_rules.specs.Named.{Makes}
 use Rattle.typing_rules.specs.Scope.{Env}
 use Rattle.typing_rules.specs.Typed.{makes_unit}
 use Rattle.typing_rules.proofs.Sound.Calls.{call_sound, from_passed, none_known}
-use Rattle.typing_rules.proofs.Sound.Fitted.{Is, IsPlain, fitted_gives, leaf_ends, passed_ends, or_left, or_right, same_self}
-use Rattle.typing_rules.proofs.Sound.Gives.{◌⋆◌, bind, with_ready, given, obeyed, found, after_number, numbered, grows_trans, grows_refl, grows_number, knows_later, knows_number}
+use Rattle.typing_rules.proofs.Sound.Fitted.{fitted_gives, leaf_ends, passed_ends, same_self}
+use Rattle.typing_rules.proofs.Sound.Gives.{◌⋆◌, bind, with_ready, obeyed, after_number, numbered, grows_trans, grows_refl, grows_number, knows_later, knows_number}
 use Rattle.typing_rules.proofs.Sound.Interned.{interned_sound}
-use Rattle.typing_rules.proofs.Sound.Later.{alone_later, known_later, alone_no_reference, some_got}
+use Rattle.typing_rules.proofs.Sound.Later.{alone_no_reference}
 use Rattle.typing_rules.proofs.Sound.Operators.{int_ready, int_at, as_wanted}
 use Rattle.typing_rules.proofs.Sound.Places.{not_true}
 
 -- ---- functions
 
--- a body that is called by a name: neither that of a `Drop` impl nor that of a closure
-abbrev pub IsFunction : State → ℕ → Sig → Type 0
-IsFunction s body head = (slice_get s.items.bodies body ≡ Some head) × ((w : State) → Grows s w → IsTrue (not
-    (is_closure_body w.items body)))
-
 pub drop_later : {old new : ItemTable} → Extends old new → (body : ℕ) → is_drop_body new body ≡ is_drop_body old body
 drop_later e body =
     ap (λ adts. list_any (λ (adt : Adt). option_map_or (λ b. b == body) adt.drop_body false) adts) e.adts
 
-pub function_sound : (env : Env) (at : Pos) (body : ℕ) (head : Sig) (count : ℕ) (args : List TyId → Check Nodes) → SoundArgs
+pub function_sound : (env : Env) (at : Pos) (body : ℕ) (head : Sig) (count : ℕ) (args : List TyId → Check Nodes) →
+    SoundArgs
     env count args → (want : Option TyId) (s : State) → Knows env s → IsFunction s body head → Gives s (IsTemporary env
     want) (call at (tree.Call body) head.result count head.params args (not (is_drop_body s.items body)) want s)
 function_sound env at body head count args good want s k is =
     with_ready λ all.
-    call_sound env at (tree.Call body) head.result count head.params args (not (is_drop_body s.items body)) (λ ns. refl) (λ
+    call_sound env at (tree.Call body) head.result count head.params args (not (is_drop_body s.items body)) (λ ns.
+    refl) (λ
     ns. refl) (λ w ns p. refl) good s (all.results body head is.0) (λ ty has. all.params body head ty is.0 has)
     (λ may w id ns p ready g stands given_.
     subst (λ o. Holds (some o (λ (sig : Sig). both (fact (is_same head.result sig.result)) (arguments (at_spot w.items
     env.answer p) sig.params ns)))) (sym (ap (λ bodies. slice_get bodies body) g.items.bodies ∙ is.0)) (same_self
     head.result.0 ⋆ given_) ⋆
-    and_true (not (is_drop_body w.items body)) _ (subst (λ b. IsTrue (not b)) (sym (drop_later g.items body)) may) (is.1 w
+    and_true (not (is_drop_body w.items body)) _ (subst (λ b. IsTrue (not b)) (sym (drop_later g.items body)) may)
+    (is.1 w
     g)) want k
 
 -- ---- structs and variants by the order of their parts
 
 module _ (items : ItemTable) (adt variant : ℕ) (v : Variant) where
-  pub adt_fields : variant_at items adt variant ≡ Some v → fields_of (slice_get (variants_of (slice_get items.adts adt)) variant)
+  pub adt_fields : variant_at items adt variant ≡ Some v → fields_of (slice_get (variants_of (slice_get items.adts
+      adt)) variant)
       ≡ v.fields
   adt_fields h = by (slice_get items.adts adt) h
     where
@@ -102,7 +101,8 @@ as_many k no_node = refl
 as_many k (a_node first rest) = ap suc (as_many (suc k) rest)
 
 -- the arguments are values for the fields
-fields_hold : (c : Context) (tys : List TyId) (all : List TyId) (k : ℕ) (ns : Nodes) → ((n : ℕ) (ty : TyId) → slice_get tys
+fields_hold : (c : Context) (tys : List TyId) (all : List TyId) (k : ℕ) (ns : Nodes) → ((n : ℕ) (ty : TyId) →
+    slice_get tys
     n ≡ Some ty → (slice_get all (k + n) ≡ Some ty) × (is_reference c.items ty ≡ false)) → Holds (arguments c tys ns) →
     Holds (made_fields c all (numbered_fields k ns))
 fields_hold c [] all k no_node at h = refl
@@ -110,12 +110,14 @@ fields_hold c (ty ∷ tys) all k no_node at h = refl
 fields_hold c [] all k (a_node first rest) at h = absurd (let no_ : IsTrue false = h in cc)
 fields_hold c (ty ∷ tys) all k (a_node first rest) at h =
     let here_ = at 0 ty refl in
-    let so = from_passed c ty first here_.1 h.0 in
-    (
+    let so = from_passed c ty first here_.1 h.0 in (
       subst (λ o. Holds (some o (λ t. typed c (Wanted t) first))) (sym (ap (slice_get all) (omega arith) ∙ here_.0))
-      (as_wanted c ty first so.0 so.1),
-      fields_hold c tys all (suc k) rest (λ n t is. let later = at (suc n) t is in (ap (slice_get all) (omega arith) ∙
-      later.0, later.1)) h.1,
+          (as_wanted c ty first so.0 so.1),
+      fields_hold c tys all (suc k) rest (λ n t is. let later = at (suc n) t is in (
+        ap (slice_get all) (omega arith) ∙
+            later.0,
+        later.1,
+      )) h.1,
     )
 
 pub adt_made : (items : ItemTable) → AreReady items → (adt : ℕ) → IsMade items (Ty.Adt adt)
@@ -127,51 +129,70 @@ adt_made items all adt =
     }
 
 -- a struct or a variant with these fields
-make_row : (c : Context) (ty : TyId) (id adt variant : ℕ) (v : Variant) (fields : Fields) → type_at c.items ty ≡ Some (Ty.Adt
+make_row : (c : Context) (ty : TyId) (id adt variant : ℕ) (v : Variant) (fields : Fields) → type_at c.items ty ≡ Some
+    (Ty.Adt
     adt) → variant_at c.items adt variant ≡ Some v → IsTrue (are_distinct_numbers (field_numbers fields) && length
-    (field_numbers fields) == length v.fields) → Holds (made_fields c v.fields fields) → Holds (row c id ty (tree.Make adt
+    (field_numbers fields) == length v.fields) → Holds (made_fields c v.fields fields) → Holds (row c id ty (tree.Make
+    adt
     variant fields))
 make_row c ty id adt variant v fields is at numbers holds =
     subst (λ o. IsTrue (option_map_or (λ n. n == adt) (option_and_then adt_in o) false)) (sym is) (same_self adt) ⋆
     subst (λ o. Holds (some o (λ (u : Variant). both (fact (are_distinct_numbers (field_numbers fields) && length
     (field_numbers fields) == length u.fields)) (made_fields c u.fields fields)))) (sym at) (numbers ⋆ holds)
 
-variant_later : {old new : ItemTable} → Extends old new → (adt variant : ℕ) → variant_at new adt variant ≡ variant_at old adt
+variant_later : {old new : ItemTable} → Extends old new → (adt variant : ℕ) → variant_at new adt variant ≡ variant_at
+    old adt
     variant
 variant_later e adt variant =
     ap (λ adts. option_and_then (λ (def : Adt). slice_get def.variants variant) (slice_get adts adt)) e.adts
 
 -- `S`, `E::V` of a struct or a variant without parts
-pub unit_struct_sound : (env : Env) (at : Pos) (adt variant : ℕ) (v : Variant) (want : Option TyId) (s : State) → variant_at
-    s.items adt variant ≡ Some v → v.fields ≡ [] → Knows env s → Gives s (IsTemporary env want) (makes_unit at (Makes adt
+pub unit_struct_sound : (env : Env) (at : Pos) (adt variant : ℕ) (v : Variant) (want : Option TyId) (s : State) →
+    variant_at
+    s.items adt variant ≡ Some v → v.fields ≡ [] → Knows env s → Gives s (IsTemporary env want) (makes_unit at (Makes
+    adt
     variant) want s)
 unit_struct_sound env at adt variant v want s has none k =
     with_ready λ all. bind (interned_sound (Ty.Adt adt) s (adt_made s.items all adt)) λ ty t g d.
-    after_number (leaf_ends env want (numbered t) t.next_node at ty (tree.Make adt variant no_field) refl refl (λ w p. refl) λ
+    after_number (leaf_ends env want (numbered t) t.next_node at ty (tree.Make adt variant no_field) refl refl (λ w p.
+    refl) λ
     w ready l.
-    let on = grows_trans (grows_number t) l in
-    ((Ty.Adt adt, d w on, tt), λ p stands.
-    make_row (at_spot w.items env.answer p) ty t.next_node adt variant v no_field (d w on) (variant_later (grows_trans g
-    on).items adt variant ∙ has) (subst (λ (tys : List TyId). IsTrue (true && 0 == length tys)) (sym none) refl) refl))
+    let on = grows_trans (grows_number t) l in (
+      (Ty.Adt adt, d w on, tt),
+      λ p stands.
+          make_row (at_spot w.items env.answer p) ty t.next_node adt variant v no_field (d w on) (variant_later
+          (grows_trans g
+          on).items adt variant ∙ has) (subst (λ (tys : List TyId). IsTrue (true && 0 == length tys)) (sym none) refl)
+          refl,
+    ))
 
 -- `S(a)`, `E::V(a)`
-pub constructor_sound : (env : Env) (at : Pos) (adt variant : ℕ) (v : Variant) (count : ℕ) (args : List TyId → Check Nodes) →
-    SoundArgs env count args → (want : Option TyId) (s : State) → variant_at s.items adt variant ≡ Some v → Knows env s →
+pub constructor_sound : (env : Env) (at : Pos) (adt variant : ℕ) (v : Variant) (count : ℕ) (args : List TyId → Check
+    Nodes) →
+    SoundArgs env count args → (want : Option TyId) (s : State) → variant_at s.items adt variant ≡ Some v → Knows env
+    s →
     Gives s (IsTemporary env want) ((interned (Ty.Adt adt) >>= (λ ty. call at (make adt variant) ty count v.fields args
     true want)) s)
 constructor_sound env at adt variant v count args good want s has k =
     with_ready λ all. bind (interned_sound (Ty.Adt adt) s (adt_made s.items all adt)) λ ty t g d.
     with_ready λ ready.
     let at_t = variant_later g.items adt variant ∙ has in
-    call_sound env at (make adt variant) ty count v.fields args true (λ ns. refl) (λ ns. refl) (λ w ns p. refl) good t (Ty.Adt
-    adt, d t (grows_refl t), tt) (λ part c. known t ready at_t part c.0 (slice_get-Contains v.fields part c))
+    call_sound env at (make adt variant) ty count v.fields args true (λ ns. refl) (λ ns. refl) (λ w ns p. refl) good t (
+      Ty.Adt
+          adt,
+      d t (grows_refl t),
+      tt,
+    ) (λ part c. known t ready at_t part c.0 (slice_get-Contains v.fields part c))
     (λ may w id ns p all_w h stands given_.
     let at_w = variant_later h.items adt variant ∙ at_t in
     make_row (at_spot w.items env.answer p) ty id adt variant v (numbered_fields 0 ns) (d w h) at_w
     (and_true _ _ (distinct_from 0 ns) (subst (λ n. IsTrue (n == length v.fields)) (sym (as_many 0 ns ∙ counted
     (at_spot w.items env.answer p) v.fields ns given_)) (same_self (length v.fields))))
-    (fields_hold (at_spot w.items env.answer p) v.fields v.fields 0 ns (λ n u is. (ap (slice_get v.fields) (omega arith) ∙ is, not_true _ (alone_no_reference
-    w.items u (alone w all_w at_w u n is)))) given_)) want (knows_later env g k)
+    (fields_hold (at_spot w.items env.answer p) v.fields v.fields 0 ns (λ n u is. (
+      ap (slice_get v.fields) (omega arith) ∙ is,
+      not_true _ (alone_no_reference
+          w.items u (alone w all_w at_w u n is)),
+    )) given_)) want (knows_later env g k)
   where
     alone : (w : State) → AreReady w.items → variant_at w.items adt variant ≡ Some v → (part : TyId) (n : ℕ) → slice_get
         v.fields n ≡ Some part → IsAlone w.items part
@@ -194,6 +215,8 @@ ask_sound env at count args good want s k =
     after_number (bind (good [] (numbered s) (knows_number env k) (none_known s.items)) λ ns t g d.
     bind (fitted_gives env want (a_node_of s.next_node at (int IntKind.I32) tree.Ask) t refl) λ n u h e.
     obeyed Rule.T04 at (count == 0) _ λ counted.
-    passed_ends env want u s.next_node at (int IntKind.I32) tree.Ask n refl (λ w p. refl) e λ w all l.
-    (int_ready w.items all IntKind.I32, λ p stands. subst (λ o. IsTrue (option_map_or (is_kind IntKind.I32) o false)) (sym
-    (ap (option_and_then kind_in) (int_at w.items all IntKind.I32))) refl))
+    passed_ends env want u s.next_node at (int IntKind.I32) tree.Ask n refl (λ w p. refl) e λ w all l. (
+      int_ready w.items all IntKind.I32,
+      λ p stands. subst (λ o. IsTrue (option_map_or (is_kind IntKind.I32) o false)) (sym
+          (ap (option_and_then kind_in) (int_at w.items all IntKind.I32))) refl,
+    ))

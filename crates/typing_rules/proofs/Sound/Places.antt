@@ -280,7 +280,8 @@ not_or_of fixed dyn moves dyn_later more same h =
     and_true moves (not dyn_later) (more both_.0) (subst (λ b. IsTrue (not b)) (sym same) both_.1)
 
 -- a place that is used so, in a later state
-pub taken_value : (env : Env) (t w : State) (n : Node) → AreReady t.items → Grows t w → IsPlace env t n → IsBase env w n →
+pub taken_value : (env : Env) (t w : State) (n : Node) → AreReady t.items → Grows t w → IsPlace env t n → IsBase env w
+    n →
     IsTrue (is_copy t.items (ty_of n) || not (is_fixed t.items (in_own_guard env.variables) n || is_dyn t.items (ty_of
     n))) → IsTrue (not (is_reference t.items (ty_of n))) → IsValue env None w (used (taking t.items (ty_of n)) n)
 taken_value env t w n all g now base moves no_reference =

@@ -147,7 +147,8 @@ own_truth false = refl
 -- a borrow of what is no reference; one by `&mut` has to be not behind `&`
 pub borrowed_if : (env : Env) (id : ℕ) (at : Pos) (param : TyId) (unique : Bool) (b : Node) (s : State) →
     ((w : State) → Grows s w → IsBase env w b) → IsTrue (not (is_reference s.items (ty_of b))) →
-    reference_of s.items param ≡ Some (unique, ty_of b) → Gives s (λ w n. (is_unique_borrow (form_of n) ≡ unique) × (IsTrue
+    reference_of s.items param ≡ Some (unique, ty_of b) → Gives s (λ w n. (is_unique_borrow (form_of n) ≡ unique) ×
+    (IsTrue
     (not (unique && is_behind_shared s.items b)) → IsArgument env param w n)) (borrow_of id at unique b s)
 borrowed_if env id at param unique b s base no_reference is =
     bind (interned_sound (reference_ty unique (ty_of b)) s (reference_made s.items unique (ty_of b) (base s (grows_refl
@@ -159,34 +160,41 @@ borrowed_if env id at param unique b s base no_reference is =
     in
     let number = (l.ready all).distinct param.0 ty.0 (reference_ty unique (ty_of b)) here_ (d w l) in
     let same : param ≡ ty = λ i. record { 0 = number i } in
-    let of = ap (option_and_then reference_in) here_ ∙ reference_back unique (ty_of b) in
-    (refl, λ shared. subst (λ u. IsArgument env param w (a_node_of id at u (tree.Borrow unique (used_if_place (borrow_by
-    unique) b)))) same
-    (record {
-      holds = λ p stands.
-          let c = at_spot w.items env.answer p in
-          passed_borrow c param id at unique (used_if_place (borrow_by unique) b)
-          (subst (λ o. IsTrue (is_some o)) (sym of) refl)
-          (used_holds c (borrow_by unique) b ((base w on).holds p stands) (subst (λ x. IsTrue (not x)) (sym
-          (same_reference
-          on.items (ty_of b) (base s (grows_refl s)).ready)) no_reference) ⋆
-          subst (λ x. IsTrue (not (unique && x))) (sym (used_shared c (borrow_by unique) b ∙ behind_later env s w b
-          (base s
-          (grows_refl s)) on)) shared ⋆
-          subst (λ o. Holds (some o (λ (r : Bool × TyId). both (fact (is_same (ty_of (used_if_place (borrow_by unique)
-          b))
-          r.1)) (fact (if unique then r.0 else not r.0))))) (sym of) (subst (λ u. IsTrue (is_same u (ty_of b))) (sym
-          (used_type (borrow_by unique) b)) (same_self (ty_of b).0) ⋆ own_truth unique))
-          (subst (λ o. IsTrue (not (option_map_or is_never_ty o false))) (sym here_) (truth_of _ (never_no unique (ty_of
-          b))));
-    }))
+    let of = ap (option_and_then reference_in) here_ ∙ reference_back unique (ty_of b) in (
+      refl,
+      λ shared. subst (λ u. IsArgument env param w (a_node_of id at u (tree.Borrow unique (used_if_place (borrow_by
+          unique) b)))) same
+          (record {
+            holds = λ p stands.
+                let c = at_spot w.items env.answer p in
+                passed_borrow c param id at unique (used_if_place (borrow_by unique) b)
+                (subst (λ o. IsTrue (is_some o)) (sym of) refl)
+                (used_holds c (borrow_by unique) b ((base w on).holds p stands) (subst (λ x. IsTrue (not x)) (sym
+                (same_reference
+                on.items (ty_of b) (base s (grows_refl s)).ready)) no_reference) ⋆
+                subst (λ x. IsTrue (not (unique && x))) (sym (used_shared c (borrow_by unique) b ∙ behind_later env s
+                w b
+                (base s
+                (grows_refl s)) on)) shared ⋆
+                subst (λ o. Holds (some o (λ (r : Bool × TyId). both (fact (is_same (ty_of (used_if_place (borrow_by
+                unique)
+                b))
+                r.1)) (fact (if unique then r.0 else not r.0))))) (sym of) (subst (λ u. IsTrue (is_same u (ty_of b)))
+                (sym
+                (used_type (borrow_by unique) b)) (same_self (ty_of b).0) ⋆ own_truth unique))
+                (subst (λ o. IsTrue (not (option_map_or is_never_ty o false))) (sym here_) (truth_of _ (never_no
+                unique (ty_of
+                b))));
+          }),
+    )
 
 pub borrowed : (env : Env) (id : ℕ) (at : Pos) (param : TyId) (unique : Bool) (b : Node) (s : State) →
     ((w : State) → Grows s w → IsBase env w b) → IsTrue (not (is_reference s.items (ty_of b))) →
     IsTrue (not (unique && is_behind_shared s.items b)) → reference_of s.items param ≡ Some (unique, ty_of b) →
     Gives s (IsArgument env param) (borrow_of id at unique b s)
 borrowed env id at param unique b s base no_reference shared is =
-    weaker (IsArgument env param) (borrowed_if env id at param unique b s base no_reference is) λ n w ready g h. h.1 shared
+    weaker (IsArgument env param) (borrowed_if env id at param unique b s base no_reference is) λ n w ready g h. h.1
+    shared
 
 pub borrow_sound : (env : Env) (at : Pos) (unique : Bool) (base : Check Node) → SoundBase env base → SoundReferrer env
     (borrow at unique base)

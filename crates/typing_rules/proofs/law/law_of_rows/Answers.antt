@@ -1,3 +1,8 @@
+use Rattle.typing_rules.proofs.Sound.AllPatterns.{matcher_sound}
+use Rattle.typing_rules.proofs.Sound.Literals.{literal_sound}
+use Rattle.typing_rules.proofs.Sound.Matching.{if_let_alone_sound, if_let_else_sound, while_let_sound, arm_sound, match_sound}
+use Rattle.typing_rules.proofs.Sound.Methods.{method_sound, closure_call_sound}
+use Rattle.typing_rules.proofs.Sound.Named.{ask_sound, function_sound, constructor_sound, unit_struct_sound}
 use Rattle.typing_rules.proofs.Sound.Arguments.{element_sound, store_sound, argument_sound}
 use Rattle.typing_rules.proofs.Sound.Blocks.{block_sound, evaluate_sound}
 use Rattle.typing_rules.proofs.Sound.Branches.{if_alone_sound, if_else_sound}
@@ -16,7 +21,13 @@ pub returns-clause-types : goal.returns-clause-types
 returns-clause-types c = interned_sound
 
 pub returns-clause-leaves : goal.returns-clause-leaves
-returns-clause-leaves c = record { truth = truth_sound; unit_value = unit_sound; panic = panic_sound }
+returns-clause-leaves c = record {
+  truth = truth_sound;
+  unit_value = unit_sound;
+  number = literal_sound;
+  panic =
+      panic_sound;
+}
 
 pub returns-clause-operators : goal.returns-clause-operators
 returns-clause-operators c =
@@ -48,7 +59,14 @@ returns-clause-arguments c =
 
 pub returns-clause-built_ins : goal.returns-clause-built_ins
 returns-clause-built_ins c =
-    record { print = print_sound; drop_value = drop_sound; forget = forget_sound; boxed = new_box_sound }
+    record {
+      print = print_sound;
+      ask = ask_sound;
+      drop_value = drop_sound;
+      forget = forget_sound;
+      boxed =
+          new_box_sound;
+    }
 
 pub returns-clause-aggregates : goal.returns-clause-aggregates
 returns-clause-aggregates c = record { tuples = tuple_sound; arrays = array_sound }
@@ -61,3 +79,26 @@ returns-clause-jumps c = record { breaking = break_sound; continuing = continue_
 
 pub returns-clause-blocks : goal.returns-clause-blocks
 returns-clause-blocks c = record { evaluated = evaluate_sound; braces = block_sound }
+
+pub returns-clause-patterns : goal.returns-clause-patterns
+returns-clause-patterns c = matcher_sound
+
+pub returns-clause-matches : goal.returns-clause-matches
+returns-clause-matches c =
+    record {
+      if_let = if_let_alone_sound;
+      if_let_or_else = if_let_else_sound;
+      while_let = while_let_sound;
+      arms = arm_sound;
+      matches = match_sound;
+    }
+
+pub returns-clause-calls : goal.returns-clause-calls
+returns-clause-calls c =
+    record {
+      function = function_sound;
+      method = method_sound;
+      closure = closure_call_sound;
+      constructor = constructor_sound;
+      unit_struct = unit_struct_sound;
+    }
