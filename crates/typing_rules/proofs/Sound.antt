@@ -11,6 +11,7 @@ pub mod Gives
 pub mod Interned
 pub mod Jumps
 pub mod Later
+pub mod Lets
 pub mod Literals
 pub mod Matching
 pub mod Methods

@@ -1,5 +1,5 @@
 -- What the rows of forms ask of the checks of a node's parts, and what such checks give.
-use Rattle.std.specs.Prelude.{◌≡◌, ℕ, Bool, true, not, ◌||◌, List, [], ◌∷◌, Option, Some, None, IsTrue, Contains, slice_get, nat_lt}
+use Rattle.std.specs.Prelude.{◌≡◌, ℕ, Bool, true, not, ◌||◌, List, [], ◌∷◌, Option, Some, None, IsTrue, Contains, slice_get, nat_lt, false}
 use Rattle.mir_ty.specs.declared.def.Sig.{Sig}
 use Rattle.mir_ty.specs.declared.def.TraitDef.{TraitDef}
 use Rattle.mir_ty.specs.declared.ty.Ty.{Ty}
@@ -8,14 +8,14 @@ use Rattle.mir_ty.specs.ItemTable.{ItemTable, type_at}
 use Rattle.mir_ty.specs.Parts.{held_by, parts_of, field_ty}
 use Rattle.typed_tree.specs.Tree.{Node, Nodes, no_node, a_node, MaybeNode, absent, present}
 use Rattle.well_typed.specs.Claim.{Claim, Holds}
-use Rattle.well_typed.specs.Nodes.{is_closure_body, is_drop_body, typed, statements, ends_in, arm}
+use Rattle.well_typed.specs.Nodes.{is_closure_body, is_drop_body, typed, statements, ends_in, arm, is_one_name}
 use Rattle.well_typed.specs.Patterns.{Matched, count_of}
 use Rattle.well_typed.specs.Places.{Context, ty_of, form_of, is_place, Wanted, Passed}
 use Rattle.well_typed.specs.Types.{reference_in, is_reference, reference_of, has_fields, inside_in}
 use Rattle.typing_rules.specs.Check.{Check, State}
 use Rattle.typing_rules.specs.Places.{bool, Member, agrees}
-use Rattle.typing_rules.specs.Promises.{IsReady, IsAlone, IsKnown, Gives, Spot, at_spot, Stands, Knows, IsValue, IsBase, Grows}
-use Rattle.typing_rules.specs.Rows.{Method, OfAdt, OfTrait, Referrer, Expected}
+use Rattle.typing_rules.specs.Promises.{IsReady, IsAlone, IsKnown, Gives, Spot, at_spot, Stands, Knows, IsValue, IsBase, Grows, IsPattern}
+use Rattle.typing_rules.specs.Rows.{Method, OfAdt, OfTrait, Referrer, Expected, Matcher}
 use Rattle.typing_rules.specs.Scope.{Env, Entry, Around, with_variables, in_guard}
 
 -- a place of the text
@@ -181,3 +181,27 @@ abbrev pub FindsMethods : (ItemTable → TyId → Option Method) → Type 0
 FindsMethods named = (s : State) (own : TyId) (m : Method) → named s.items own ≡ Some m → IsMethodOf s own m ×
     IsPlainType
     s.items own
+
+-- what a `let` is given: one name takes a value, another pattern takes a place or a temporary apart
+pub record IsInParts (env : Env) (want : Option TyId) (w : State) (n : Node) : Type 0 where
+  pub base : IsBase env w n
+  pub fit : IsTrue (agrees w.items want (ty_of n))
+  pub no_reference : IsTrue (not (is_reference w.items (ty_of n)))
+
+abbrev pub IsInitialiser : Env → Bool → Option TyId → State → MaybeNode → Type 0
+IsInitialiser env is_one_name want w absent = Unit {0}
+IsInitialiser env true want w (present n) = IsValue env want w n
+IsInitialiser env false want w (present n) = IsInParts env want w n
+
+abbrev pub SoundInitialiser : Env → Bool → (Option TyId → Check MaybeNode) → Type 0
+SoundInitialiser env is_one_name value = (want : Option TyId) (s : State) → Knows env s → Gives s (IsInitialiser env
+    is_one_name want) (value want s)
+
+-- a type that may be written
+abbrev pub SoundDeclared : Check (Option TyId) → Type 0
+SoundDeclared check = (s : State) → Gives s (λ w ty. (t : TyId) → ty ≡ Some t → IsAlone w.items t) (check s)
+
+-- a pattern that is one name, or is none
+abbrev pub SoundPattern : Bool → Matcher → Type 0
+SoundPattern is_one check = (e : Expected) (ty : TyId) (s : State) → IsReady s.items ty → Gives s (λ w b. IsPattern e ty
+    s.next_node w b × (is_one_name b.0 ≡ is_one)) (check e ty s)
