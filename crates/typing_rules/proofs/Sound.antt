@@ -22,3 +22,4 @@ pub mod Patterns
 pub mod Places
 pub mod References
 pub mod Scopes
+pub mod Structs

@@ -12,8 +12,8 @@ use Rattle.typed_tree.specs.Tree.{Node, Nodes}
 use Rattle.typing_rules.specs.Check.{Check, State, interned, ◌>>=◌}
 use Rattle.typing_rules.specs.Places.{unit, bool, never, int, variable_place, struct_field, numbered_part}
 use Rattle.typing_rules.specs.Promises.{Grows, Gives, IsKnown, Knows, IsValue, Sound, SoundTemporary, SoundBase, IsReady, IsTemporary, IsPattern, SoundMatcher}
-use Rattle.typing_rules.specs.RowPromises.{IsMade, IsPlace, IsArgument, SoundReferrer, SoundArgs, SoundParts, SoundElements, SoundMaybe, IsLoopOf, SoundStatements, SoundTail, SoundStatement, IsFunction, FindsMethods, IsArm, SoundArms, SoundGuard}
-use Rattle.typing_rules.specs.Rows.{Typer, Referrer, leaf, taken, field, deref, element, not_row, negate, arithmetic, comparison, logic, store, borrow, passed_on, argument, built_in, print_form, drop_form, forget_form, new_box, tuple_row, array_row, block, if_alone, if_else, while_row, break_row, continue_row, return_row, evaluate, Expected, Matcher, Method, literal, ask_form, call, make, if_let_alone, if_let_else, while_let_row, arm, match_row, method_call, closure_call}
+use Rattle.typing_rules.specs.RowPromises.{IsMade, IsPlace, IsArgument, SoundReferrer, SoundArgs, SoundParts, SoundElements, SoundMaybe, IsLoopOf, SoundStatements, SoundTail, SoundStatement, IsFunction, FindsMethods, IsArm, SoundArms, SoundGuard, SoundDeclared, SoundInitialiser, SoundPattern, SoundInits}
+use Rattle.typing_rules.specs.Rows.{Typer, Referrer, leaf, taken, field, deref, element, not_row, negate, arithmetic, comparison, logic, store, borrow, passed_on, argument, built_in, print_form, drop_form, forget_form, new_box, tuple_row, array_row, block, if_alone, if_else, while_row, break_row, continue_row, return_row, evaluate, Expected, Matcher, Method, literal, ask_form, call, make, if_let_alone, if_let_else, while_let_row, arm, match_row, method_call, closure_call, let_row, struct_row, Given}
 use Rattle.typing_rules.specs.Scope.{Env, Entry, Around, within_loop, with_variables}
 use Rattle.typing_rules.specs.Syntax.{Word, Syn}
 use Rattle.mir_ty.specs.declared.adt.Variant.{Variant}
@@ -104,6 +104,11 @@ pub record Aggregates : Type 0 where
   pub tuples : (env : Env) (at : Pos) (count : ℕ) (parts : List (Option TyId) → Check (Nodes × List TyId)) →
       SoundParts env
       parts → SoundTemporary env (tuple_row at count parts)
+  pub structs : (env : Env) (at : Pos) (adt variant : ℕ) (v : Variant) (fields : Check (tree.Fields × Given)) →
+      SoundInits env v
+      fields → (want : Option TyId) (s : State) → variant_at s.items adt variant ≡ Some v → Knows env s → Gives s
+      (IsTemporary
+      env want) (struct_row at adt variant v.fields fields want s)
   pub arrays : (env : Env) (at : Pos) (count : ℕ) (elements : Option TyId → Check (Nodes × List TyId)) → SoundElements
       env
       count elements → SoundTemporary env (array_row at count elements)
@@ -133,6 +138,10 @@ pub record Blocks : Type 0 where
   pub evaluated : (env : Env) (at : Pos) (has_semicolon : Bool) (e : Typer) → Sound env e → SoundStatement env
       (evaluate at
       env has_semicolon e)
+  pub declared : (env : Env) (at : Pos) (is_one : Bool) (written : Check (Option TyId)) (value : Option TyId → Check
+      tree.MaybeNode) (matcher : Matcher) → SoundDeclared written → SoundInitialiser env is_one value → SoundPattern
+      is_one
+      matcher → SoundStatement env (let_row at env is_one written value matcher (λ xs. with_variables xs env))
   pub braces : (env : Env) (at : Pos) (check : Check (Nodes × Bool × Env)) (tail : Env → Option TyId → Check
       tree.MaybeNode) →
       SoundStatements env check → SoundTail env tail → SoundTemporary env (block at check tail)

@@ -6,7 +6,7 @@ use Rattle.mir_ty.specs.declared.ty.Ty.{Ty}
 use Rattle.mir_ty.specs.declared.ty.TyId.{TyId}
 use Rattle.mir_ty.specs.ItemTable.{ItemTable, type_at}
 use Rattle.mir_ty.specs.Parts.{held_by, parts_of, field_ty}
-use Rattle.typed_tree.specs.Tree.{Node, Nodes, no_node, a_node, MaybeNode, absent, present}
+use Rattle.typed_tree.specs.Tree.{Node, Nodes, no_node, a_node, MaybeNode, absent, present, Fields, no_field, a_field}
 use Rattle.well_typed.specs.Claim.{Claim, Holds}
 use Rattle.well_typed.specs.Nodes.{is_closure_body, is_drop_body, typed, statements, ends_in, arm, is_one_name}
 use Rattle.well_typed.specs.Patterns.{Matched, count_of}
@@ -15,8 +15,9 @@ use Rattle.well_typed.specs.Types.{reference_in, is_reference, reference_of, has
 use Rattle.typing_rules.specs.Check.{Check, State}
 use Rattle.typing_rules.specs.Places.{bool, Member, agrees}
 use Rattle.typing_rules.specs.Promises.{IsReady, IsAlone, IsKnown, Gives, Spot, at_spot, Stands, Knows, IsValue, IsBase, Grows, IsPattern}
-use Rattle.typing_rules.specs.Rows.{Method, OfAdt, OfTrait, Referrer, Expected, Matcher}
+use Rattle.typing_rules.specs.Rows.{Method, OfAdt, OfTrait, Referrer, Expected, Matcher, Given}
 use Rattle.typing_rules.specs.Scope.{Env, Entry, Around, with_variables, in_guard}
+use Rattle.mir_ty.specs.declared.adt.Variant.{Variant}
 
 -- a place of the text
 pub record IsPlace (env : Env) (w : State) (n : Node) : Type 0 where
@@ -205,3 +206,17 @@ SoundDeclared check = (s : State) → Gives s (λ w ty. (t : TyId) → ty ≡ So
 abbrev pub SoundPattern : Bool → Matcher → Type 0
 SoundPattern is_one check = (e : Expected) (ty : TyId) (s : State) → IsReady s.items ty → Gives s (λ w b. IsPattern e ty
     s.next_node w b × (is_one_name b.0 ≡ is_one)) (check e ty s)
+
+-- values for fields by their names, none known where there is no such field
+abbrev pub AreInits : Env → Variant → State → Fields → Given → Type 0
+AreInits env v w no_field [] = Unit {0}
+AreInits env v w no_field (k ∷ given) = ⊥
+AreInits env v w (a_field number value rest) [] = ⊥
+AreInits env v w (a_field number value rest) (None ∷ given) = AreInits env v w rest given
+AreInits env v w (a_field number value rest) (Some n ∷ given) =
+    ((number ≡ n) × ((ty : TyId) × (slice_get v.fields n ≡ Some ty) × IsValue env (Some ty) w value)) × AreInits env v
+    w rest
+    given
+
+abbrev pub SoundInits : Env → Variant → Check (Fields × Given) → Type 0
+SoundInits env v check = (s : State) → Knows env s → Gives s (λ w fs. AreInits env v w fs.0 fs.1) (check s)

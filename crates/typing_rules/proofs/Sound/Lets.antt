@@ -1,5 +1,5 @@
 -- `let`.
-use Rattle.std.proofs.Common.{◌≡◌, ℕ, zero, suc, ◌≤◌, Bool, true, false, ◌&&◌, ◌||◌, not, if◌then◌else◌, List, [], ◌∷◌, ◌++◌, Option, Some, None, IsTrue, ◌⊎◌, inl, inr, refl, ap, sym, subst, ◌∙◌, arith}
+use Rattle.std.proofs.Common.{◌≡◌, ℕ, Bool, true, false, ◌&&◌, ◌||◌, not, if◌then◌else◌, List, Option, Some, None, IsTrue, refl, ap, sym, subst, arith}
 use Rattle.std.proofs.lemmas.Option.{none-some, same_Some}
 use Rattle.mir_base.specs.declared.place_in_text.Pos.{Pos}
 use Rattle.mir_base.specs.declared.rule.Rule.{Rule}
@@ -7,32 +7,34 @@ use Rattle.mir_ty.specs.declared.ty.TyId.{TyId}
 use Rattle.mir_ty.specs.ItemTable.{ItemTable}
 use Rattle.typed_tree.specs.Tree as tree
 use Rattle.typed_tree.specs.Tree.{Node, node, Nodes, MaybeNode, absent, present}
-use Rattle.well_typed.specs.Claim.{Claim, Holds, fact, both}
+use Rattle.well_typed.specs.Claim.{Holds}
 use Rattle.well_typed.specs.Nodes as well
 use Rattle.well_typed.specs.Nodes.{typed, statements, statement, is_one_name, ends_in}
-use Rattle.well_typed.specs.Patterns.{Matched, pattern, entries_of, names_of}
-use Rattle.well_typed.specs.Places.{Context, ty_of, may_move, with_entries, Base, Wanted}
-use Rattle.well_typed.specs.Types.{fits, is_same, is_never, is_never_ty, is_reference, is_unit}
+use Rattle.well_typed.specs.Patterns.{Matched, pattern}
+use Rattle.well_typed.specs.Places.{Context, ty_of, with_entries, Base, Wanted}
+use Rattle.well_typed.specs.Types.{fits, is_never_ty, is_unit}
 use Rattle.well_typed.proofs.ClaimLemmas.{and_true}
 use Rattle.typing_rules.specs.Check.{Check, State}
-use Rattle.typing_rules.specs.Places.{unit, agrees, is_fixed, in_own_guard}
-use Rattle.typing_rules.specs.Promises.{Extends, IsReady, IsAlone, AreReady, Grows, Fact, Gives, Spot, at_spot, Stands, Knows, IsValue, IsBase, are_bound, IsPattern}
-use Rattle.typing_rules.specs.RowPromises.{IsStatement, SoundStatement, IsInParts, IsInitialiser, SoundInitialiser, SoundDeclared, SoundPattern}
+use Rattle.typing_rules.specs.Places.{unit, agrees}
+use Rattle.typing_rules.specs.Promises.{IsReady, IsAlone, Grows, Spot, at_spot, Stands, are_bound, IsPattern}
+use Rattle.typing_rules.specs.RowPromises.{SoundStatement, IsInitialiser, SoundInitialiser, SoundDeclared, SoundPattern}
 use Rattle.typing_rules.specs.Rows as rules
 use Rattle.typing_rules.specs.Rows.{Matcher, Expected, expected, let_row, let_ty, of_value, ends_by}
 use Rattle.typing_rules.specs.Scope.{Env, Entry, with_variables}
 use Rattle.typing_rules.proofs.Sound.Branches.{unit_is}
-use Rattle.typing_rules.proofs.Sound.Fitted.{same_self, fits_self}
-use Rattle.typing_rules.proofs.Sound.Gives.{◌⋆◌, bind, with_ready, given, found, after_number, numbered, grows_trans, grows_refl, grows_number, knows_later, knows_number}
-use Rattle.typing_rules.proofs.Sound.Later.{alone_later, alone_ready, alone_no_reference, agrees_later, same_is}
+use Rattle.typing_rules.proofs.Sound.Fitted.{fits_self}
+use Rattle.typing_rules.proofs.Sound.Gives.{◌⋆◌, bind, given, found, after_number, numbered, grows_trans, grows_refl, knows_later, knows_number}
+use Rattle.typing_rules.proofs.Sound.Later.{alone_ready, alone_no_reference, same_is}
 use Rattle.typing_rules.proofs.Sound.Operators.{same_id, as_wanted}
 use Rattle.typing_rules.proofs.Sound.Scopes.{behind, bound_stands, knows_bound}
 
 -- the type of a node that a pattern gives
-pattern_type : (items : ItemTable) (place : Matched) (ty : TyId) (p : Node) → Holds (pattern items place ty p) → ty ≡ ty_of p
+pattern_type : (items : ItemTable) (place : Matched) (ty : TyId) (p : Node) → Holds (pattern items place ty p) → ty ≡
+    ty_of p
 pattern_type items place ty (node id at t by form) h = sym (same_id t ty h.0)
 
-as_base : (c : Context) (one : Bool) (p n : Node) → is_one_name p ≡ one → Holds (if one then typed c (Wanted (ty_of p)) n else
+as_base : (c : Context) (one : Bool) (p n : Node) → is_one_name p ≡ one → Holds (if one then typed c (Wanted (ty_of
+    p)) n else
     typed c Base n) → Holds (typed c (well.as_initialiser p) n)
 as_base c true p n e h =
     subst (λ b. Holds (typed c (if b then Wanted (ty_of p) else Base) n)) (sym e) h
@@ -40,7 +42,8 @@ as_base c false p n e h =
     subst (λ b. Holds (typed c (if b then Wanted (ty_of p) else Base) n)) (sym e) h
 
 -- the type of what is bound is ready
-ty_ready : (env : Env) (one : Bool) (declared : Option TyId) (t : State) (v : MaybeNode) (ty : TyId) → let_ty declared v ≡ Some
+ty_ready : (env : Env) (one : Bool) (declared : Option TyId) (t : State) (v : MaybeNode) (ty : TyId) → let_ty declared
+    v ≡ Some
     ty → ((u : TyId) → declared ≡ Some u → IsAlone t.items u) → IsInitialiser env one declared t v → IsReady t.items ty
 ty_ready env one (Some u) t v ty h alone is =
     alone_ready t.items ty (alone ty h)
@@ -51,42 +54,51 @@ ty_ready env false None t (present n) ty h alone is =
     subst (IsReady t.items) (same_Some (ty_of n) ty h) is.base.ready
 
 -- and the value fits it
-value_fits : (items : ItemTable) (declared : Option TyId) (n : Node) (ty : TyId) → let_ty declared (present n) ≡ Some ty →
+value_fits : (items : ItemTable) (declared : Option TyId) (n : Node) (ty : TyId) → let_ty declared (present n) ≡ Some
+    ty →
     IsTrue (agrees items declared (ty_of n)) → IsTrue (fits items ty (ty_of n))
 value_fits items (Some u) n ty h fit_ = subst (λ x. IsTrue (fits items x (ty_of n))) (same_Some u ty h) fit_
 value_fits items None n ty h fit_ =
     subst (λ x. IsTrue (fits items x (ty_of n))) (same_Some (ty_of n) ty h) (fits_self items (ty_of n))
 
 -- what a statement is, apart from what is behind it
-let_holds : (env : Env) (one : Bool) (declared : Option TyId) (t w : State) (v : MaybeNode) (ty : TyId) (n : ℕ) (b : Node × List
-    Entry) → Grows t w → let_ty declared v ≡ Some ty → IsInitialiser env one declared t v → IsInitialiser env one declared w v
-    → IsPattern (of_value env one v t.items) ty n w b → is_one_name b.0 ≡ one → (p : Spot) → Stands env w p → Holds (statement
+let_holds : (env : Env) (one : Bool) (declared : Option TyId) (t w : State) (v : MaybeNode) (ty : TyId) (n : ℕ) (b :
+    Node × List
+    Entry) → Grows t w → let_ty declared v ≡ Some ty → IsInitialiser env one declared t v → IsInitialiser env one
+    declared w v
+    → IsPattern (of_value env one v t.items) ty n w b → is_one_name b.0 ≡ one → (p : Spot) → Stands env w p → Holds
+    (statement
     (at_spot w.items env.answer p) (tree.Let b.0 v))
 let_holds env one declared t w absent ty n b g is_ty now later is is_one p stands =
     let holds = is.holds well.whole refl (λ h. refl) in
-    is.names ⋆ subst (λ x. Holds (pattern w.items well.whole x b.0)) (pattern_type w.items well.whole ty b.0 holds) holds
+    is.names ⋆ subst (λ x. Holds (pattern w.items well.whole x b.0)) (pattern_type w.items well.whole ty b.0 holds)
+    holds
 let_holds env true declared t w (present m) ty n b g is_ty now later is is_one p stands =
     let holds = is.holds well.whole refl (λ h. refl) in
     let same = pattern_type w.items well.whole ty b.0 holds in
     let c = at_spot w.items env.answer p in
     let fit_ = subst (λ x. IsTrue (fits w.items x (ty_of m))) same (value_fits w.items declared m ty is_ty later.fit) in
     as_base c true b.0 m is_one (as_wanted c (ty_of b.0) m (later.holds p stands) fit_) ⋆ is.names ⋆
-    subst (λ x. Holds (pattern w.items (if x then well.whole else well.matched_in true c m) (ty_of b.0) b.0)) (sym is_one)
+    subst (λ x. Holds (pattern w.items (if x then well.whole else well.matched_in true c m) (ty_of b.0) b.0)) (sym
+    is_one)
     (subst (λ x. Holds (pattern w.items well.whole x b.0)) same holds) ⋆
     and_true (fits w.items (ty_of b.0) (ty_of m)) _ fit_ (alone_no_reference w.items (ty_of m) later.alone)
 let_holds env false declared t w (present m) ty n b g is_ty now later is is_one p stands =
     let c = at_spot w.items env.answer p in
     let place = well.matched_in true c m in
-    let holds = is.holds place refl (λ h. later.base.moves p stands (subst (λ x. IsTrue (not x)) (sym (now.base.is_fixed w g))
+    let holds = is.holds place refl (λ h. later.base.moves p stands (subst (λ x. IsTrue (not x)) (sym
+    (now.base.is_fixed w g))
     h)) in
     let same = pattern_type w.items place ty b.0 holds in
     let fit_ = subst (λ x. IsTrue (fits w.items x (ty_of m))) same (value_fits w.items declared m ty is_ty later.fit) in
     as_base c false b.0 m is_one (later.base.holds p stands) ⋆ is.names ⋆
-    subst (λ x. Holds (pattern w.items (if x then well.whole else place) (ty_of b.0) b.0)) (sym is_one) (subst (λ x. Holds
+    subst (λ x. Holds (pattern w.items (if x then well.whole else place) (ty_of b.0) b.0)) (sym is_one) (subst (λ x.
+    Holds
     (pattern w.items place x b.0)) same holds) ⋆
     and_true (fits w.items (ty_of b.0) (ty_of m)) _ fit_ later.no_reference
 
-value_ready : (env : Env) (one : Bool) (declared : Option TyId) (t : State) (n : Node) → IsInitialiser env one declared t
+value_ready : (env : Env) (one : Bool) (declared : Option TyId) (t : State) (n : Node) → IsInitialiser env one
+    declared t
     (present n) → IsReady t.items (ty_of n)
 value_ready env true declared t n is = alone_ready t.items (ty_of n) is.alone
 value_ready env false declared t n is = is.base.ready
@@ -100,25 +112,29 @@ let_ends env one declared u w absent p g is = refl
 let_ends env one declared u w (present n) p g is =
     λ i. same_is g.items is_never_ty (ty_of n) (value_ready env one declared u n is) i && not (unused_same n i)
 
-pub let_sound : (env : Env) (at : Pos) (one : Bool) (written : Check (Option TyId)) (value : Option TyId → Check MaybeNode)
-    (matcher : Matcher) → SoundDeclared written → SoundInitialiser env one value → SoundPattern one matcher → SoundStatement env
+pub let_sound : (env : Env) (at : Pos) (one : Bool) (written : Check (Option TyId)) (value : Option TyId → Check
+    MaybeNode)
+    (matcher : Matcher) → SoundDeclared written → SoundInitialiser env one value → SoundPattern one matcher →
+    SoundStatement env
     (let_row at env one written value matcher (λ xs. with_variables xs env))
 let_sound env at one written value matcher good_w good_v good_m s k =
     after_number (bind (good_w (numbered s)) λ declared t g d.
     bind (good_v declared t (knows_later env g (knows_number env k))) λ v u h e.
     found Rule.T16 at (let_ty declared v) _ λ ty is_ty.
-    bind (good_m (of_value env one v u.items) ty u (ty_ready env one declared u v ty is_ty (λ x is. d u h x is) (e u (grows_refl
+    bind (good_m (of_value env one v u.items) ty u (ty_ready env one declared u v ty is_ty (λ x is. d u h x is) (e u
+    (grows_refl
     u)))) λ b x i f.
     given _ λ ready w l.
     let on = grows_trans i l in
     let is = f w l in
-    let ku = knows_later env (grows_trans g h) (knows_number env k) in
-    (
+    let ku = knows_later env (grows_trans g h) (knows_number env k) in (
       record {
         holds = λ p stands rest behind_ then_.
             and_true true (is_unit w.items unit) refl (unit_is w.items (l.ready ready)) ⋆
-            let_holds env one declared u w v ty u.next_node b on is_ty (e u (grows_refl u)) (e w on) is.0 is.1 p stands ⋆
-            subst (λ es. Holds (statements (with_entries es (at_spot w.items env.answer p)) rest behind_)) (sym is.0.entries)
+            let_holds env one declared u w v ty u.next_node b on is_ty (e u (grows_refl u)) (e w on) is.0 is.1 p
+            stands ⋆
+            subst (λ es. Holds (statements (with_entries es (at_spot w.items env.answer p)) rest behind_)) (sym
+            is.0.entries)
             (then_ (behind (are_bound false b.1) p) (bound_stands env u w p u.next_node w.next_node b.1 ku (omega arith)
             is.0.fresh stands));
         ends = λ rest. ap (λ c. c || ends_in w.items rest) (let_ends env one declared x w v b.0 l (e x i));

@@ -129,7 +129,8 @@ adt_made items all adt =
     }
 
 -- a struct or a variant with these fields
-make_row : (c : Context) (ty : TyId) (id adt variant : ℕ) (v : Variant) (fields : Fields) → type_at c.items ty ≡ Some
+pub make_row : (c : Context) (ty : TyId) (id adt variant : ℕ) (v : Variant) (fields : Fields) → type_at c.items ty ≡
+    Some
     (Ty.Adt
     adt) → variant_at c.items adt variant ≡ Some v → IsTrue (are_distinct_numbers (field_numbers fields) && length
     (field_numbers fields) == length v.fields) → Holds (made_fields c v.fields fields) → Holds (row c id ty (tree.Make
@@ -140,7 +141,8 @@ make_row c ty id adt variant v fields is at numbers holds =
     subst (λ o. Holds (some o (λ (u : Variant). both (fact (are_distinct_numbers (field_numbers fields) && length
     (field_numbers fields) == length u.fields)) (made_fields c u.fields fields)))) (sym at) (numbers ⋆ holds)
 
-variant_later : {old new : ItemTable} → Extends old new → (adt variant : ℕ) → variant_at new adt variant ≡ variant_at
+pub variant_later : {old new : ItemTable} → Extends old new → (adt variant : ℕ) → variant_at new adt variant ≡
+    variant_at
     old adt
     variant
 variant_later e adt variant =

@@ -1,3 +1,5 @@
+use Rattle.typing_rules.proofs.Sound.Lets.{let_sound}
+use Rattle.typing_rules.proofs.Sound.Structs.{struct_sound}
 use Rattle.typing_rules.proofs.Sound.AllPatterns.{matcher_sound}
 use Rattle.typing_rules.proofs.Sound.Literals.{literal_sound}
 use Rattle.typing_rules.proofs.Sound.Matching.{if_let_alone_sound, if_let_else_sound, while_let_sound, arm_sound, match_sound}
@@ -69,7 +71,7 @@ returns-clause-built_ins c =
     }
 
 pub returns-clause-aggregates : goal.returns-clause-aggregates
-returns-clause-aggregates c = record { tuples = tuple_sound; arrays = array_sound }
+returns-clause-aggregates c = record { tuples = tuple_sound; structs = struct_sound; arrays = array_sound }
 
 pub returns-clause-branches : goal.returns-clause-branches
 returns-clause-branches c = record { alone = if_alone_sound; with_else = if_else_sound; while_loop = while_sound }
@@ -78,7 +80,7 @@ pub returns-clause-jumps : goal.returns-clause-jumps
 returns-clause-jumps c = record { breaking = break_sound; continuing = continue_sound; returning = return_sound }
 
 pub returns-clause-blocks : goal.returns-clause-blocks
-returns-clause-blocks c = record { evaluated = evaluate_sound; braces = block_sound }
+returns-clause-blocks c = record { evaluated = evaluate_sound; declared = let_sound; braces = block_sound }
 
 pub returns-clause-patterns : goal.returns-clause-patterns
 returns-clause-patterns c = matcher_sound
