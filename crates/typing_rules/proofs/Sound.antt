@@ -23,3 +23,4 @@ pub mod Places
 pub mod References
 pub mod Scopes
 pub mod Structs
+pub mod Written

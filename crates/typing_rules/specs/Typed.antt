@@ -111,15 +111,15 @@ passed at by_value (Some x) want is_unique to = do
 -- ---- statements
 
 -- a lone name of a struct is no binding
-abbrev names_struct : ItemTable → Option ℕ → Bool
+abbrev pub names_struct : ItemTable → Option ℕ → Bool
 names_struct items None = false
 names_struct items (Some adt) = not (is_enum items adt)
 
 abbrev mutual
-  is_one_name : ItemTable → Syn → Bool
+  pub is_one_name : ItemTable → Syn → Bool
   is_one_name items (syn at form) = is_one_name_form items form
 
-  is_one_name_form : ItemTable → Shape → Bool
+  pub is_one_name_form : ItemTable → Shape → Bool
   is_one_name_form items (BindPattern name) = not (names_struct items (adt_named items name))
   is_one_name_form items (ParensPattern inside) = is_one_name items inside
   is_one_name_form items _ = false

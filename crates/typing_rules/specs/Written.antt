@@ -11,11 +11,11 @@ use Rattle.typing_rules.specs.Check.{Check, State, Broken, ◌>>=◌, ◌>>◌, 
 use Rattle.typing_rules.specs.Places.{unit, bool, never, int}
 use Rattle.typing_rules.specs.Syntax.{Word, Syn, syn, Shape, NamedType, GenericType, DynType, SelfType, ParensType, TupleType, ArrayType, NeverType, RefType, Syns, no_syn, a_syn}
 
-abbrev scalar_among : List (Word × TyId) → Word → Option TyId
+abbrev pub scalar_among : List (Word × TyId) → Word → Option TyId
 scalar_among [] name = None
 scalar_among (x ∷ xs) name = if bytes_eq x.0 name then Some x.1 else scalar_among xs name
 
-abbrev scalar_named : Word → Option TyId
+abbrev pub scalar_named : Word → Option TyId
 scalar_named = scalar_among ((codes "i32", int IntKind.I32) ∷ (codes "i64", int IntKind.I64) ∷
     (codes "u32", int IntKind.U32) ∷ (codes "u64", int IntKind.U64) ∷ (codes "usize", int IntKind.Usize) ∷
     (codes "bool", bool) ∷ [])
@@ -23,22 +23,22 @@ scalar_named = scalar_among ((codes "i32", int IntKind.I32) ∷ (codes "i64", in
 abbrev pub is_box : Word → Bool
 is_box name = bytes_eq name (codes "Box")
 
-abbrev named_by : Pos → Option ℕ → Option TyId → Check TyId
+abbrev pub named_by : Pos → Option ℕ → Option TyId → Check TyId
 named_by at adt (Some ty) = pure ty
 named_by at adt None = do
   n ← known Rule.T01 at adt
   interned (Ty.Adt n)
 
-abbrev tuple_by : List TyId → Check TyId
+abbrev pub tuple_by : List TyId → Check TyId
 tuple_by [] = pure unit
 tuple_by (ty ∷ tys) = interned (Ty.Tuple (ty ∷ tys))
 
-abbrev is_usize : Option IntKind → Bool
+abbrev pub is_usize : Option IntKind → Bool
 is_usize None = true
 is_usize (Some IntKind.Usize) = true
 is_usize (Some _) = false
 
-abbrev reference_to : Bool → TyId → Ty
+abbrev pub reference_to : Bool → TyId → Ty
 reference_to unique to = if unique then Ty.Unique to else Ty.Shared to
 
 -- All rules, or those on names alone; the struct or enum that `Self` is; the names of structs and enums, and of traits.
@@ -56,7 +56,7 @@ module _ (around : Around) where
     pub written : Syn → Check TyId
     written (syn at form) = written_form at form
 
-    written_form : Pos → Shape → Check TyId
+    pub written_form : Pos → Shape → Check TyId
     written_form at (NamedType name) = named_by at (number_of around.adts name) (scalar_named name)
     written_form at (GenericType name content) = do
       obeys Rule.T01 at (is_box name)
@@ -88,7 +88,7 @@ module _ (around : Around) where
       interned (reference_to unique ty)
     written_form at _ = breaks Rule.T20 at
 
-    all_written : Syns → Check (List TyId)
+    pub all_written : Syns → Check (List TyId)
     all_written no_syn = pure []
     all_written (a_syn first rest) = do
       ty ← written first
@@ -100,7 +100,7 @@ module _ (around : Around) where
     pub written_param : Syn → Check TyId
     written_param (syn at form) = written_param_form at form
 
-    written_param_form : Pos → Shape → Check TyId
+    pub written_param_form : Pos → Shape → Check TyId
     written_param_form at (ParensType inside) = written_param inside
     written_param_form at (RefType unique to) = do
       ty ← written to
@@ -108,7 +108,7 @@ module _ (around : Around) where
     written_param_form at form = written_form at form
 
 -- a type that breaks a rule stands as `()`
-abbrev or_unit_in : State → Result (TyId × State) Broken → Result (TyId × State) Broken
+abbrev pub or_unit_in : State → Result (TyId × State) Broken → Result (TyId × State) Broken
 or_unit_in s (Ok a) = Ok a
 or_unit_in s (Err e) = Ok (unit, s)
 

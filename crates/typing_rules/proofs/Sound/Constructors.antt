@@ -170,7 +170,7 @@ of_one : (xs : List TyId) (b : Bool) (n : ℕ) (ty : TyId) → slice_get (if b t
 of_one xs true n ty h = h
 of_one xs false n ty h = absurd (none-some ty h)
 
-tuple_made : (items : ItemTable) (tys : List TyId) → ((n : ℕ) (ty : TyId) → slice_get tys n ≡ Some ty → IsAlone items
+pub tuple_made : (items : ItemTable) (tys : List TyId) → ((n : ℕ) (ty : TyId) → slice_get tys n ≡ Some ty → IsAlone items
     ty) →
     IsMade items (Ty.Tuple tys)
 tuple_made items tys alone =
@@ -347,7 +347,7 @@ elements_fit env ty w (a_node first rest) (t ∷ tys) are =
     and_true (fits w.items ty t) (list_all (fits w.items ty) tys) (subst (λ u. IsTrue (fits w.items ty u)) (sym are.0.1)
     are.0.0.fit) (elements_fit env ty w rest tys are.1)
 
-array_made : (items : ItemTable) (ty : TyId) (count : ℕ) → IsAlone items ty → IsMade items (Ty.Array ty count)
+pub array_made : (items : ItemTable) (ty : TyId) (count : ℕ) → IsAlone items ty → IsMade items (Ty.Array ty count)
 array_made items ty count alone =
     record {
       held = λ part has. by part has;
