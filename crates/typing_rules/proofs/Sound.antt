@@ -16,6 +16,7 @@ pub mod Literals
 pub mod Matching
 pub mod Methods
 pub mod Named
+pub mod OneName
 pub mod Operators
 pub mod Parts
 pub mod Patterns

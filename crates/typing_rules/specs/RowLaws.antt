@@ -11,18 +11,20 @@ use Rattle.typed_tree.specs.Tree as tree
 use Rattle.typed_tree.specs.Tree.{Node, Nodes}
 use Rattle.typing_rules.specs.Check.{Check, State, interned, ◌>>=◌}
 use Rattle.typing_rules.specs.Places.{unit, bool, never, int, variable_place, struct_field, numbered_part}
-use Rattle.typing_rules.specs.Promises.{Grows, Gives, IsKnown, Knows, IsValue, Sound, SoundTemporary, SoundBase, IsReady, IsTemporary, IsPattern, SoundMatcher}
+use Rattle.typing_rules.specs.Promises.{Grows, Gives, IsKnown, Knows, IsValue, Sound, SoundTemporary, SoundBase, IsReady, IsTemporary, IsPattern, SoundMatcher, IsAlone}
 use Rattle.typing_rules.specs.RowPromises.{IsMade, IsPlace, IsArgument, SoundReferrer, SoundArgs, SoundParts, SoundElements, SoundMaybe, IsLoopOf, SoundStatements, SoundTail, SoundStatement, IsFunction, FindsMethods, IsArm, SoundArms, SoundGuard, SoundDeclared, SoundInitialiser, SoundPattern, SoundInits}
 use Rattle.typing_rules.specs.Rows.{Typer, Referrer, leaf, taken, field, deref, element, not_row, negate, arithmetic, comparison, logic, store, borrow, passed_on, argument, built_in, print_form, drop_form, forget_form, new_box, tuple_row, array_row, block, if_alone, if_else, while_row, break_row, continue_row, return_row, evaluate, Expected, Matcher, Method, literal, ask_form, call, make, if_let_alone, if_let_else, while_let_row, arm, match_row, method_call, closure_call, let_row, struct_row, Given}
 use Rattle.typing_rules.specs.Scope.{Env, Entry, Around, within_loop, with_variables}
 use Rattle.typing_rules.specs.Syntax.{Word, Syn}
 use Rattle.mir_ty.specs.declared.adt.Variant.{Variant}
 use Rattle.mir_ty.specs.declared.def.Sig.{Sig}
-use Rattle.well_typed.specs.Nodes.{is_drop_body}
+use Rattle.well_typed.specs.Nodes.{is_drop_body, is_one_name}
 use Rattle.well_typed.specs.Types.{variant_at}
 use Rattle.typing_rules.specs.Named.{Makes}
 use Rattle.typing_rules.specs.Patterns.{pattern}
+use Rattle.typing_rules.specs.Typed as typing
 use Rattle.typing_rules.specs.Typed.{makes_unit}
+use Rattle.typing_rules.specs.Written as types
 
 -- a type gets one number, and all types stay what they are
 abbrev pub TypesAreKept : Type 0
@@ -146,9 +148,18 @@ pub record Blocks : Type 0 where
       tree.MaybeNode) →
       SoundStatements env check → SoundTail env tail → SoundTemporary env (block at check tail)
 
--- each pattern, of whatever form
-abbrev pub PatternsAreSound : Type 0
-PatternsAreSound = (env : Env) (p : Syn) → SoundMatcher (λ e ty. pattern env e ty p [])
+-- a type that is written may stand alone
+abbrev pub WrittenTypes : Type 0
+WrittenTypes = (around : types.Around) → around.has_limits ≡ true → (ty : Syn) (s : State) → Gives s (λ w t. IsAlone
+    w.items t)
+    (types.written around ty s)
+
+-- each pattern, of whatever form; it is one name as it is typed where it is one as it is written
+pub record Patterns : Type 0 where
+  pub well_typed : (env : Env) (p : Syn) → SoundMatcher (λ e ty. pattern env e ty p [])
+  pub one_name : (env : Env) (p : Syn) (e : Expected) (ty : TyId) (s : State) → IsReady s.items ty → Gives s (λ w b.
+      IsPattern e
+      ty s.next_node w b × (is_one_name b.0 ≡ typing.is_one_name s.items p)) (pattern env e ty p [] s)
 
 pub record Matches : Type 0 where
   pub if_let : (env : Env) (at : Pos) (scrutinee : Check Node) (matcher : Matcher) (body : List Entry → Typer) →

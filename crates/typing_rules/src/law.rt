@@ -1,6 +1,6 @@
 //! What is proved of the rules, as clauses of functions without parameters.
 ghost use Rattle.typing_rules.specs.Replaced.{RoundsFindTheLeast};
-ghost use Rattle.typing_rules.specs.RowLaws.{TypesAreKept, Leaves, Operators, Places, Arguments, BuiltIns, Aggregates, Branches, Jumps, Blocks, PatternsAreSound, Matches, Calls};
+ghost use Rattle.typing_rules.specs.RowLaws.{TypesAreKept, Leaves, Operators, Places, Arguments, BuiltIns, Aggregates, Branches, Jumps, Blocks, Patterns, WrittenTypes, Matches, Calls};
 
 /// The `&mut` parameters that a call may replace as a whole, which are found in rounds, are exactly the least set
 /// such that a parameter is in it where its body stores into exactly what it names, or passes it on for a parameter
@@ -23,7 +23,8 @@ pub fn law_of_rows()
     ensures branches { Branches }
     ensures jumps { Jumps }
     ensures blocks { Blocks }
-    ensures patterns { PatternsAreSound }
+    ensures patterns { Patterns }
+    ensures written { WrittenTypes }
     ensures matches { Matches }
     ensures calls { Calls }
 {}

@@ -170,7 +170,8 @@ of_one : (xs : List TyId) (b : Bool) (n : ℕ) (ty : TyId) → slice_get (if b t
 of_one xs true n ty h = h
 of_one xs false n ty h = absurd (none-some ty h)
 
-pub tuple_made : (items : ItemTable) (tys : List TyId) → ((n : ℕ) (ty : TyId) → slice_get tys n ≡ Some ty → IsAlone items
+pub tuple_made : (items : ItemTable) (tys : List TyId) → ((n : ℕ) (ty : TyId) → slice_get tys n ≡ Some ty → IsAlone
+    items
     ty) →
     IsMade items (Ty.Tuple tys)
 tuple_made items tys alone =

@@ -78,7 +78,8 @@ used_shared c by (node id at ty old form) = so (is_place form) ∙ behind_same c
 
 -- ---- references
 
-pub reference_made : (items : ItemTable) (unique : Bool) (to : TyId) → IsReady items to → IsTrue (not (is_reference items
+pub reference_made : (items : ItemTable) (unique : Bool) (to : TyId) → IsReady items to → IsTrue (not (is_reference
+    items
     to))
     → IsMade items (reference_ty unique to)
 reference_made items true to ready no_reference =

@@ -1,5 +1,5 @@
 -- Types as they are written may stand alone; those of parameters may be references too.
-use Rattle.std.proofs.Common.{◌≡◌, ℕ, zero, suc, Bool, true, false, ◌||◌, not, nat_le, if◌then◌else◌, List, [], ◌∷◌, length, slice_get, Option, Some, None, IsTrue, refl, ap, sym, subst, ◌∙◌, arith}
+use Rattle.std.proofs.Common.{◌≡◌, ℕ, zero, suc, Bool, true, false, ◌||◌, not, nat_le, if◌then◌else◌, List, [], ◌∷◌, length, slice_get, Option, Some, None, IsTrue, refl, sym, subst, arith}
 use Rattle.std.specs.Prelude.{option_and_then, is_some, codes}
 use Rattle.std.specs.Str.{bytes_eq}
 use Rattle.std.proofs.lemmas.Option.{none-some, same_Some}
@@ -8,11 +8,11 @@ use Rattle.mir_base.specs.declared.place_in_text.Pos.{Pos}
 use Rattle.mir_base.specs.declared.rule.Rule.{Rule}
 use Rattle.mir_ty.specs.declared.ty.Ty.{Ty}
 use Rattle.mir_ty.specs.declared.ty.TyId.{TyId}
-use Rattle.mir_ty.specs.ItemTable.{ItemTable, type_at}
-use Rattle.well_typed.specs.Types.{is_reference, reference_in, is_dyn}
-use Rattle.typing_rules.specs.Check.{Check, State, interned}
+use Rattle.mir_ty.specs.ItemTable.{ItemTable}
+use Rattle.well_typed.specs.Types.{is_reference, reference_in}
+use Rattle.typing_rules.specs.Check.{State, interned}
 use Rattle.typing_rules.specs.Places.{int, bool}
-use Rattle.typing_rules.specs.Promises.{IsReady, IsAlone, AreReady, Grows, Gives}
+use Rattle.typing_rules.specs.Promises.{IsReady, IsAlone, AreReady, Gives}
 use Rattle.typing_rules.specs.RowPromises.{IsMade}
 use Rattle.typing_rules.specs.Syntax.{Word, Syn, syn, Shape, NamedType, GenericType, DynType, SelfType, ParensType, TupleType, ArrayType, NeverType, RefType, Syns, no_syn, a_syn}
 use Rattle.typing_rules.specs.Written as rules
@@ -23,11 +23,11 @@ use Rattle.typing_rules.proofs.Sound.Interned.{interned_sound}
 use Rattle.typing_rules.proofs.Sound.Later.{alone_later, alone_ready, alone_no_reference}
 use Rattle.typing_rules.proofs.Sound.Named.{adt_made}
 use Rattle.typing_rules.proofs.Sound.Operators.{unit_ready, bool_ready, never_ready, int_ready}
-use Rattle.typing_rules.proofs.Sound.References.{reference_made}
 
 -- ---- scalars
 
-among_alone : (items : ItemTable) (xs : List (Word × TyId)) → ((n : ℕ) (x : Word × TyId) → slice_get xs n ≡ Some x → IsAlone
+among_alone : (items : ItemTable) (xs : List (Word × TyId)) → ((n : ℕ) (x : Word × TyId) → slice_get xs n ≡ Some x →
+    IsAlone
     items x.1) → (name : Word) (ty : TyId) → rules.scalar_among xs name ≡ Some ty → IsAlone items ty
 among_alone items [] each name ty h = absurd (none-some ty h)
 among_alone items (x ∷ xs) each name ty h =
@@ -40,16 +40,21 @@ among_alone items (x ∷ xs) each name ty h =
 
 abbrev names : List (Word × TyId)
 names =
-    (codes "i32", int IntKind.I32) ∷ (codes "i64", int IntKind.I64) ∷ (codes "u32", int IntKind.U32) ∷ (codes "u64", int
-    IntKind.U64) ∷ (codes "usize", int IntKind.Usize) ∷ (codes "bool", bool) ∷ []
+    (codes "i32", int IntKind.I32) ∷ (codes "i64", int IntKind.I64) ∷ (codes "u32", int IntKind.U32) ∷ (
+      codes "u64",
+      int
+          IntKind.U64,
+    ) ∷ (codes "usize", int IntKind.Usize) ∷ (codes "bool", bool) ∷ []
 
-scalar_alone : (items : ItemTable) → AreReady items → (name : Word) (ty : TyId) → rules.scalar_named name ≡ Some ty → IsAlone
+scalar_alone : (items : ItemTable) → AreReady items → (name : Word) (ty : TyId) → rules.scalar_named name ≡ Some ty →
+    IsAlone
     items ty
 scalar_alone items all name ty h = among_alone items names each name ty h
   where
     each : (n : ℕ) (x : Word × TyId) → slice_get names n ≡ Some x → IsAlone items x.1
     each zero x h = subst (λ (y : Word × TyId). IsAlone items y.1) (same_Some _ x h) (int_ready items all IntKind.I32)
-    each (suc zero) x h = subst (λ (y : Word × TyId). IsAlone items y.1) (same_Some _ x h) (int_ready items all IntKind.I64)
+    each (suc zero) x h = subst (λ (y : Word × TyId). IsAlone items y.1) (same_Some _ x h) (int_ready items all
+        IntKind.I64)
     each (suc (suc zero)) x h =
         subst (λ (y : Word × TyId). IsAlone items y.1) (same_Some _ x h) (int_ready items all IntKind.U32)
     each (suc (suc (suc zero))) x h =
@@ -65,23 +70,29 @@ scalar_alone items all name ty h = among_alone items names each name ty h
 -- a type that is well made gets a number, and stands alone
 adt_sound : (n : ℕ) (s : State) → Gives s (λ w ty. IsAlone w.items ty) (interned (Ty.Adt n) s)
 adt_sound n s =
-    with_ready λ all. weaker (λ w ty. IsAlone w.items ty) (interned_sound (Ty.Adt n) s (adt_made s.items all n)) λ ty w ready g
+    with_ready λ all. weaker (λ w ty. IsAlone w.items ty) (interned_sound (Ty.Adt n) s (adt_made s.items all n)) λ ty
+    w ready g
     is. (Ty.Adt n, is, tt)
 
-box_made : (items : ItemTable) (content : TyId) → IsReady items content → IsTrue (not (is_reference items content)) → IsMade
+box_made : (items : ItemTable) (content : TyId) → IsReady items content → IsTrue (not (is_reference items content)) →
+    IsMade
     items (Ty.Boxed content)
 box_made items content ready plain =
     record {
       held = λ part has. absurd (omega (arith, has.1));
       parts = λ part variant n is. absurd (none-some part is);
-      inside = λ to is. subst (λ t. IsReady items t × IsTrue (not (is_reference items t))) (same_Some content to is) (ready,
-          plain);
+      inside = λ to is. subst (λ t. IsReady items t × IsTrue (not (is_reference items t))) (same_Some content to is) (
+        ready,
+        plain,
+      );
     }
 
-box_sound : (content : TyId) (s : State) → IsReady s.items content → IsTrue (not (is_reference s.items content)) → Gives s (λ w
+box_sound : (content : TyId) (s : State) → IsReady s.items content → IsTrue (not (is_reference s.items content)) →
+    Gives s (λ w
     ty. IsAlone w.items ty) (interned (Ty.Boxed content) s)
 box_sound content s ready plain =
-    weaker (λ w ty. IsAlone w.items ty) (interned_sound (Ty.Boxed content) s (box_made s.items content ready plain)) λ ty w
+    weaker (λ w ty. IsAlone w.items ty) (interned_sound (Ty.Boxed content) s (box_made s.items content ready plain)) λ
+    ty w
     ready g is. (Ty.Boxed content, is, tt)
 
 dyn_made : (items : ItemTable) (n : ℕ) → IsMade items (Ty.Dyn n)
@@ -95,10 +106,12 @@ dyn_made items n =
 abbrev AllAlone : List TyId → State → Type 0
 AllAlone tys w = (n : ℕ) (ty : TyId) → slice_get tys n ≡ Some ty → IsAlone w.items ty
 
-tuple_by_sound : (tys : List TyId) (s : State) → AllAlone tys s → Gives s (λ w ty. IsAlone w.items ty) (rules.tuple_by tys s)
+tuple_by_sound : (tys : List TyId) (s : State) → AllAlone tys s → Gives s (λ w ty. IsAlone w.items ty) (rules.tuple_by
+    tys s)
 tuple_by_sound [] s all = with_ready λ ready. given _ λ r w g. unit_ready w.items (g.ready ready)
 tuple_by_sound (t ∷ tys) s all =
-    weaker (λ w ty. IsAlone w.items ty) (interned_sound (Ty.Tuple (t ∷ tys)) s (tuple_made s.items (t ∷ tys) all)) λ ty w ready
+    weaker (λ w ty. IsAlone w.items ty) (interned_sound (Ty.Tuple (t ∷ tys)) s (tuple_made s.items (t ∷ tys) all)) λ
+    ty w ready
     g is. (Ty.Tuple (t ∷ tys), is, tt)
 
 both_alone : (ty : TyId) (tys : List TyId) (w : State) → IsAlone w.items ty → AllAlone tys w → AllAlone (ty ∷ tys) w
@@ -117,10 +130,12 @@ module _ (around : Around) (limits : around.has_limits ≡ true) where
     pub written_sound : (ty : Syn) (s : State) → Gives s (λ w t. IsAlone w.items t) (rules.written around ty s)
     written_sound (syn at form) s = written_form_sound at form s
 
-    written_form_sound : (at : Pos) (form : Shape) (s : State) → Gives s (λ w t. IsAlone w.items t) (rules.written_form around at
+    written_form_sound : (at : Pos) (form : Shape) (s : State) → Gives s (λ w t. IsAlone w.items t)
+        (rules.written_form around at
         form s)
     written_form_sound at (NamedType name) s =
-        with_ready λ all. named_sound at (rules.number_of around.adts name) (rules.scalar_named name) s (λ ty h. scalar_alone
+        with_ready λ all. named_sound at (rules.number_of around.adts name) (rules.scalar_named name) s (λ ty h.
+        scalar_alone
         s.items all name ty h)
     written_form_sound at (GenericType name content) s =
         obeyed Rule.T01 at (rules.is_box name) _ λ is.
@@ -132,7 +147,8 @@ module _ (around : Around) (limits : around.has_limits ≡ true) where
         found Rule.T01 trait_.0 (rules.number_of around.traits trait_.1) _ λ n h.
         bind (interned_sound (Ty.Dyn n) s (dyn_made s.items n)) λ ty t g d.
         let now = d t (grows_refl t) in
-        box_sound ty t (Ty.Dyn n, now, tt) (subst (λ o. IsTrue (not (is_some (option_and_then reference_in o)))) (sym now) refl)
+        box_sound ty t (Ty.Dyn n, now, tt) (subst (λ o. IsTrue (not (is_some (option_and_then reference_in o)))) (sym
+        now) refl)
     written_form_sound at SelfType s = found Rule.T01 at around.self_adt _ λ n h. adt_sound n s
     written_form_sound at (ParensType inside) s = written_sound inside s
     written_form_sound at (TupleType parts) s =
@@ -144,7 +160,8 @@ module _ (around : Around) (limits : around.has_limits ≡ true) where
         bind (written_sound element s) λ ty t g d.
         obeyed Rule.T03 at (not around.has_limits || rules.is_usize suffix) _ λ usize.
         obeyed Rule.T19 at (not around.has_limits || nat_le count 32) _ λ few.
-        weaker (λ w x. IsAlone w.items x) (interned_sound (Ty.Array ty count) t (array_made t.items ty count (d t (grows_refl
+        weaker (λ w x. IsAlone w.items x) (interned_sound (Ty.Array ty count) t (array_made t.items ty count (d t
+        (grows_refl
         t)))) λ x w ready l is. (Ty.Array ty count, is, tt)
     written_form_sound at NeverType s = with_ready λ all. given _ λ r w g. never_ready w.items (g.ready all)
     written_form_sound at (RefType unique to) s =
@@ -153,7 +170,8 @@ module _ (around : Around) (limits : around.has_limits ≡ true) where
         absurd (let no_ : IsTrue false = subst (λ b. IsTrue (not b)) limits no_limits in cc)
     written_form_sound at _ s = gives_nothing Rule.T20 at
 
-    all_written_sound : (parts : Syns) (s : State) → Gives s (λ w tys. AllAlone tys w) (rules.all_written around parts s)
+    all_written_sound : (parts : Syns) (s : State) → Gives s (λ w tys. AllAlone tys w) (rules.all_written around parts
+        s)
     all_written_sound no_syn s = given [] λ ready w g. λ n ty h. absurd (none-some ty h)
     all_written_sound (a_syn first rest) s =
         bind (written_sound first s) λ ty t g d.

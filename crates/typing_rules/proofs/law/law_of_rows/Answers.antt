@@ -1,3 +1,5 @@
+use Rattle.typing_rules.proofs.Sound.OneName.{one_pattern_sound}
+use Rattle.typing_rules.proofs.Sound.Written.{written_sound}
 use Rattle.typing_rules.proofs.Sound.Lets.{let_sound}
 use Rattle.typing_rules.proofs.Sound.Structs.{struct_sound}
 use Rattle.typing_rules.proofs.Sound.AllPatterns.{matcher_sound}
@@ -83,7 +85,10 @@ pub returns-clause-blocks : goal.returns-clause-blocks
 returns-clause-blocks c = record { evaluated = evaluate_sound; declared = let_sound; braces = block_sound }
 
 pub returns-clause-patterns : goal.returns-clause-patterns
-returns-clause-patterns c = matcher_sound
+returns-clause-patterns c = record { well_typed = matcher_sound; one_name = one_pattern_sound }
+
+pub returns-clause-written : goal.returns-clause-written
+returns-clause-written c = written_sound
 
 pub returns-clause-matches : goal.returns-clause-matches
 returns-clause-matches c =
