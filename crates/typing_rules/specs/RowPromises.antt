@@ -160,10 +160,10 @@ abbrev pub SoundGuard : Env → (List Entry → Check MaybeNode) → Type 0
 SoundGuard env guard = (xs : List Entry) (s : State) → Knows (with_variables (in_guard xs) env) s → Gives s (IsMaybe
     (with_variables (in_guard xs) env) (Some bool)) (guard xs s)
 
--- a body that is called by a name: neither that of a `Drop` impl nor that of a closure
+-- a body that is called by a name: its first parameter is no closure, as that of a closure's body is
 abbrev pub IsFunction : State → ℕ → Sig → Type 0
-IsFunction s body head = (slice_get s.items.bodies body ≡ Some head) × ((w : State) → Grows s w → IsTrue (not
-    (is_closure_body w.items body)))
+IsFunction s body head = (slice_get s.items.bodies body ≡ Some head) × ((self : TyId) (rest : List TyId) (k : ℕ) →
+    head.params ≡ self ∷ rest → type_at s.items self ≡ Some (Ty.Closure k) → ⊥)
 
 -- what a type has of a name: a body that is called by it, or a method of a trait
 pub data IsMethodOf (s : State) (own : TyId) : Method → Type 0 where

@@ -33,7 +33,7 @@ use Rattle.typing_rules.proofs.Sound.Calls.{arguments_hold}
 use Rattle.typing_rules.proofs.Sound.Fitted.{IsPlain, fitted_gives, passed_ends, or_left, or_right, same_self, fits_self}
 use Rattle.typing_rules.proofs.Sound.Gives.{◌⋆◌, bind, weaker, with_ready, given, obeyed, after_number, numbered, grows_trans, grows_refl, grows_number, knows_later, knows_number}
 use Rattle.typing_rules.proofs.Sound.Later.{type_later, alone_later, known_later, same_known, alone_no_reference, some_got}
-use Rattle.typing_rules.proofs.Sound.Named.{drop_later}
+use Rattle.typing_rules.proofs.Sound.Named.{drop_later, no_closure, was_type}
 use Rattle.typing_rules.proofs.Sound.Operators.{same_id, or_cases}
 use Rattle.typing_rules.proofs.Sound.Parts.{IsFound, through_sound}
 use Rattle.typing_rules.proofs.Sound.Places.{taken_value, truth_of, not_true}
@@ -170,21 +170,21 @@ method_known s all own _ (of_adt {body} {is_drop} {head} is drop_is) ty has = al
 method_known s all own _ (of_trait {trait_no} {method} {head} def at is) ty has =
     all.method_params trait_no method def head ty at is has
 
-method_row : (s w : State) (c : Context) → c.items ≡ w.items → Grows s w → (own : TyId) (m : Method) → IsMethodOf s
+method_row : (s w : State) (c : Context) → AreReady s.items → c.items ≡ w.items → Grows s w → (own : TyId) (m : Method) → IsMethodOf s
     own m →
     IsTrue (not (is_drop_method m)) → (id : ℕ) (receiver : Node) (args : Nodes) → Holds (first_and_rest (λ t. typed c
     (Passed t) receiver) (λ ts. arguments c ts args) (head_of m).params) → Holds (row c id (head_of m).result
     (method_form m
     receiver args))
-method_row s w c same g own _ (of_adt {body} {is_drop} {head} is drop_is) no_drop id receiver args h =
+method_row s w c all same g own _ (of_adt {body} {is_drop} {head} is drop_is) no_drop id receiver args h =
     subst (λ o. Holds (some o (λ (sig : Sig). both (fact (is_same head.result sig.result)) (first_and_rest (λ t. typed c
     (Passed t) receiver) (λ ts. arguments c ts args) sig.params)))) (sym (ap (λ (items : ItemTable). slice_get
     items.bodies
     body) same ∙ (ap (λ bodies. slice_get bodies body) g.items.bodies ∙ is.0))) (same_self head.result.0 ⋆ h) ⋆
     subst (λ (items : ItemTable). IsTrue (not (is_drop_body items body) && not (is_closure_body items body))) (sym same)
     (and_true (not (is_drop_body w.items body)) _ (subst (λ b. IsTrue (not b)) (drop_is ∙ sym (drop_later g.items body))
-    no_drop) (is.1 w g))
-method_row s w c same g own _ (of_trait {trait_no} {method} {head} def at is) no_drop id receiver args h =
+    no_drop) (no_closure all g body head is))
+method_row s w c all same g own _ (of_trait {trait_no} {method} {head} def at is) no_drop id receiver args h =
     subst (λ o. Holds (some o (λ (d : TraitDef). some (slice_get d.methods method) (λ (sig : Sig). both (fact (is_same
     head.result sig.result)) (first_and_rest (λ t. typed c (Passed t) receiver) (λ ts. arguments c ts args)
     sig.params)))))
@@ -229,7 +229,7 @@ with_self_sound env at id base m count args want (self ∷ params) s k is plain 
     let args_ = f w (grows_trans i l) in (
       alone_later on.items (head_of m).result (method_alone s all (ty_of base) m method),
       λ p stands.
-          method_row s w (at_spot w.items env.answer p) refl on (ty_of base) m method no_drop id receiver given_
+          method_row s w (at_spot w.items env.answer p) all refl on (ty_of base) m method no_drop id receiver given_
           (subst (λ tys. Holds (first_and_rest (λ t. typed (at_spot w.items env.answer p) (Passed t) receiver) (λ ts.
           arguments
           (at_spot w.items env.answer p) ts given_) tys)) (sym e) (
@@ -239,11 +239,11 @@ with_self_sound env at id base m count args want (self ∷ params) s k is plain 
           )),
     )
 
-method_later : {t u : State} → Grows t u → (own : TyId) (m : Method) → IsMethodOf t own m → IsMethodOf u own m
-method_later g own _ (of_adt {body} {is_drop} {head} is drop_is) =
-    of_adt (ap (λ bodies. slice_get bodies body) g.items.bodies ∙ is.0, λ w h. is.1 w (grows_trans g h)) (drop_is ∙ sym
+method_later : {t u : State} → AreReady t.items → Grows t u → (own : TyId) (m : Method) → IsMethodOf t own m → IsMethodOf u own m
+method_later all g own _ (of_adt {body} {is_drop} {head} is drop_is) =
+    of_adt (ap (λ bodies. slice_get bodies body) g.items.bodies ∙ is.0, λ self rest k params at. is.1 self rest k params (was_type all g body head self rest (Ty.Closure k) is.0 params at)) (drop_is ∙ sym
     (drop_later g.items body))
-method_later g own _ (of_trait {trait_no} {method} {head} def at is) =
+method_later all g own _ (of_trait {trait_no} {method} {head} def at is) =
     of_trait def (ap (λ traits. slice_get traits trait_no) g.items.traits ∙ at) is
 
 pub method_sound : (env : Env) (at : Pos) (named : ItemTable → TyId → Option Method) (count : ℕ) (receiver : Check
@@ -253,7 +253,7 @@ pub method_sound : (env : Env) (at : Pos) (named : ItemTable → TyId → Option
     (method_call env at named count receiver args)
 method_sound env at named count receiver args finds good_receiver good want s k =
     after_number (bind (good_receiver (numbered s) (knows_number env k)) λ b t g d.
-    bind (through_sound named at env b t d) λ r u h e. by r u t (knows_later env (grows_trans g h) (knows_number env
+    with_ready λ all. bind (through_sound named at env b t d) λ r u h e. by r u t all (knows_later env (grows_trans g h) (knows_number env
     k)) h e)
   where
     R : Fact Node
@@ -266,18 +266,18 @@ method_sound env at named count receiver args finds good_receiver good want s k 
         by (Ok a) = record { so = λ ready. tt }
         by (Err x) = record { so = λ ready. tt }
 
-    by : (r : Node × Option Method) (u t : State) → Knows env u → Grows t u → ((w : State) → Grows u w → IsFound named
+    by : (r : Node × Option Method) (u t : State) → AreReady t.items → Knows env u → Grows t u → ((w : State) → Grows u w → IsFound named
         t.items
         env w r) → Gives u R (with_method env at s.next_node r.0 r.1 count args want u)
-    by (base, None) u t k h e = broken (args []) u
-    by (base, Some m) u t k h e =
+    by (base, None) u t all k h e = broken (args []) u
+    by (base, Some m) u t all k h e =
         let of = finds t (ty_of base) m ((e u (grows_refl u)).1 m refl) in
         let plain = ap is_some (ap (option_and_then reference_in) (type_later h.items (ty_of base) of.1.0 of.1.1) ∙
         of.1.2) in
         if_takes (takes_self u.items (ty_of base) (head_of m).params) refl
         (λ takes. with_self_sound env at s.next_node base m count args want (head_of m).params u k (λ w g. (e w g).0)
         (truth_of
-        _ plain) (method_later h (ty_of base) m of.0) refl takes good)
+        _ plain) (method_later all h (ty_of base) m of.0) refl takes good)
       where
         if_takes : (b : Bool) → takes_self u.items (ty_of base) (head_of m).params ≡ b → (IsTrue b → Gives u R
             (with_self env

@@ -1,5 +1,5 @@
 -- Calls of functions, of constructors, and of `ask`; structs and variants without parts.
-use Rattle.std.proofs.Common.{◌≡◌, ℕ, suc, ◌≤◌, ◌+◌, Bool, true, false, ◌&&◌, ◌||◌, ◌==◌, not, List, [], ◌∷◌, length, slice_get, Option, Some, None, IsTrue, refl, ap, sym, subst, ◌∙◌, arith}
+use Rattle.std.proofs.Common.{Contains, ◌≡◌, ℕ, suc, ◌≤◌, ◌+◌, Bool, true, false, ◌&&◌, ◌||◌, ◌==◌, not, List, [], ◌∷◌, length, slice_get, Option, Some, None, IsTrue, refl, ap, sym, subst, ◌∙◌, arith, ◌⊎◌, inl, inr}
 use Rattle.std.specs.Prelude.{option_and_then, nat_eq}
 use Rattle.std.specs.List.{list_any}
 use Rattle.std.specs.Option.{option_map_or}
@@ -20,14 +20,14 @@ use Rattle.typed_tree.specs.Tree as tree
 use Rattle.typed_tree.specs.Tree.{Node, node, Form, Nodes, no_node, a_node, Fields, no_field, a_field}
 use Rattle.well_typed.specs.Claim.{Holds, some, fact, both}
 use Rattle.well_typed.specs.Names.{are_distinct_numbers, is_number_among}
-use Rattle.well_typed.specs.Nodes.{typed, row, arguments, made_fields, is_drop_body}
+use Rattle.well_typed.specs.Nodes.{typed, row, arguments, made_fields, is_drop_body, is_closure_body}
 use Rattle.well_typed.specs.Patterns.{count_of, field_numbers}
 use Rattle.well_typed.specs.Places.{Context, Wanted}
 use Rattle.well_typed.specs.Types.{is_same, is_kind, is_reference, kind_in, adt_in, variant_at}
 use Rattle.well_typed.proofs.ClaimLemmas.{and_true}
 use Rattle.typing_rules.specs.Check.{Check, State, interned, ◌>>=◌}
 use Rattle.typing_rules.specs.Places.{int, a_node_of}
-use Rattle.typing_rules.specs.Promises.{Extends, IsAlone, IsKnown, AreReady, Gives, at_spot, Knows, IsTemporary, SoundTemporary}
+use Rattle.typing_rules.specs.Promises.{Extends, IsAlone, IsKnown, AreReady, Gives, at_spot, Knows, IsTemporary, SoundTemporary, Grows}
 use Rattle.typing_rules.specs.RowPromises.{IsMade, SoundArgs, IsFunction}
 use Rattle.typing_rules.specs.Rows.{call, built_in, ask_form, make, numbered_fields}
 use Rattle.typing_rules.specs.Named.{Makes}
@@ -37,15 +37,49 @@ use Rattle.typing_rules.proofs.Sound.Calls.{call_sound, from_passed, none_known}
 use Rattle.typing_rules.proofs.Sound.Fitted.{fitted_gives, leaf_ends, passed_ends, same_self}
 use Rattle.typing_rules.proofs.Sound.Gives.{◌⋆◌, bind, with_ready, obeyed, after_number, numbered, grows_trans, grows_refl, grows_number, knows_later, knows_number}
 use Rattle.typing_rules.proofs.Sound.Interned.{interned_sound}
-use Rattle.typing_rules.proofs.Sound.Later.{alone_no_reference}
-use Rattle.typing_rules.proofs.Sound.Operators.{int_ready, int_at, as_wanted}
+use Rattle.typing_rules.proofs.Sound.Later.{alone_no_reference, type_later}
+use Rattle.typing_rules.proofs.Sound.Operators.{int_ready, int_at, as_wanted, or_cases}
 use Rattle.typing_rules.proofs.Sound.Places.{not_true}
+use Rattle.mir_ty.specs.declared.def.ClosureDef.{ClosureDef}
 
 -- ---- functions
 
 pub drop_later : {old new : ItemTable} → Extends old new → (body : ℕ) → is_drop_body new body ≡ is_drop_body old body
 drop_later e body =
     ap (λ adts. list_any (λ (adt : Adt). option_map_or (λ b. b == body) adt.drop_body false) adts) e.adts
+
+any_at : {A : Type 0} (p : A → Bool) (xs : List A) → IsTrue (list_any p xs) → (k : ℕ) × (x : A) × (slice_get xs k ≡ Some x)
+    × IsTrue (p x)
+any_at {A = A} p [] h = absurd (let no_ : IsTrue false = h in cc)
+any_at {A = A} p (y ∷ ys) h = by (any_at p ys) (or_cases (p y) (list_any p ys) h)
+  where
+    by : (IsTrue (list_any p ys) → (k : ℕ) × (x : A) × (slice_get ys k ≡ Some x) × IsTrue (p x)) → IsTrue (p y) ⊎ IsTrue
+        (list_any p ys) → (k : ℕ) × (x : A) × (slice_get (y ∷ ys) k ≡ Some x) × IsTrue (p x)
+    by on (inl here_) = (0, y, refl, here_)
+    by on (inr more) = let f = on more in (suc f.0, f.1, f.2, f.3)
+
+-- a type that was in the table is what it was
+pub was_type : {s w : State} → AreReady s.items → Grows s w → (body : ℕ) (head : Sig) (self : TyId) (rest : List TyId) (ty : Ty) →
+    slice_get s.items.bodies body ≡ Some head → head.params ≡ self ∷ rest → type_at w.items self ≡ Some ty → type_at s.items
+    self ≡ Some ty
+was_type all g body head self rest ty is params at =
+    let known = all.params body head self is (subst (λ tys. Contains tys self) (sym params) (0, omega arith, refl)) in
+    known.1 ∙ (sym (type_later g.items self known.0 known.1) ∙ at)
+
+-- a function's body is no closure's
+pub no_closure : {s w : State} → AreReady s.items → Grows s w → (body : ℕ) (head : Sig) → IsFunction s body head → IsTrue (not
+    (is_closure_body w.items body))
+no_closure {s} {w} all g body head is = by (is_closure_body w.items body) refl
+  where
+    by : (b : Bool) → is_closure_body w.items body ≡ b → IsTrue (not b)
+    by true e =
+        let f = any_at (λ (def : ClosureDef). def.body == body) w.items.closures e in
+        let same = eqb-true f.1.body body f.3 in
+        let begins = (g.ready all).closures f.0 f.1 head f.2 (ap (slice_get w.items.bodies) same ∙ (ap (λ bodies. slice_get bodies
+        body) g.items.bodies ∙ is.0)) in
+        absurd (is.1 begins.0 begins.1 f.0 begins.2 (was_type all g body head begins.0 begins.1 (Ty.Closure f.0) is.0 begins.2
+        begins.3))
+    by false e = refl
 
 pub function_sound : (env : Env) (at : Pos) (body : ℕ) (head : Sig) (count : ℕ) (args : List TyId → Check Nodes) →
     SoundArgs
@@ -61,8 +95,7 @@ function_sound env at body head count args good want s k is =
     env.answer p) sig.params ns)))) (sym (ap (λ bodies. slice_get bodies body) g.items.bodies ∙ is.0)) (same_self
     head.result.0 ⋆ given_) ⋆
     and_true (not (is_drop_body w.items body)) _ (subst (λ b. IsTrue (not b)) (sym (drop_later g.items body)) may)
-    (is.1 w
-    g)) want k
+    (no_closure all g body head is)) want k
 
 -- ---- structs and variants by the order of their parts
 
