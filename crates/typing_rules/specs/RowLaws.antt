@@ -12,15 +12,15 @@ use Rattle.typed_tree.specs.Tree.{Node, Nodes}
 use Rattle.typing_rules.specs.Check.{Check, State, interned, ◌>>=◌}
 use Rattle.typing_rules.specs.Places.{unit, bool, never, int, variable_place, struct_field, numbered_part}
 use Rattle.typing_rules.specs.Promises.{Grows, Gives, IsKnown, Knows, IsValue, Sound, SoundTemporary, SoundBase, IsReady, IsTemporary, IsPattern, SoundMatcher, IsAlone}
-use Rattle.typing_rules.specs.RowPromises.{IsMade, IsPlace, IsArgument, SoundReferrer, SoundArgs, SoundParts, SoundElements, SoundMaybe, IsLoopOf, SoundStatements, SoundTail, SoundStatement, IsFunction, FindsMethods, IsArm, SoundArms, SoundGuard, SoundDeclared, SoundInitialiser, SoundPattern, SoundInits}
+use Rattle.typing_rules.specs.RowPromises.{IsMade, IsPlace, IsArgument, SoundReferrer, SoundArgs, SoundParts, SoundElements, SoundMaybe, IsLoopOf, SoundStatements, SoundTail, SoundStatement, IsFunction, FindsMethods, IsArm, SoundArms, SoundGuard, SoundDeclared, SoundInitialiser, SoundPattern, SoundInits, IsStatement}
 use Rattle.typing_rules.specs.Rows.{Typer, Referrer, leaf, taken, field, deref, element, not_row, negate, arithmetic, comparison, logic, store, borrow, passed_on, argument, built_in, print_form, drop_form, forget_form, new_box, tuple_row, array_row, block, if_alone, if_else, while_row, break_row, continue_row, return_row, evaluate, Expected, Matcher, Method, literal, ask_form, call, make, if_let_alone, if_let_else, while_let_row, arm, match_row, method_call, closure_call, let_row, struct_row, Given}
 use Rattle.typing_rules.specs.Scope.{Env, Entry, Around, within_loop, with_variables}
 use Rattle.typing_rules.specs.Syntax.{Word, Syn}
 use Rattle.mir_ty.specs.declared.adt.Variant.{Variant}
 use Rattle.mir_ty.specs.declared.def.Sig.{Sig}
-use Rattle.well_typed.specs.Nodes.{is_drop_body, is_one_name}
+use Rattle.well_typed.specs.Nodes.{is_drop_body}
 use Rattle.well_typed.specs.Types.{variant_at}
-use Rattle.typing_rules.specs.Named.{Makes}
+use Rattle.typing_rules.specs.Named.{Makes, method_named}
 use Rattle.typing_rules.specs.Patterns.{pattern}
 use Rattle.typing_rules.specs.Typed as typing
 use Rattle.typing_rules.specs.Typed.{makes_unit}
@@ -141,9 +141,10 @@ pub record Blocks : Type 0 where
       (evaluate at
       env has_semicolon e)
   pub declared : (env : Env) (at : Pos) (is_one : Bool) (written : Check (Option TyId)) (value : Option TyId → Check
-      tree.MaybeNode) (matcher : Matcher) → SoundDeclared written → SoundInitialiser env is_one value → SoundPattern
-      is_one
-      matcher → SoundStatement env (let_row at env is_one written value matcher (λ xs. with_variables xs env))
+      tree.MaybeNode) (matcher : Matcher) (s : State) → SoundDeclared written → SoundInitialiser env is_one value →
+      SoundPattern s is_one matcher → Knows env s → Gives s (λ w done. IsStatement env w done × Knows done.2 w)
+      (let_row at env
+      is_one written value matcher (λ xs. with_variables xs env) s)
   pub braces : (env : Env) (at : Pos) (check : Check (Nodes × Bool × Env)) (tail : Env → Option TyId → Check
       tree.MaybeNode) →
       SoundStatements env check → SoundTail env tail → SoundTemporary env (block at check tail)
@@ -157,9 +158,9 @@ WrittenTypes = (around : types.Around) → around.has_limits ≡ true → (ty : 
 -- each pattern, of whatever form; it is one name as it is typed where it is one as it is written
 pub record Patterns : Type 0 where
   pub well_typed : (env : Env) (p : Syn) → SoundMatcher (λ e ty. pattern env e ty p [])
-  pub one_name : (env : Env) (p : Syn) (e : Expected) (ty : TyId) (s : State) → IsReady s.items ty → Gives s (λ w b.
-      IsPattern e
-      ty s.next_node w b × (is_one_name b.0 ≡ typing.is_one_name s.items p)) (pattern env e ty p [] s)
+  pub one_name : (env : Env) (p : Syn) (s : State) → SoundPattern s (typing.is_one_name s.items p) (λ e ty. pattern
+      env e ty p
+      [])
 
 pub record Matches : Type 0 where
   pub if_let : (env : Env) (at : Pos) (scrutinee : Check Node) (matcher : Matcher) (body : List Entry → Typer) →
@@ -199,6 +200,7 @@ pub record Calls : Type 0 where
       (args : List
       TyId → Check Nodes) → FindsMethods named → SoundBase env receiver → SoundArgs env count args → SoundTemporary env
       (method_call env at named count receiver args)
+  pub methods : (name : Word) → FindsMethods (method_named name)
   pub closure : (env : Env) (at : Pos) (count : ℕ) (callee : Check Node) (args : List TyId → Check Nodes) → ((s :
       State) → Knows
       env s → Gives s (IsValue env None) (callee s)) → SoundArgs env count args → SoundTemporary env (closure_call at

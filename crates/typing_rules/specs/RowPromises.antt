@@ -8,10 +8,10 @@ use Rattle.mir_ty.specs.ItemTable.{ItemTable, type_at}
 use Rattle.mir_ty.specs.Parts.{held_by, parts_of, field_ty}
 use Rattle.typed_tree.specs.Tree.{Node, Nodes, no_node, a_node, MaybeNode, absent, present, Fields, no_field, a_field}
 use Rattle.well_typed.specs.Claim.{Claim, Holds}
-use Rattle.well_typed.specs.Nodes.{is_closure_body, is_drop_body, typed, statements, ends_in, arm, is_one_name}
+use Rattle.well_typed.specs.Nodes.{is_drop_body, typed, statements, ends_in, arm, is_one_name}
 use Rattle.well_typed.specs.Patterns.{Matched, count_of}
 use Rattle.well_typed.specs.Places.{Context, ty_of, form_of, is_place, Wanted, Passed}
-use Rattle.well_typed.specs.Types.{reference_in, is_reference, reference_of, has_fields, inside_in}
+use Rattle.well_typed.specs.Types.{closure_in, reference_in, is_reference, reference_of, has_fields, inside_in}
 use Rattle.typing_rules.specs.Check.{Check, State}
 use Rattle.typing_rules.specs.Places.{bool, Member, agrees}
 use Rattle.typing_rules.specs.Promises.{IsReady, IsAlone, IsKnown, Gives, Spot, at_spot, Stands, Knows, IsValue, IsBase, Grows, IsPattern}
@@ -167,17 +167,18 @@ IsFunction s body head = (slice_get s.items.bodies body ≡ Some head) × ((self
 
 -- what a type has of a name: a body that is called by it, or a method of a trait
 pub data IsMethodOf (s : State) (own : TyId) : Method → Type 0 where
-  of_adt : {body : ℕ} {is_drop : Bool} {head : Sig} → IsFunction s body head → is_drop ≡ is_drop_body s.items body →
+  of_adt : {body : ℕ} {is_drop : Bool} {head : Sig} → slice_get s.items.bodies body ≡ Some head → is_drop ≡
+      is_drop_body s.items body →
       IsMethodOf s own (OfAdt body is_drop head)
   of_trait : {trait_no method : ℕ} {head : Sig} (def : TraitDef) → slice_get s.items.traits trait_no ≡ Some def →
       slice_get
       def.methods method ≡ Some head → IsMethodOf s own (OfTrait trait_no method head)
 
--- a type that is no reference
+-- a type that is neither a reference nor a closure
 abbrev pub IsPlainType : ItemTable → TyId → Type 0
-IsPlainType items own = (ty : Ty) × (type_at items own ≡ Some ty) × (reference_in ty ≡ None)
+IsPlainType items own = (ty : Ty) × (type_at items own ≡ Some ty) × (reference_in ty ≡ None) × (closure_in ty ≡ None)
 
--- what a look-up finds is a method of its type, which is no reference
+-- what a look-up finds is a method of its type, which is neither a reference nor a closure
 abbrev pub FindsMethods : (ItemTable → TyId → Option Method) → Type 0
 FindsMethods named = (s : State) (own : TyId) (m : Method) → named s.items own ≡ Some m → IsMethodOf s own m ×
     IsPlainType
@@ -202,10 +203,11 @@ SoundInitialiser env is_one_name value = (want : Option TyId) (s : State) → Kn
 abbrev pub SoundDeclared : Check (Option TyId) → Type 0
 SoundDeclared check = (s : State) → Gives s (λ w ty. (t : TyId) → ty ≡ Some t → IsAlone w.items t) (check s)
 
--- a pattern that is one name, or is none
-abbrev pub SoundPattern : Bool → Matcher → Type 0
-SoundPattern is_one check = (e : Expected) (ty : TyId) (s : State) → IsReady s.items ty → Gives s (λ w b. IsPattern e ty
-    s.next_node w b × (is_one_name b.0 ≡ is_one)) (check e ty s)
+-- a pattern that is one name, or is none, from a state on
+abbrev pub SoundPattern : State → Bool → Matcher → Type 0
+SoundPattern first is_one check = (e : Expected) (ty : TyId) (s : State) → Grows first s → IsReady s.items ty → Gives
+    s (λ w b.
+    IsPattern e ty s.next_node w b × (is_one_name b.0 ≡ is_one)) (check e ty s)
 
 -- values for fields by their names, none known where there is no such field
 abbrev pub AreInits : Env → Variant → State → Fields → Given → Type 0

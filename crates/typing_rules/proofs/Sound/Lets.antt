@@ -16,14 +16,14 @@ use Rattle.well_typed.specs.Types.{fits, is_never_ty, is_unit}
 use Rattle.well_typed.proofs.ClaimLemmas.{and_true}
 use Rattle.typing_rules.specs.Check.{Check, State}
 use Rattle.typing_rules.specs.Places.{unit, agrees}
-use Rattle.typing_rules.specs.Promises.{IsReady, IsAlone, Grows, Spot, at_spot, Stands, are_bound, IsPattern}
-use Rattle.typing_rules.specs.RowPromises.{SoundStatement, IsInitialiser, SoundInitialiser, SoundDeclared, SoundPattern}
+use Rattle.typing_rules.specs.Promises.{Gives, Knows, IsReady, IsAlone, Grows, Spot, at_spot, Stands, are_bound, IsPattern}
+use Rattle.typing_rules.specs.RowPromises.{IsStatement, IsInitialiser, SoundInitialiser, SoundDeclared, SoundPattern}
 use Rattle.typing_rules.specs.Rows as rules
 use Rattle.typing_rules.specs.Rows.{Matcher, Expected, expected, let_row, let_ty, of_value, ends_by}
 use Rattle.typing_rules.specs.Scope.{Env, Entry, with_variables}
 use Rattle.typing_rules.proofs.Sound.Branches.{unit_is}
 use Rattle.typing_rules.proofs.Sound.Fitted.{fits_self}
-use Rattle.typing_rules.proofs.Sound.Gives.{◌⋆◌, bind, given, found, after_number, numbered, grows_trans, grows_refl, knows_later, knows_number}
+use Rattle.typing_rules.proofs.Sound.Gives.{grows_number, ◌⋆◌, bind, given, found, after_number, numbered, grows_trans, grows_refl, knows_later, knows_number}
 use Rattle.typing_rules.proofs.Sound.Later.{alone_ready, alone_no_reference, same_is}
 use Rattle.typing_rules.proofs.Sound.Operators.{same_id, as_wanted}
 use Rattle.typing_rules.proofs.Sound.Scopes.{behind, bound_stands, knows_bound}
@@ -114,14 +114,16 @@ let_ends env one declared u w (present n) p g is =
 
 pub let_sound : (env : Env) (at : Pos) (one : Bool) (written : Check (Option TyId)) (value : Option TyId → Check
     MaybeNode)
-    (matcher : Matcher) → SoundDeclared written → SoundInitialiser env one value → SoundPattern one matcher →
-    SoundStatement env
-    (let_row at env one written value matcher (λ xs. with_variables xs env))
-let_sound env at one written value matcher good_w good_v good_m s k =
+    (matcher : Matcher) (s : State) → SoundDeclared written → SoundInitialiser env one value → SoundPattern s one
+    matcher → Knows
+    env s → Gives s (λ w done. IsStatement env w done × Knows done.2 w) (let_row at env one written value matcher (λ xs.
+    with_variables xs env) s)
+let_sound env at one written value matcher s good_w good_v good_m k =
     after_number (bind (good_w (numbered s)) λ declared t g d.
     bind (good_v declared t (knows_later env g (knows_number env k))) λ v u h e.
     found Rule.T16 at (let_ty declared v) _ λ ty is_ty.
-    bind (good_m (of_value env one v u.items) ty u (ty_ready env one declared u v ty is_ty (λ x is. d u h x is) (e u
+    bind (good_m (of_value env one v u.items) ty u (grows_trans (grows_number s) (grows_trans g h)) (ty_ready env one
+    declared u v ty is_ty (λ x is. d u h x is) (e u
     (grows_refl
     u)))) λ b x i f.
     given _ λ ready w l.

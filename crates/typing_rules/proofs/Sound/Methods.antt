@@ -1,7 +1,7 @@
 -- Methods of values, and closures that are called.
 use Rattle.std.proofs.Common.{◌≡◌, ℕ, zero, suc, Bool, true, false, ◌&&◌, ◌||◌, ◌==◌, not, if◌then◌else◌, List, [], ◌∷◌, length, slice_get, Option, Some, None, Result, Ok, Err, IsTrue, Contains, ◌⊎◌, inl, inr, refl, ap, sym, subst, ◌∙◌, arith}
-use Rattle.std.specs.Prelude.{option_and_then, is_some, is_none, drop}
-use Rattle.std.specs.List.{list_any}
+use Rattle.std.specs.Prelude.{option_and_then, is_some, is_none, drop, option_map}
+use Rattle.std.specs.List.{list_any, position as position_of}
 use Rattle.std.specs.Option.{option_map_or}
 use Rattle.std.proofs.lemmas.Bool.{eqb-true, true≢false}
 use Rattle.std.proofs.lemmas.Option.{none-some, same_Some}
@@ -25,19 +25,22 @@ use Rattle.well_typed.proofs.ClaimLemmas.{and_true}
 use Rattle.typing_rules.specs.Check.{Check, State, Broken, and_then, breaks, ◌>>◌, pure}
 use Rattle.typing_rules.specs.Places.{a_node_of, is_behind_shared, is_fixed, in_own_guard, place_in_text}
 use Rattle.typing_rules.specs.Promises.{IsAlone, IsKnown, AreReady, Grows, Fact, Gives, Spot, at_spot, Stands, Knows, IsValue, IsTemporary, IsBase, SoundBase, SoundTemporary}
-use Rattle.typing_rules.specs.RowPromises.{IsArgument, AreGiven, SoundArgs, FindsMethods, IsMethodOf, of_adt, of_trait}
+use Rattle.typing_rules.specs.RowPromises.{IsArgument, AreGiven, SoundArgs, FindsMethods, IsMethodOf, of_adt, of_trait, IsPlainType}
 use Rattle.typing_rules.specs.Rows.{Method, OfAdt, OfTrait, head_of, is_drop_method, method_form, received, received_by, taking, taken, is_unique_borrow, with_self, with_method, takes_self, method_call, with_closure, closure_call}
-use Rattle.typing_rules.specs.Scope.{Env}
+use Rattle.typing_rules.specs.Scope.{Env, method_of}
 use Rattle.typing_rules.proofs.Sound.Arguments.{passed_value, used_ty, behind_later}
 use Rattle.typing_rules.proofs.Sound.Calls.{arguments_hold}
 use Rattle.typing_rules.proofs.Sound.Fitted.{IsPlain, fitted_gives, passed_ends, or_left, or_right, same_self, fits_self}
 use Rattle.typing_rules.proofs.Sound.Gives.{◌⋆◌, bind, weaker, with_ready, given, obeyed, after_number, numbered, grows_trans, grows_refl, grows_number, knows_later, knows_number}
 use Rattle.typing_rules.proofs.Sound.Later.{type_later, alone_later, known_later, same_known, alone_no_reference, some_got}
-use Rattle.typing_rules.proofs.Sound.Named.{drop_later, no_closure, was_type}
+use Rattle.typing_rules.proofs.Sound.Named.{drop_later, no_closure}
 use Rattle.typing_rules.proofs.Sound.Operators.{same_id, or_cases}
 use Rattle.typing_rules.proofs.Sound.Parts.{IsFound, through_sound}
 use Rattle.typing_rules.proofs.Sound.Places.{taken_value, truth_of, not_true}
 use Rattle.typing_rules.proofs.Sound.References.{borrowed_if}
+use Rattle.std.specs.Str.{bytes_eq}
+use Rattle.typing_rules.specs.Syntax.{Word}
+use Rattle.typing_rules.specs.Named as looks
 
 -- ---- receivers
 
@@ -161,30 +164,70 @@ method_plain env w ty (OfTrait trait_no method head) receiver args p = refl
 method_alone : (s : State) → AreReady s.items → (own : TyId) (m : Method) → IsMethodOf s own m → IsAlone s.items
     (head_of
     m).result
-method_alone s all own _ (of_adt {body} {is_drop} {head} is drop_is) = all.results body head is.0
+method_alone s all own _ (of_adt {body} {is_drop} {head} is drop_is) = all.results body head is
 method_alone s all own _ (of_trait {trait_no} {method} {head} def at is) = all.methods trait_no method def head at is
 
 method_known : (s : State) → AreReady s.items → (own : TyId) (m : Method) → IsMethodOf s own m → (ty : TyId) → Contains
     (head_of m).params ty → IsKnown s.items ty
-method_known s all own _ (of_adt {body} {is_drop} {head} is drop_is) ty has = all.params body head ty is.0 has
+method_known s all own _ (of_adt {body} {is_drop} {head} is drop_is) ty has = all.params body head ty is has
 method_known s all own _ (of_trait {trait_no} {method} {head} def at is) ty has =
     all.method_params trait_no method def head ty at is has
 
-method_row : (s w : State) (c : Context) → AreReady s.items → c.items ≡ w.items → Grows s w → (own : TyId) (m : Method) → IsMethodOf s
-    own m →
+-- parameters that do not begin with a closure
+abbrev IsApart : State → List TyId → Type 0
+IsApart s params = (self : TyId) (rest : List TyId) (k : ℕ) → params ≡ self ∷ rest → type_at s.items self ≡ Some
+    (Ty.Closure k)
+    → ⊥
+
+head_same : (self other : TyId) (params rest : List TyId) → self ∷ params ≡ other ∷ rest → self ≡ other
+head_same self other params rest e = ap (first_or self) e
+  where
+    first_or : TyId → List TyId → TyId
+    first_or d [] = d
+    first_or d (x ∷ xs) = x
+
+-- a receiver is of the type, or a reference to it, so it is no closure
+apart_by : (s : State) (own self : TyId) (params all : List TyId) → all ≡ self ∷ params → IsPlainType s.items own →
+    IsTrue
+    (takes_self s.items own (self ∷ params)) → IsApart s all
+apart_by s own self params all e kind takes other rest k is closure =
+    by (or_cases (is_same self own) (option_map_or (λ (r : Bool × TyId). is_same r.1 own) (reference_of s.items self)
+    false)
+    takes)
+  where
+    same : self ≡ other
+    same = head_same self other params rest (sym e ∙ is)
+
+    at_self : type_at s.items self ≡ Some (Ty.Closure k)
+    at_self = ap (type_at s.items) same ∙ closure
+
+    by : IsTrue (is_same self own) ⊎ IsTrue (option_map_or (λ (r : Bool × TyId). is_same r.1 own) (reference_of
+        s.items self)
+        false) → ⊥
+    by (inl own_) =
+        none-some k (sym kind.3 ∙ ap closure_in (same_Some kind.0 (Ty.Closure k) (sym kind.1 ∙ (ap (type_at s.items)
+        (sym
+        (same_id self own own_)) ∙ at_self))))
+    by (inr refers) =
+        let h : IsTrue false = subst (λ o. IsTrue (option_map_or (λ (r : Bool × TyId). is_same r.1 own) (option_and_then
+        reference_in o) false)) at_self refers in cc
+
+method_row : (s w : State) (c : Context) → AreReady s.items → c.items ≡ w.items → Grows s w → (own : TyId) (m :
+    Method) → IsMethodOf s
+    own m → IsApart s (head_of m).params →
     IsTrue (not (is_drop_method m)) → (id : ℕ) (receiver : Node) (args : Nodes) → Holds (first_and_rest (λ t. typed c
     (Passed t) receiver) (λ ts. arguments c ts args) (head_of m).params) → Holds (row c id (head_of m).result
     (method_form m
     receiver args))
-method_row s w c all same g own _ (of_adt {body} {is_drop} {head} is drop_is) no_drop id receiver args h =
+method_row s w c all same g own _ (of_adt {body} {is_drop} {head} is drop_is) apart no_drop id receiver args h =
     subst (λ o. Holds (some o (λ (sig : Sig). both (fact (is_same head.result sig.result)) (first_and_rest (λ t. typed c
     (Passed t) receiver) (λ ts. arguments c ts args) sig.params)))) (sym (ap (λ (items : ItemTable). slice_get
     items.bodies
-    body) same ∙ (ap (λ bodies. slice_get bodies body) g.items.bodies ∙ is.0))) (same_self head.result.0 ⋆ h) ⋆
+    body) same ∙ (ap (λ bodies. slice_get bodies body) g.items.bodies ∙ is))) (same_self head.result.0 ⋆ h) ⋆
     subst (λ (items : ItemTable). IsTrue (not (is_drop_body items body) && not (is_closure_body items body))) (sym same)
     (and_true (not (is_drop_body w.items body)) _ (subst (λ b. IsTrue (not b)) (drop_is ∙ sym (drop_later g.items body))
-    no_drop) (no_closure all g body head is))
-method_row s w c all same g own _ (of_trait {trait_no} {method} {head} def at is) no_drop id receiver args h =
+    no_drop) (no_closure all g body head (is, apart)))
+method_row s w c all same g own _ (of_trait {trait_no} {method} {head} def at is) apart no_drop id receiver args h =
     subst (λ o. Holds (some o (λ (d : TraitDef). some (slice_get d.methods method) (λ (sig : Sig). both (fact (is_same
     head.result sig.result)) (first_and_rest (λ t. typed c (Passed t) receiver) (λ ts. arguments c ts args)
     sig.params)))))
@@ -198,14 +241,16 @@ with_self_sound : (env : Env) (at : Pos) (id : ℕ) (base : Node) (m : Method) (
     Nodes)
     (want : Option TyId) (params : List TyId) (s : State) → Knows env s → ((w : State) → Grows s w → IsBase env w
     base) →
-    IsTrue (not (is_reference s.items (ty_of base))) → IsMethodOf s (ty_of base) m → (head_of m).params ≡ params →
+    IsTrue (not (is_reference s.items (ty_of base))) → IsPlainType s.items (ty_of base) → IsMethodOf s (ty_of base) m
+    → (head_of m).params ≡ params →
     IsTrue
     (takes_self s.items (ty_of base) params) → SoundArgs env count args → Gives s (IsTemporary env want) (with_self
     env at
     id base m count args want params s)
-with_self_sound env at id base m count args want [] s k is plain method e takes good = absurd (let no_ : IsTrue false =
+with_self_sound env at id base m count args want [] s k is plain kind method e takes good = absurd (let no_ : IsTrue
+    false =
     takes in cc)
-with_self_sound env at id base m count args want (self ∷ params) s k is plain method e takes good =
+with_self_sound env at id base m count args want (self ∷ params) s k is plain kind method e takes good =
     with_ready λ all.
     bind (received_sound env at base self s is plain (method_known s all (ty_of base) m method self (subst (λ tys.
     Contains
@@ -229,7 +274,8 @@ with_self_sound env at id base m count args want (self ∷ params) s k is plain 
     let args_ = f w (grows_trans i l) in (
       alone_later on.items (head_of m).result (method_alone s all (ty_of base) m method),
       λ p stands.
-          method_row s w (at_spot w.items env.answer p) all refl on (ty_of base) m method no_drop id receiver given_
+          method_row s w (at_spot w.items env.answer p) all refl on (ty_of base) m method (apart_by s (ty_of base)
+          self params (head_of m).params e kind takes) no_drop id receiver given_
           (subst (λ tys. Holds (first_and_rest (λ t. typed (at_spot w.items env.answer p) (Passed t) receiver) (λ ts.
           arguments
           (at_spot w.items env.answer p) ts given_) tys)) (sym e) (
@@ -239,11 +285,10 @@ with_self_sound env at id base m count args want (self ∷ params) s k is plain 
           )),
     )
 
-method_later : {t u : State} → AreReady t.items → Grows t u → (own : TyId) (m : Method) → IsMethodOf t own m → IsMethodOf u own m
-method_later all g own _ (of_adt {body} {is_drop} {head} is drop_is) =
-    of_adt (ap (λ bodies. slice_get bodies body) g.items.bodies ∙ is.0, λ self rest k params at. is.1 self rest k params (was_type all g body head self rest (Ty.Closure k) is.0 params at)) (drop_is ∙ sym
-    (drop_later g.items body))
-method_later all g own _ (of_trait {trait_no} {method} {head} def at is) =
+method_later : {t u : State} → Grows t u → (own : TyId) (m : Method) → IsMethodOf t own m → IsMethodOf u own m
+method_later g own _ (of_adt {body} {is_drop} {head} is drop_is) =
+    of_adt (ap (λ bodies. slice_get bodies body) g.items.bodies ∙ is) (drop_is ∙ sym (drop_later g.items body))
+method_later g own _ (of_trait {trait_no} {method} {head} def at is) =
     of_trait def (ap (λ traits. slice_get traits trait_no) g.items.traits ∙ at) is
 
 pub method_sound : (env : Env) (at : Pos) (named : ItemTable → TyId → Option Method) (count : ℕ) (receiver : Check
@@ -253,7 +298,7 @@ pub method_sound : (env : Env) (at : Pos) (named : ItemTable → TyId → Option
     (method_call env at named count receiver args)
 method_sound env at named count receiver args finds good_receiver good want s k =
     after_number (bind (good_receiver (numbered s) (knows_number env k)) λ b t g d.
-    with_ready λ all. bind (through_sound named at env b t d) λ r u h e. by r u t all (knows_later env (grows_trans g h) (knows_number env
+    bind (through_sound named at env b t d) λ r u h e. by r u t (knows_later env (grows_trans g h) (knows_number env
     k)) h e)
   where
     R : Fact Node
@@ -266,18 +311,20 @@ method_sound env at named count receiver args finds good_receiver good want s k 
         by (Ok a) = record { so = λ ready. tt }
         by (Err x) = record { so = λ ready. tt }
 
-    by : (r : Node × Option Method) (u t : State) → AreReady t.items → Knows env u → Grows t u → ((w : State) → Grows u w → IsFound named
+    by : (r : Node × Option Method) (u t : State) → Knows env u → Grows t u → ((w : State) → Grows u w → IsFound named
         t.items
         env w r) → Gives u R (with_method env at s.next_node r.0 r.1 count args want u)
-    by (base, None) u t all k h e = broken (args []) u
-    by (base, Some m) u t all k h e =
+    by (base, None) u t k h e = broken (args []) u
+    by (base, Some m) u t k h e =
         let of = finds t (ty_of base) m ((e u (grows_refl u)).1 m refl) in
         let plain = ap is_some (ap (option_and_then reference_in) (type_later h.items (ty_of base) of.1.0 of.1.1) ∙
         of.1.2) in
         if_takes (takes_self u.items (ty_of base) (head_of m).params) refl
         (λ takes. with_self_sound env at s.next_node base m count args want (head_of m).params u k (λ w g. (e w g).0)
         (truth_of
-        _ plain) (method_later all h (ty_of base) m of.0) refl takes good)
+        _ plain) (of.1.0, type_later h.items (ty_of base) of.1.0 of.1.1, of.1.2, of.1.3) (method_later h (ty_of base)
+        m of.0) refl
+        takes good)
       where
         if_takes : (b : Bool) → takes_self u.items (ty_of base) (head_of m).params ≡ b → (IsTrue b → Gives u R
             (with_self env
@@ -409,3 +456,46 @@ closure_call_sound env at count callee args good_c good want s k =
         Option ℕ) → closure_of t.items (ty_of c) ≡ o → Gives t R (called c t o)
     by c t knows d all None e = broken (args []) t
     by c t knows d all (Some n) e = with_def c t knows d all n e (slice_get t.items.closures n) refl
+
+-- ---- what the look-up of methods finds
+
+plain_adt : (items : ItemTable) (own : TyId) (n : ℕ) → type_at items own ≡ Some (Ty.Adt n) → IsPlainType items own
+plain_adt items own n at = (Ty.Adt n, at, refl, refl)
+
+plain_dyn : (items : ItemTable) (own : TyId) (n : ℕ) → type_at items own ≡ Some (Ty.Dyn n) → IsPlainType items own
+plain_dyn items own n at = (Ty.Dyn n, at, refl, refl)
+
+head_found : (s : State) (own : TyId) (body : ℕ) (m : Method) (o : Option Sig) → slice_get s.items.bodies body ≡ o →
+    looks.with_head s.items body o ≡ Some m → IsMethodOf s own m
+head_found s own body m None is h = absurd (none-some m h)
+head_found s own body m (Some head) is h =
+    subst (IsMethodOf s own) (same_Some (OfAdt body (is_drop_body s.items body) head) m h) (of_adt is refl)
+
+trait_found : (s : State) (own : TyId) (n : ℕ) (name : Word) (m : Method) (o : Option TraitDef) → slice_get
+    s.items.traits n ≡ o
+    → looks.trait_method n name o ≡ Some m → IsMethodOf s own m
+trait_found s own n name m None is h = absurd (none-some m h)
+trait_found s own n name m (Some def) is h =
+    let k = some_got (λ k. option_map (OfTrait n k) (slice_get def.methods k)) (position_of (λ (x : Sig). bytes_eq
+    x.name name)
+    def.methods) m h in
+    by k.0 (slice_get def.methods k.0) refl k.2
+  where
+    by : (k : ℕ) (o : Option Sig) → slice_get def.methods k ≡ o → option_map (OfTrait n k) o ≡ Some m → IsMethodOf s
+        own m
+    by k None at h = absurd (none-some m h)
+    by k (Some head) at h = subst (IsMethodOf s own) (same_Some (OfTrait n k head) m h) (of_trait def is at)
+
+pub methods_found : (name : Word) → FindsMethods (looks.method_named name)
+methods_found name s own m h = by (type_at s.items own) refl h
+  where
+    by : (o : Option Ty) → type_at s.items own ≡ o → looks.method_in s.items name o ≡ Some m → IsMethodOf s own m ×
+        IsPlainType
+        s.items own
+    by (Some (Ty.Adt n)) at h =
+        let b = some_got (λ body. looks.with_head s.items body (slice_get s.items.bodies body)) (method_of s.items n
+        name) m h in
+        (head_found s own b.0 m (slice_get s.items.bodies b.0) refl b.2, plain_adt s.items own n at)
+    by (Some (Ty.Dyn n)) at h =
+        (trait_found s own n name m (slice_get s.items.traits n) refl h, plain_dyn s.items own n at)
+    by _ at h = absurd (none-some m h)

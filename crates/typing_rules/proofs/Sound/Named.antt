@@ -48,7 +48,8 @@ pub drop_later : {old new : ItemTable} → Extends old new → (body : ℕ) → 
 drop_later e body =
     ap (λ adts. list_any (λ (adt : Adt). option_map_or (λ b. b == body) adt.drop_body false) adts) e.adts
 
-any_at : {A : Type 0} (p : A → Bool) (xs : List A) → IsTrue (list_any p xs) → (k : ℕ) × (x : A) × (slice_get xs k ≡ Some x)
+any_at : {A : Type 0} (p : A → Bool) (xs : List A) → IsTrue (list_any p xs) → (k : ℕ) × (x : A) × (slice_get xs k ≡
+    Some x)
     × IsTrue (p x)
 any_at {A = A} p [] h = absurd (let no_ : IsTrue false = h in cc)
 any_at {A = A} p (y ∷ ys) h = by (any_at p ys) (or_cases (p y) (list_any p ys) h)
@@ -59,15 +60,18 @@ any_at {A = A} p (y ∷ ys) h = by (any_at p ys) (or_cases (p y) (list_any p ys)
     by on (inr more) = let f = on more in (suc f.0, f.1, f.2, f.3)
 
 -- a type that was in the table is what it was
-pub was_type : {s w : State} → AreReady s.items → Grows s w → (body : ℕ) (head : Sig) (self : TyId) (rest : List TyId) (ty : Ty) →
-    slice_get s.items.bodies body ≡ Some head → head.params ≡ self ∷ rest → type_at w.items self ≡ Some ty → type_at s.items
+pub was_type : {s w : State} → AreReady s.items → Grows s w → (body : ℕ) (head : Sig) (self : TyId) (rest : List TyId)
+    (ty : Ty) →
+    slice_get s.items.bodies body ≡ Some head → head.params ≡ self ∷ rest → type_at w.items self ≡ Some ty → type_at
+    s.items
     self ≡ Some ty
 was_type all g body head self rest ty is params at =
     let known = all.params body head self is (subst (λ tys. Contains tys self) (sym params) (0, omega arith, refl)) in
     known.1 ∙ (sym (type_later g.items self known.0 known.1) ∙ at)
 
 -- a function's body is no closure's
-pub no_closure : {s w : State} → AreReady s.items → Grows s w → (body : ℕ) (head : Sig) → IsFunction s body head → IsTrue (not
+pub no_closure : {s w : State} → AreReady s.items → Grows s w → (body : ℕ) (head : Sig) → IsFunction s body head →
+    IsTrue (not
     (is_closure_body w.items body))
 no_closure {s} {w} all g body head is = by (is_closure_body w.items body) refl
   where
@@ -75,9 +79,11 @@ no_closure {s} {w} all g body head is = by (is_closure_body w.items body) refl
     by true e =
         let f = any_at (λ (def : ClosureDef). def.body == body) w.items.closures e in
         let same = eqb-true f.1.body body f.3 in
-        let begins = (g.ready all).closures f.0 f.1 head f.2 (ap (slice_get w.items.bodies) same ∙ (ap (λ bodies. slice_get bodies
+        let begins = (g.ready all).closures f.0 f.1 head f.2 (ap (slice_get w.items.bodies) same ∙ (ap (λ bodies.
+        slice_get bodies
         body) g.items.bodies ∙ is.0)) in
-        absurd (is.1 begins.0 begins.1 f.0 begins.2 (was_type all g body head begins.0 begins.1 (Ty.Closure f.0) is.0 begins.2
+        absurd (is.1 begins.0 begins.1 f.0 begins.2 (was_type all g body head begins.0 begins.1 (Ty.Closure f.0) is.0
+        begins.2
         begins.3))
     by false e = refl
 

@@ -1,5 +1,5 @@
 -- A pattern is one name as it is typed where it is one as it is written.
-use Rattle.std.proofs.Common.{◌≡◌, ℕ, Bool, true, false, not, if◌then◌else◌, List, [], Option, Some, None, Result, Ok, Err, refl, ◌&&◌, ◌||◌, ◌==◌, length, replicate, nat_le, nat_lt}
+use Rattle.std.proofs.Common.{◌≡◌, ℕ, Bool, true, false, not, if◌then◌else◌, List, [], Option, Some, None, Result, Ok, Err, refl, ◌&&◌, ◌||◌, ◌==◌, length, replicate, nat_le, nat_lt, slice_get, sym, ◌∙◌, ap}
 use Rattle.mir_base.specs.declared.int_kind.IntKind.{IntKind}
 use Rattle.mir_base.specs.declared.place_in_text.Pos.{Pos}
 use Rattle.mir_base.specs.declared.rule.Rule.{Rule}
@@ -11,7 +11,7 @@ use Rattle.well_typed.specs.Types.{is_enum, is_same, is_dyn, is_bool, kind_of, a
 use Rattle.typing_rules.specs.Check.{Check, State, Broken, and_then, breaks, obeys, known, interned, pure, ◌>>=◌}
 use Rattle.typing_rules.specs.Patterns as rules
 use Rattle.typing_rules.specs.Places.{a_node_of}
-use Rattle.typing_rules.specs.Promises.{Then, Fact, Gives, IsReady, IsPattern}
+use Rattle.typing_rules.specs.Promises.{Then, Fact, Gives}
 use Rattle.typing_rules.specs.Rows.{Expected, is_signed_kind, most, all_given, are_known}
 use Rattle.typing_rules.specs.Scope.{Env, Entry, adt_named, kind_at, variable}
 use Rattle.typing_rules.specs.Syntax.{Word, Syn, syn, Shape, AnyPattern, BindPattern, LiteralPattern, TruthPattern, PathPattern, PartsPattern, FieldsPattern, ParensPattern, TuplePattern, ArrayPattern, Alternatives}
@@ -23,6 +23,11 @@ use Rattle.mir_ty.specs.declared.ty.Ty.{Ty}
 use Rattle.mir_ty.specs.declared.adt.Variant.{Variant}
 use Rattle.mir_ty.specs.Facts.{is_copy}
 use Rattle.typing_rules.proofs.Sound.Gives.{numbered}
+use Rattle.std.specs.List.{position as position_of}
+use Rattle.std.specs.Str.{bytes_eq}
+use Rattle.typing_rules.specs.RowPromises.{SoundPattern}
+use Rattle.mir_ty.specs.ItemTable.{ItemTable}
+use Rattle.mir_ty.specs.declared.adt.Adt.{Adt}
 
 -- what is so of all that a check can give
 record Shows {A : Type 0} (R : A → State → Type 0) (r : Result (A × State) Broken) : Type 0 where
@@ -193,11 +198,41 @@ both_give : {A : Type 0} {s : State} {Q : Fact A} (P : A → Type 0) (r : Result
 both_give P (Ok a) h p = record { so = λ ready. let g = h.so ready in (g.0, λ w l. (g.1 w l, p.so)) }
 both_give P (Err e) h p = record { so = λ ready. tt }
 
+-- structs and enums stay, so a pattern that is written as one name stays one
+module _ (old new : ItemTable) (e : new.adts ≡ old.adts) where
+  abbrev named : List Adt → Option ℕ → Bool
+  named adts None = false
+  named adts (Some adt) = not (option_map_or (λ (def : Adt). def.is_enum) (slice_get adts adt) false)
+
+  named_is : (items : ItemTable) (o : Option ℕ) → typing.names_struct items o ≡ named items.adts o
+  named_is items None = refl
+  named_is items (Some adt) = refl
+
+  one_lone : (name : Word) → typing.names_struct new (adt_named new name) ≡ typing.names_struct old (adt_named old name)
+  one_lone name =
+      named_is new (adt_named new name) ∙ (ap (λ adts. named adts (position_of (λ (adt : Adt). bytes_eq adt.name name)
+      adts)) e ∙
+      sym (named_is old (adt_named old name)))
+
+  mutual
+    one_same : (p : Syn) → typing.is_one_name new p ≡ typing.is_one_name old p
+    one_same (syn at form) = one_same_form form
+
+    one_same_form : (form : Shape) → typing.is_one_name_form new form ≡ typing.is_one_name_form old form
+    one_same_form (BindPattern name) = ap not (one_lone name)
+    one_same_form (ParensPattern inside) = one_same inside
+    one_same_form _ = refl
+
 -- a whole pattern, with what it is as it is written
-pub one_pattern_sound : (env : Env) (p : Syn) (e : Expected) (ty : TyId) (s : State) → IsReady s.items ty → Gives s (λ
-    w b.
-    IsPattern e ty s.next_node w b × (is_one_name b.0 ≡ typing.is_one_name s.items p)) (rules.pattern env e ty p [] s)
-one_pattern_sound env p e ty s ready =
-    both_give (λ b. is_one_name b.0 ≡ typing.is_one_name s.items p) (rules.pattern env e ty p [] s) (matcher_sound env
-    p e ty s
-    ready) (one_name env e ty p [] s)
+pub one_pattern_sound : (env : Env) (p : Syn) (first : State) → SoundPattern first (typing.is_one_name first.items p)
+    (λ e ty.
+    rules.pattern env e ty p [])
+one_pattern_sound env p first e ty s g ready =
+    both_give (λ b. is_one_name b.0 ≡ typing.is_one_name first.items p) (rules.pattern env e ty p [] s) (matcher_sound
+    env p e ty
+    s ready) (named_on (rules.pattern env e ty p [] s) (one_name env e ty p [] s))
+  where
+    named_on : (r : Result (rules.Bound × State) Broken) → Shows (Is (typing.is_one_name s.items p)) r → Shows (λ b t.
+        is_one_name b.0 ≡ typing.is_one_name first.items p) r
+    named_on (Ok b) h = record { so = h.so ∙ one_same first.items s.items g.items.adts p }
+    named_on (Err x) h = record { so = tt }

@@ -5,7 +5,7 @@ use Rattle.typing_rules.proofs.Sound.Structs.{struct_sound}
 use Rattle.typing_rules.proofs.Sound.AllPatterns.{matcher_sound}
 use Rattle.typing_rules.proofs.Sound.Literals.{literal_sound}
 use Rattle.typing_rules.proofs.Sound.Matching.{if_let_alone_sound, if_let_else_sound, while_let_sound, arm_sound, match_sound}
-use Rattle.typing_rules.proofs.Sound.Methods.{method_sound, closure_call_sound}
+use Rattle.typing_rules.proofs.Sound.Methods.{methods_found, method_sound, closure_call_sound}
 use Rattle.typing_rules.proofs.Sound.Named.{ask_sound, function_sound, constructor_sound, unit_struct_sound}
 use Rattle.typing_rules.proofs.Sound.Arguments.{element_sound, store_sound, argument_sound}
 use Rattle.typing_rules.proofs.Sound.Blocks.{block_sound, evaluate_sound}
@@ -105,6 +105,7 @@ returns-clause-calls c =
     record {
       function = function_sound;
       method = method_sound;
+      methods = methods_found;
       closure = closure_call_sound;
       constructor = constructor_sound;
       unit_struct = unit_struct_sound;
