@@ -12,8 +12,8 @@ use Rattle.typed_tree.specs.Tree.{Node, Nodes}
 use Rattle.typing_rules.specs.Check.{Check, State, interned, ◌>>=◌}
 use Rattle.typing_rules.specs.Places.{unit, bool, never, int, variable_place, struct_field, numbered_part}
 use Rattle.typing_rules.specs.Promises.{Grows, Gives, IsKnown, Knows, IsValue, Sound, SoundTemporary, SoundBase, IsReady, IsTemporary, IsPattern, SoundMatcher, IsAlone}
-use Rattle.typing_rules.specs.RowPromises.{IsMade, IsPlace, IsArgument, SoundReferrer, SoundArgs, SoundParts, SoundElements, SoundMaybe, IsLoopOf, SoundStatements, SoundTail, SoundStatement, IsFunction, FindsMethods, IsArm, SoundArms, SoundGuard, SoundDeclared, SoundInitialiser, SoundPattern, SoundInits, IsStatement}
-use Rattle.typing_rules.specs.Rows.{Typer, Referrer, leaf, taken, field, deref, element, not_row, negate, arithmetic, comparison, logic, store, borrow, passed_on, argument, built_in, print_form, drop_form, forget_form, new_box, tuple_row, array_row, block, if_alone, if_else, while_row, break_row, continue_row, return_row, evaluate, Expected, Matcher, Method, literal, ask_form, call, make, if_let_alone, if_let_else, while_let_row, arm, match_row, method_call, closure_call, let_row, struct_row, Given}
+use Rattle.typing_rules.specs.RowPromises.{IsMade, IsPlace, IsArgument, SoundReferrer, SoundArgs, SoundParts, SoundElements, SoundMaybe, IsLoopOf, SoundStatements, SoundTail, SoundStatement, IsFunction, FindsMethods, IsArm, SoundArms, SoundGuard, SoundDeclared, SoundInitialiser, SoundPattern, SoundInits, IsStatement, IsInParts}
+use Rattle.typing_rules.specs.Rows.{Typer, Referrer, leaf, taken, field, deref, element, not_row, negate, arithmetic, comparison, logic, store, borrow, passed_on, argument, built_in, print_form, drop_form, forget_form, new_box, tuple_row, array_row, block, if_alone, if_else, while_row, break_row, continue_row, return_row, evaluate, Expected, Matcher, Method, literal, ask_form, call, make, if_let_alone, if_let_else, while_let_row, arm, match_row, method_call, closure_call, let_row, struct_row, Given, place_for_parts}
 use Rattle.typing_rules.specs.Scope.{Env, Entry, Around, within_loop, with_variables}
 use Rattle.typing_rules.specs.Syntax.{Word, Syn}
 use Rattle.mir_ty.specs.declared.adt.Variant.{Variant}
@@ -145,6 +145,8 @@ pub record Blocks : Type 0 where
       SoundPattern s is_one matcher → Knows env s → Gives s (λ w done. IsStatement env w done × Knows done.2 w)
       (let_row at env
       is_one written value matcher (λ xs. with_variables xs env) s)
+  pub in_parts : (env : Env) (want : Option TyId) (n : Node) (s : State) → IsPlace env s n → ((w : State) → Grows s w →
+      IsPlace env w n) → Gives s (IsInParts env want) (place_for_parts env want n s)
   pub braces : (env : Env) (at : Pos) (check : Check (Nodes × Bool × Env)) (tail : Env → Option TyId → Check
       tree.MaybeNode) →
       SoundStatements env check → SoundTail env tail → SoundTemporary env (block at check tail)

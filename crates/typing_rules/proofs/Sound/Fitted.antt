@@ -46,7 +46,7 @@ trait_in_box items ty = option_and_then (trait_of items) (boxed_of items ty)
 abbrev adt_in_box : ItemTable → TyId → Option ℕ
 adt_in_box items ty = option_and_then (adt_of items) (boxed_of items ty)
 
-data FitOf (items : ItemTable) (want ty : TyId) : Fit → Type 0 where
+pub data FitOf (items : ItemTable) (want ty : TyId) : Fit → Type 0 where
   it_fits : IsTrue (fits items want ty) → FitOf items want ty Fits
   is_coerced : {trait_no : ℕ} (adt : ℕ) → trait_in_box items want ≡ Some trait_no → adt_in_box items ty ≡ Some adt →
       IsTrue (implements items adt trait_no) → FitOf items want ty (Coerced trait_no)
@@ -69,7 +69,7 @@ module _ (items : ItemTable) (want ty : TyId) where
   fit_if true h = it_fits (sym h)
   fit_if false h = coerced_of _ _ refl refl
 
-  how_fits : FitOf items want ty (fit items want ty)
+  pub how_fits : FitOf items want ty (fit items want ty)
   how_fits = fit_if _ refl
 
 module _ {old new : ItemTable} (e : Extends old new) where

@@ -1,5 +1,5 @@
 -- `let`.
-use Rattle.std.proofs.Common.{◌≡◌, ℕ, Bool, true, false, ◌&&◌, ◌||◌, not, if◌then◌else◌, List, Option, Some, None, IsTrue, refl, ap, sym, subst, arith}
+use Rattle.std.proofs.Common.{◌≡◌, ℕ, Bool, true, false, ◌&&◌, ◌||◌, not, if◌then◌else◌, List, Option, Some, None, IsTrue, refl, ap, sym, subst, arith, Result, Ok, Err, ◌∙◌}
 use Rattle.std.proofs.lemmas.Option.{none-some, same_Some}
 use Rattle.mir_base.specs.declared.place_in_text.Pos.{Pos}
 use Rattle.mir_base.specs.declared.rule.Rule.{Rule}
@@ -11,22 +11,26 @@ use Rattle.well_typed.specs.Claim.{Holds}
 use Rattle.well_typed.specs.Nodes as well
 use Rattle.well_typed.specs.Nodes.{typed, statements, statement, is_one_name, ends_in}
 use Rattle.well_typed.specs.Patterns.{Matched, pattern}
-use Rattle.well_typed.specs.Places.{Context, ty_of, with_entries, Base, Wanted}
-use Rattle.well_typed.specs.Types.{fits, is_never_ty, is_unit}
+use Rattle.well_typed.specs.Places.{Context, ty_of, with_entries, Base, Wanted, form_of, is_place}
+use Rattle.well_typed.specs.Types.{fits, is_never_ty, is_unit, is_dyn, is_reference}
 use Rattle.well_typed.proofs.ClaimLemmas.{and_true}
-use Rattle.typing_rules.specs.Check.{Check, State}
-use Rattle.typing_rules.specs.Places.{unit, agrees}
-use Rattle.typing_rules.specs.Promises.{Gives, Knows, IsReady, IsAlone, Grows, Spot, at_spot, Stands, are_bound, IsPattern}
-use Rattle.typing_rules.specs.RowPromises.{IsStatement, IsInitialiser, SoundInitialiser, SoundDeclared, SoundPattern}
+use Rattle.typing_rules.specs.Check.{Check, State, Broken, and_then, obeys, pure, ◌>>=◌}
+use Rattle.typing_rules.specs.Places.{unit, agrees, Fit, Fits, Coerced, Differs, fit, used, is_fixed, in_own_guard, place_in_text}
+use Rattle.typing_rules.specs.Promises.{Gives, Knows, IsReady, IsAlone, Grows, Spot, at_spot, Stands, are_bound, IsPattern, Then, IsValue}
+use Rattle.typing_rules.specs.RowPromises.{IsStatement, IsInitialiser, SoundInitialiser, SoundDeclared, SoundPattern, IsPlace, IsInParts}
 use Rattle.typing_rules.specs.Rows as rules
-use Rattle.typing_rules.specs.Rows.{Matcher, Expected, expected, let_row, let_ty, of_value, ends_by}
+use Rattle.typing_rules.specs.Rows.{Matcher, Expected, expected, let_row, let_ty, of_value, ends_by, fitted_by, taking, taken, as_part, place_for_parts}
 use Rattle.typing_rules.specs.Scope.{Env, Entry, with_variables}
 use Rattle.typing_rules.proofs.Sound.Branches.{unit_is}
-use Rattle.typing_rules.proofs.Sound.Fitted.{fits_self}
-use Rattle.typing_rules.proofs.Sound.Gives.{grows_number, ◌⋆◌, bind, given, found, after_number, numbered, grows_trans, grows_refl, knows_later, knows_number}
-use Rattle.typing_rules.proofs.Sound.Later.{alone_ready, alone_no_reference, same_is}
+use Rattle.typing_rules.proofs.Sound.Fitted.{fits_self, FitOf, it_fits, is_coerced, differs, how_fits}
+use Rattle.typing_rules.proofs.Sound.Gives.{grows_number, ◌⋆◌, bind, given, found, after_number, numbered, grows_trans, grows_refl, knows_later, knows_number, obeyed}
+use Rattle.typing_rules.proofs.Sound.Later.{alone_ready, alone_no_reference, same_is, same_reference, agrees_later}
 use Rattle.typing_rules.proofs.Sound.Operators.{same_id, as_wanted}
 use Rattle.typing_rules.proofs.Sound.Scopes.{behind, bound_stands, knows_bound}
+use Rattle.std.proofs.lemmas.Bool.{false≢true}
+use Rattle.mir_ty.specs.Facts.{is_copy}
+use Rattle.typing_rules.proofs.Sound.Arguments.{used_ty}
+use Rattle.typing_rules.proofs.Sound.Places.{taken_sound, temporary_base}
 
 -- the type of a node that a pattern gives
 pattern_type : (items : ItemTable) (place : Matched) (ty : TyId) (p : Node) → Holds (pattern items place ty p) → ty ≡
@@ -144,3 +148,99 @@ let_sound env at one written value matcher s good_w good_v good_m k =
       },
       knows_bound env w u.next_node b.1 (knows_later env on ku) is.0.fresh is.0.types,
     ))
+
+-- ---- a place that is taken apart
+
+abbrev IsUnplaced : Result (Node × State) Broken → Type 0
+IsUnplaced r = Then r (λ n t. is_place (form_of n) ≡ false)
+
+-- what is coerced is no place any more
+coerced_unplaced : (want : TyId) (m : Node) (s : State) (how : Fit) → (how ≡ Fits → ⊥) → IsUnplaced (fitted_by want m
+    how s)
+coerced_unplaced want m s Fits no_fit = absurd (no_fit refl)
+coerced_unplaced want m s (Coerced trait_no) no_fit = refl
+coerced_unplaced want m s Differs no_fit = tt
+
+taken_unplaced : (env : Env) (want : TyId) (n : Node) (s : State) → (fit s.items want (ty_of n) ≡ Fits → ⊥) →
+    IsUnplaced (taken
+    env (Some want) n s)
+taken_unplaced env want n s no_fit =
+    on (fitted_by want m (fit s.items want (ty_of m)) s) (coerced_unplaced want m s (fit s.items want (ty_of m)) (λ e.
+    no_fit (ap
+    (fit s.items want) (sym (used_ty (taking s.items (ty_of n)) n)) ∙ e)))
+  where
+    m : Node
+    m = used (taking s.items (ty_of n)) n
+
+    rules_on : (x : Node) (t : State) → is_place (form_of x) ≡ false → (a b : Bool) → IsUnplaced (and_then (obeys
+        Rule.T07
+        (place_in_text n) a t) (λ _. obeys Rule.T08 (place_in_text n) b >>= (λ _. pure x)))
+    rules_on x t h true true = h
+    rules_on x t h true false = tt
+    rules_on x t h false b = tt
+
+    on : (r : Result (Node × State) Broken) → IsUnplaced r → IsUnplaced (and_then r (λ x. obeys Rule.T07
+        (place_in_text n) (is_copy
+        s.items (ty_of n) || not (is_fixed s.items (in_own_guard env.variables) n || is_dyn s.items (ty_of n))) >>= (λ
+        _. obeys
+        Rule.T08 (place_in_text n) (not (is_reference s.items (ty_of n))) >>= (λ _. pure x))))
+    on (Ok a) h = rules_on a.0 a.1 h _ _
+    on (Err e) h = tt
+
+-- a value that is no place may be taken apart as a temporary
+parts_of_value : (env : Env) (want : Option TyId) (w : State) (n : Node) → IsValue env want w n → is_place (form_of n)
+    ≡ false →
+    IsInParts env want w n
+parts_of_value env want w n value no_place =
+    record {
+      base = temporary_base env want w n (record { value = value; is_no_place = no_place });
+      fit = value.fit;
+      no_reference = alone_no_reference w.items (ty_of n) value.alone;
+    }
+
+both_parts : (env : Env) (want : Option TyId) (t : State) (r : Result (Node × State) Broken) → Gives t (IsValue env
+    want) r →
+    IsUnplaced r → Gives t (IsInParts env want) r
+both_parts env want t (Ok a) h u =
+    record { so = λ ready. let g = h.so ready in (g.0, λ w l. parts_of_value env want w a.0 (g.1 w l) u) }
+both_parts env want t (Err e) h u = record { so = λ ready. tt }
+
+pub in_parts_sound : (env : Env) (want : Option TyId) (n : Node) (t : State) → IsPlace env t n → ((w : State) → Grows
+    t w →
+    IsPlace env w n) → Gives t (IsInParts env want) (place_for_parts env want n t)
+in_parts_sound env None n t now later =
+    obeyed Rule.T08 (place_in_text n) (not (is_reference t.items (ty_of n))) _ λ plain.
+    given n λ ready w g.
+    record {
+      base = (later w g).base;
+      fit = refl;
+      no_reference = subst (λ b. IsTrue (not b)) (sym (same_reference g.items (ty_of n) now.base.ready)) plain;
+    }
+in_parts_sound env (Some want) n t now later = by (fit t.items want (ty_of n)) refl (how_fits t.items want (ty_of n))
+  where
+    apart : (how : Fit) → fit t.items want (ty_of n) ≡ how → (how ≡ Fits → ⊥) → Gives t (IsInParts env (Some want))
+        (taken env
+        (Some want) n t)
+    apart how e no_fit =
+        both_parts env (Some want) t (taken env (Some want) n t) (taken_sound env (Some want) n t now later)
+        (taken_unplaced env
+        want n t (λ f. no_fit (sym e ∙ f)))
+
+    is_fit : Fit → Bool
+    is_fit Fits = true
+    is_fit _ = false
+
+    by : (how : Fit) → fit t.items want (ty_of n) ≡ how → FitOf t.items want (ty_of n) how → Gives t (IsInParts env
+        (Some want))
+        (as_part env (Some want) n how t)
+    by _ e (it_fits f) =
+        obeyed Rule.T08 (place_in_text n) (not (is_reference t.items (ty_of n))) _ λ plain.
+        given n λ ready w g.
+        record {
+          base = (later w g).base;
+          fit = agrees_later g.items (Some want) (ty_of n) f;
+          no_reference = subst (λ b. IsTrue (not b)) (sym (same_reference g.items (ty_of n) now.base.ready)) plain;
+        }
+    by (Coerced trait_no) e (is_coerced adt to from has) =
+        apart (Coerced trait_no) e (λ f. false≢true (ap is_fit f))
+    by Differs e differs = apart Differs e (λ f. false≢true (ap is_fit f))

@@ -1,6 +1,6 @@
 use Rattle.typing_rules.proofs.Sound.OneName.{one_pattern_sound}
 use Rattle.typing_rules.proofs.Sound.Written.{written_sound}
-use Rattle.typing_rules.proofs.Sound.Lets.{let_sound}
+use Rattle.typing_rules.proofs.Sound.Lets.{let_sound, in_parts_sound}
 use Rattle.typing_rules.proofs.Sound.Structs.{struct_sound}
 use Rattle.typing_rules.proofs.Sound.AllPatterns.{matcher_sound}
 use Rattle.typing_rules.proofs.Sound.Literals.{literal_sound}
@@ -82,7 +82,13 @@ pub returns-clause-jumps : goal.returns-clause-jumps
 returns-clause-jumps c = record { breaking = break_sound; continuing = continue_sound; returning = return_sound }
 
 pub returns-clause-blocks : goal.returns-clause-blocks
-returns-clause-blocks c = record { evaluated = evaluate_sound; declared = let_sound; braces = block_sound }
+returns-clause-blocks c = record {
+  evaluated = evaluate_sound;
+  declared = let_sound;
+  in_parts = in_parts_sound;
+  braces
+      = block_sound;
+}
 
 pub returns-clause-patterns : goal.returns-clause-patterns
 returns-clause-patterns c = record { well_typed = matcher_sound; one_name = one_pattern_sound }
