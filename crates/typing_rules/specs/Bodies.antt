@@ -14,8 +14,8 @@ use Rattle.typing_rules.specs.Patterns.{pattern}
 use Rattle.typing_rules.specs.Places.{used, a_node_of, unit, variable_place}
 use Rattle.typing_rules.specs.Rows.{Typer, Expected, taking, taken, fitted}
 use Rattle.typing_rules.specs.Scope.{Env, Entry, Local, Capture, variable, with_variables}
-use Rattle.typing_rules.specs.Syntax.{Word, Receiver, ByValue, ByShared, ByUnique, Syn, syn, Shape, Ident, AnyPattern, BindPattern, ParensPattern, ParamOf, SelfParam, Syns, no_syn, a_syn, MaybeSyn, nothing, just}
-use Rattle.typing_rules.specs.View.{self_name}
+use Rattle.src_ast.specs.Syntax.{Word, Receiver, ByValue, ByShared, ByUnique, Syn, syn, Shape, Ident, AnyPattern, BindPattern, ParensPattern, ParamOf, SelfParam, Syns, no_syn, a_syn, MaybeSyn, nothing, just}
+use Rattle.src_ast.specs.View.{self_name}
 use Rattle.typing_rules.specs.Written as types_
 use Rattle.typing_rules.specs.Written.{written, written_param}
 

@@ -7,8 +7,8 @@ use Rattle.mir_base.specs.declared.place_in_text.Pos.{Pos}
 use Rattle.src_tree.specs.declared.row.Row.{Row}
 use Rattle.src_tree.specs.Layout as layout
 use Rattle.src_tree.specs.Layout.{node, Parts, end, tok, sub}
-use Rattle.typing_rules.specs.Syntax.{number_word, Word, Kind, Unit_, Syn, syn, StructItem, EnumItem, VariantDecl, TraitItem, ImplItem, FnItem, Syns, no_syn, a_syn}
-use Rattle.typing_rules.specs.View.{view}
+use Rattle.src_ast.specs.Syntax.{number_word, Word, Kind, Unit_, Syn, syn, StructItem, EnumItem, VariantDecl, TraitItem, ImplItem, FnItem, Syns, no_syn, a_syn}
+use Rattle.src_ast.specs.View.{view}
 
 -- ---- structs, enums and traits
 

@@ -15,7 +15,5 @@ pub mod RowLaws
 pub mod RowPromises
 pub mod Rows
 pub mod Scope
-pub mod Syntax
 pub mod Typed
-pub mod View
 pub mod Written

@@ -13,7 +13,7 @@ use Rattle.well_typed.specs.Nodes.{is_drop_body}
 use Rattle.well_typed.specs.Types.{closure_of, is_enum, variant_at}
 use Rattle.typing_rules.specs.Rows.{Method, OfAdt, OfTrait}
 use Rattle.typing_rules.specs.Scope.{Env, Entry, variable, adt_named, body_named, method_of, variant_named, kind_at, adt_at_head}
-use Rattle.typing_rules.specs.Syntax.{Word, Kind, Unit_, Tuple_, Syn, syn, Shape, Path, Parens}
+use Rattle.src_ast.specs.Syntax.{Word, Kind, Unit_, Tuple_, Syn, syn, Shape, Path, Parens}
 use Rattle.typing_rules.specs.Written.{is_box}
 
 abbrev pub is_built_in : Word → Bool

@@ -17,7 +17,7 @@ use Rattle.typing_rules.specs.Check.{Check, ◌>>=◌, ◌>>◌, ◌<$>◌, pure
 use Rattle.typing_rules.specs.Places.{used, a_node_of, int}
 use Rattle.typing_rules.specs.Rows.{Expected, taking, literal_value, is_signed_kind, most, all_given, are_known, Given}
 use Rattle.typing_rules.specs.Scope.{Env, Entry, Local, variable, variant_named, field_named, kind_at, adt_at_head, adt_named}
-use Rattle.typing_rules.specs.Syntax.{Word, Kind, Unit_, Fields_, Syn, syn, Shape, AnyPattern, BindPattern, LiteralPattern, TruthPattern, PathPattern, PartsPattern, FieldsPattern, FieldPattern, ParensPattern, TuplePattern, ArrayPattern, Alternatives, Syns, no_syn, a_syn, nothing, just}
+use Rattle.src_ast.specs.Syntax.{Word, Kind, Unit_, Fields_, Syn, syn, Shape, AnyPattern, BindPattern, LiteralPattern, TruthPattern, PathPattern, PartsPattern, FieldsPattern, FieldPattern, ParensPattern, TuplePattern, ArrayPattern, Alternatives, Syns, no_syn, a_syn, nothing, just}
 
 -- what a pattern gives: its node, and the bindings so far
 abbrev pub Bound : Type 0

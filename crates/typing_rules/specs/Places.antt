@@ -13,7 +13,7 @@ use Rattle.well_typed.specs.Places.{ty_of, is_place}
 use Rattle.well_typed.specs.Types.{fits, adt_of, tuple_of, boxed_of, trait_of, inside_of, reference_of, is_reference, implements, variant_at, is_enum}
 use Rattle.typing_rules.specs.Check.{Check, ◌>>=◌, pure, the_items, number}
 use Rattle.typing_rules.specs.Scope.{Entry, Meaning, Local, Capture, InGuard, field_named}
-use Rattle.typing_rules.specs.Syntax.{number_word, Word}
+use Rattle.src_ast.specs.Syntax.{number_word, Word}
 
 abbrev pub place_in_text : Node → Pos
 place_in_text (node id at ty by form) = at

@@ -18,7 +18,7 @@ use Rattle.typing_rules.specs.Collected.{collected, starting_with}
 use Rattle.typing_rules.specs.Items.{items_of, item_syns, adt_names, trait_names, all_kinds}
 use Rattle.typing_rules.specs.Places.{unit}
 use Rattle.typing_rules.specs.Scope.{Env, adt_named, trait_named, body_named, method_word}
-use Rattle.typing_rules.specs.Syntax.{Word, Named, ByShared, ByUnique, Syn, syn, StructItem, EnumItem, FieldDecl, VariantDecl, TraitItem, ImplItem, FnItem, SelfParam, Syns, no_syn, a_syn, list_of, MaybeSyn, nothing, just}
+use Rattle.src_ast.specs.Syntax.{Word, Named, ByShared, ByUnique, Syn, syn, StructItem, EnumItem, FieldDecl, VariantDecl, TraitItem, ImplItem, FnItem, SelfParam, Syns, no_syn, a_syn, list_of, MaybeSyn, nothing, just}
 use Rattle.typing_rules.specs.Typed.{typed}
 use Rattle.typing_rules.specs.Written.{written, written_param}
 

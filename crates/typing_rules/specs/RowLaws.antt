@@ -15,7 +15,7 @@ use Rattle.typing_rules.specs.Promises.{Grows, Gives, IsKnown, Knows, IsValue, S
 use Rattle.typing_rules.specs.RowPromises.{IsMade, IsPlace, IsArgument, SoundReferrer, SoundArgs, SoundParts, SoundElements, SoundMaybe, IsLoopOf, SoundStatements, SoundTail, SoundStatement, IsFunction, FindsMethods, IsArm, SoundArms, SoundGuard, SoundDeclared, SoundInitialiser, SoundPattern, SoundInits, IsStatement, IsInParts}
 use Rattle.typing_rules.specs.Rows.{Typer, Referrer, leaf, taken, field, deref, element, not_row, negate, arithmetic, comparison, logic, store, borrow, passed_on, argument, built_in, print_form, drop_form, forget_form, new_box, tuple_row, array_row, block, if_alone, if_else, while_row, break_row, continue_row, return_row, evaluate, Expected, Matcher, Method, literal, ask_form, call, make, if_let_alone, if_let_else, while_let_row, arm, match_row, method_call, closure_call, let_row, struct_row, Given, place_for_parts}
 use Rattle.typing_rules.specs.Scope.{Env, Entry, Around, within_loop, with_variables}
-use Rattle.typing_rules.specs.Syntax.{Word, Syn}
+use Rattle.src_ast.specs.Syntax.{Word, Syn}
 use Rattle.mir_ty.specs.declared.adt.Variant.{Variant}
 use Rattle.mir_ty.specs.declared.def.Sig.{Sig}
 use Rattle.well_typed.specs.Nodes.{is_drop_body}

@@ -21,7 +21,7 @@ use Rattle.well_typed.specs.Types.{is_same, is_unit, is_bool, is_never, is_int, 
 use Rattle.typing_rules.specs.Check.{Check, ◌>>=◌, ◌>>◌, ◌<$>◌, pure, breaks, obeys, known, the_items, number, interned, breaks_out, types_of_breaks}
 use Rattle.typing_rules.specs.Places.{place_in_text, used, a_node_of, unit, bool, never, int, Fit, Fits, Coerced, Differs, fit, agrees, wanted, is_any, is_fixed, is_behind_shared, in_own_guard, variable_place, through}
 use Rattle.typing_rules.specs.Scope.{Env, Entry, Around}
-use Rattle.typing_rules.specs.Syntax.{Word}
+use Rattle.src_ast.specs.Syntax.{Word}
 
 -- a check of an expression, which waits for the type that is required of it
 abbrev pub Typer : Type 0

@@ -5,7 +5,7 @@ use Rattle.std.specs.Str.{bytes_eq}
 use Rattle.mir_ty.specs.declared.adt.Variant.{Variant}
 use Rattle.mir_ty.specs.declared.ty.TyId.{TyId}
 use Rattle.mir_ty.specs.ItemTable.{ItemTable}
-use Rattle.typing_rules.specs.Syntax.{Word, Kind, Unit_}
+use Rattle.src_ast.specs.Syntax.{Word, Kind, Unit_}
 
 -- what a variable is: an entry of the body by its key, a capture by the key of the closure and its number, or a binding
 -- inside its own guard

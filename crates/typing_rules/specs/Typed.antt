@@ -20,7 +20,7 @@ use Rattle.typing_rules.specs.Places.{unit, bool, never, int, variable_place, st
 use Rattle.typing_rules.specs.Rows as rows
 use Rattle.typing_rules.specs.Rows.{Typer, Referrer, Expected, Given, taken, no_reference, leaf}
 use Rattle.typing_rules.specs.Scope.{Env, Entry, variable, with_variables, within_loop, jumps_to, in_guard, adt_named, field_named}
-use Rattle.typing_rules.specs.Syntax.{Word, Syn, syn, Shape, Literal, TruthLiteral, Path, Minus, Bang, Star, Ampersand, Calculate, Compare, Both, Either, Store, CallOf, MethodOf, FieldOf, PartOf, ElementOf, StructOf, FieldInit, Parens, TupleOf, ArrayOf, Braces, IfElse, IfLetElse, MatchOn, ArmOf, LoopOf, WhileOf, WhileLetOf, BreakOf, ContinueOf, ReturnOf, MoveOf, PanicOf, LetOf, Empty, Semi, BindPattern, ParensPattern, Syns, no_syn, a_syn, MaybeSyn, nothing, just}
+use Rattle.src_ast.specs.Syntax.{Word, Syn, syn, Shape, Literal, TruthLiteral, Path, Minus, Bang, Star, Ampersand, Calculate, Compare, Both, Either, Store, CallOf, MethodOf, FieldOf, PartOf, ElementOf, StructOf, FieldInit, Parens, TupleOf, ArrayOf, Braces, IfElse, IfLetElse, MatchOn, ArmOf, LoopOf, WhileOf, WhileLetOf, BreakOf, ContinueOf, ReturnOf, MoveOf, PanicOf, LetOf, Empty, Semi, BindPattern, ParensPattern, Syns, no_syn, a_syn, MaybeSyn, nothing, just}
 use Rattle.typing_rules.specs.Written.{written}
 
 -- ---- paths

@@ -27,7 +27,7 @@ use Rattle.typing_rules.specs.Patterns as rules
 use Rattle.typing_rules.specs.Promises.{Extends, IsReady, AreReady, Gives, are_bound, AreFresh, AreReadyTypes, IsPattern, SoundMatcher}
 use Rattle.typing_rules.specs.Rows.{Expected, Given, numbered_fields, are_known, all_given}
 use Rattle.typing_rules.specs.Scope.{Env, Entry, adt_named, adt_at_head, variant_named, field_named, kind_at}
-use Rattle.typing_rules.specs.Syntax.{Word, Syn, syn, Shape, AnyPattern, BindPattern, LiteralPattern, TruthPattern, PathPattern, PartsPattern, FieldsPattern, FieldPattern, ParensPattern, TuplePattern, ArrayPattern, Alternatives, Syns, no_syn, a_syn, nothing, just}
+use Rattle.src_ast.specs.Syntax.{Word, Syn, syn, Shape, AnyPattern, BindPattern, LiteralPattern, TruthPattern, PathPattern, PartsPattern, FieldsPattern, FieldPattern, ParensPattern, TuplePattern, ArrayPattern, Alternatives, Syns, no_syn, a_syn, nothing, just}
 use Rattle.typing_rules.proofs.Sound.Bindings.{Binds, binds_none, binds_join}
 use Rattle.typing_rules.proofs.Sound.Fitted.{same_self}
 use Rattle.typing_rules.proofs.Sound.Gives.{◌⋆◌, bind, weaker, with_ready, given, gives_nothing, obeyed, found, after_number, numbered, grows_trans, grows_refl}

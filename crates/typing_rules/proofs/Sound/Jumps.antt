@@ -21,7 +21,7 @@ use Rattle.typing_rules.specs.Promises.{AreReady, Grows, Gives, Spot, at_spot, M
 use Rattle.typing_rules.specs.RowPromises.{IsLoopOf, IsMaybe, SoundMaybe}
 use Rattle.typing_rules.specs.Rows.{Typer, continue_row, return_row, break_row, while_row, loop_around, carried, ty_carried, may_carry, is_some_node}
 use Rattle.typing_rules.specs.Scope.{Env, Around, Meaning, Local, Capture, InGuard, within_loop}
-use Rattle.typing_rules.specs.Syntax.{Word}
+use Rattle.src_ast.specs.Syntax.{Word}
 use Rattle.typing_rules.proofs.Sound.Branches.{unit_is, unit_fits, bool_fits}
 use Rattle.typing_rules.proofs.Sound.Fitted.{settled_ends, same_self}
 use Rattle.typing_rules.proofs.Sound.Gives.{◌⋆◌, bind, obeyed, found, after_number, numbered, grows_trans, knows_later, knows_number}

@@ -23,7 +23,7 @@ use Rattle.typing_rules.specs.RowPromises.{IsMaybe, IsArm, AreArms, SoundArms, S
 use Rattle.typing_rules.specs.Rows as rows
 use Rattle.typing_rules.specs.Rows.{Typer, Expected, Matcher, expected, scrutinised, used_if_place, if_let_alone, if_let_else, match_row, while_let_row, loop_around, one_of_two, one_type}
 use Rattle.typing_rules.specs.Scope.{Env, Entry, Around, with_variables, in_guard, within_loop}
-use Rattle.typing_rules.specs.Syntax.{Word}
+use Rattle.src_ast.specs.Syntax.{Word}
 use Rattle.typing_rules.proofs.Sound.Arguments.{IsNamed, named_sound}
 use Rattle.typing_rules.proofs.Sound.Branches.{unit_is, unit_fits, bool_fits, common_of}
 use Rattle.typing_rules.proofs.Sound.Constructors.{one_is_common, one_has, fits_all_later}

@@ -39,7 +39,7 @@ use Rattle.typing_rules.proofs.Sound.Parts.{IsFound, through_sound}
 use Rattle.typing_rules.proofs.Sound.Places.{taken_value, truth_of, not_true}
 use Rattle.typing_rules.proofs.Sound.References.{borrowed_if}
 use Rattle.std.specs.Str.{bytes_eq}
-use Rattle.typing_rules.specs.Syntax.{Word}
+use Rattle.src_ast.specs.Syntax.{Word}
 use Rattle.typing_rules.specs.Named as looks
 
 -- ---- receivers

@@ -14,7 +14,7 @@ use Rattle.typing_rules.specs.Places.{a_node_of}
 use Rattle.typing_rules.specs.Promises.{Then, Fact, Gives}
 use Rattle.typing_rules.specs.Rows.{Expected, is_signed_kind, most, all_given, are_known}
 use Rattle.typing_rules.specs.Scope.{Env, Entry, adt_named, kind_at, variable}
-use Rattle.typing_rules.specs.Syntax.{Word, Syn, syn, Shape, AnyPattern, BindPattern, LiteralPattern, TruthPattern, PathPattern, PartsPattern, FieldsPattern, ParensPattern, TuplePattern, ArrayPattern, Alternatives}
+use Rattle.src_ast.specs.Syntax.{Word, Syn, syn, Shape, AnyPattern, BindPattern, LiteralPattern, TruthPattern, PathPattern, PartsPattern, FieldsPattern, ParensPattern, TuplePattern, ArrayPattern, Alternatives}
 use Rattle.typing_rules.specs.Typed as typing
 use Rattle.typing_rules.proofs.Sound.AllPatterns.{matcher_sound}
 use Rattle.std.specs.Prelude.{is_some}

@@ -23,7 +23,7 @@ use Rattle.typing_rules.specs.Promises.{Extends, AreReady, Grows, Fact, Gives, K
 use Rattle.typing_rules.specs.RowPromises.{IsMember, IsPlace}
 use Rattle.typing_rules.specs.Rows.{field, element}
 use Rattle.typing_rules.specs.Scope.{Env, field_named}
-use Rattle.typing_rules.specs.Syntax.{Word, number_word}
+use Rattle.src_ast.specs.Syntax.{Word, number_word}
 use Rattle.typing_rules.proofs.Sound.Fitted.{same_self}
 use Rattle.typing_rules.proofs.Sound.Gives.{◌⋆◌, bind, with_ready, given, found, after_number, numbered, grows_trans, grows_refl, knows_number, grows_number}
 use Rattle.typing_rules.proofs.Sound.Later.{alone_ready, extends_refl, type_later, in_later, same_drop_impl, some_got, passes_by, passes_got}

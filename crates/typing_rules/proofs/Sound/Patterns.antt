@@ -33,7 +33,7 @@ use Rattle.typing_rules.specs.Places.{a_node_of}
 use Rattle.typing_rules.specs.Promises.{Extends, IsReady, AreReady, Grows, Gives}
 use Rattle.typing_rules.specs.Rows.{Expected, most, is_signed_kind, literal_value}
 use Rattle.typing_rules.specs.Scope.{Entry, Local, variable}
-use Rattle.typing_rules.specs.Syntax.{Word}
+use Rattle.src_ast.specs.Syntax.{Word}
 use Rattle.typing_rules.proofs.Sound.Bindings.{Binds, binds_none, binds_from, binds_one}
 use Rattle.typing_rules.proofs.Sound.Fitted.{or_right, same_self}
 use Rattle.typing_rules.proofs.Sound.Gives.{◌⋆◌, bind, with_ready, given, obeyed, found, after_number, numbered, grows_trans, grows_refl, grows_number}

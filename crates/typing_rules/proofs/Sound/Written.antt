@@ -14,7 +14,7 @@ use Rattle.typing_rules.specs.Check.{State, interned}
 use Rattle.typing_rules.specs.Places.{int, bool}
 use Rattle.typing_rules.specs.Promises.{IsReady, IsAlone, AreReady, Gives}
 use Rattle.typing_rules.specs.RowPromises.{IsMade}
-use Rattle.typing_rules.specs.Syntax.{Word, Syn, syn, Shape, NamedType, GenericType, DynType, SelfType, ParensType, TupleType, ArrayType, NeverType, RefType, Syns, no_syn, a_syn}
+use Rattle.src_ast.specs.Syntax.{Word, Syn, syn, Shape, NamedType, GenericType, DynType, SelfType, ParensType, TupleType, ArrayType, NeverType, RefType, Syns, no_syn, a_syn}
 use Rattle.typing_rules.specs.Written as rules
 use Rattle.typing_rules.specs.Written.{Around}
 use Rattle.typing_rules.proofs.Sound.Constructors.{tuple_made, array_made}

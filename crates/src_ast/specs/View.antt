@@ -15,7 +15,7 @@ use Rattle.src_tree.specs.declared.row.Row.{Row}
 use Rattle.src_tree.specs.Grammar.{is}
 use Rattle.src_tree.specs.Layout as layout
 use Rattle.src_tree.specs.Layout.{node, Parts, end, tok, sub}
-use Rattle.typing_rules.specs.Syntax.{Word, Named, Kind, Unit_, Tuple_, Fields_, ByValue, ByShared, ByUnique, Syn, syn, Shape, Ident, LabelOf, Literal, TruthLiteral, Path, Minus, Bang, Star, Ampersand, Calculate, Compare, Both, Either, Store, CallOf, MethodOf, FieldOf, PartOf, ElementOf, StructOf, FieldInit, Parens, TupleOf, ArrayOf, Braces, IfElse, IfLetElse, MatchOn, ArmOf, LoopOf, WhileOf, WhileLetOf, BreakOf, ContinueOf, ReturnOf, MoveOf, PanicOf, LetOf, Empty, Semi, AnyPattern, BindPattern, LiteralPattern, TruthPattern, PathPattern, PartsPattern, FieldsPattern, FieldPattern, ParensPattern, TuplePattern, ArrayPattern, Alternatives, NamedType, GenericType, DynType, SelfType, ParensType, TupleType, ArrayType, NeverType, RefType, StructItem, EnumItem, FieldDecl, VariantDecl, TraitItem, ImplItem, FnItem, ParamOf, SelfParam, Odd, Syns, no_syn, a_syn, MaybeSyn, nothing, just}
+use Rattle.src_ast.specs.Syntax.{Word, Named, Kind, Unit_, Tuple_, Fields_, ByValue, ByShared, ByUnique, Syn, syn, Shape, Ident, LabelOf, Literal, TruthLiteral, Path, Minus, Bang, Star, Ampersand, Calculate, Compare, Both, Either, Store, CallOf, MethodOf, FieldOf, PartOf, ElementOf, StructOf, FieldInit, Parens, TupleOf, ArrayOf, Braces, IfElse, IfLetElse, MatchOn, ArmOf, LoopOf, WhileOf, WhileLetOf, BreakOf, ContinueOf, ReturnOf, MoveOf, PanicOf, LetOf, Empty, Semi, AnyPattern, BindPattern, LiteralPattern, TruthPattern, PathPattern, PartsPattern, FieldsPattern, FieldPattern, ParensPattern, TuplePattern, ArrayPattern, Alternatives, NamedType, GenericType, DynType, SelfType, ParensType, TupleType, ArrayType, NeverType, RefType, StructItem, EnumItem, FieldDecl, VariantDecl, TraitItem, ImplItem, FnItem, ParamOf, SelfParam, Odd, Syns, no_syn, a_syn, MaybeSyn, nothing, just}
 
 -- ---- tokens
 
@@ -24,51 +24,54 @@ tokens_in end = []
 tokens_in (tok t rest) = t ∷ tokens_in rest
 tokens_in (sub g rest) = tokens_in rest
 
-abbrev has_mark : Mark → List Token → Bool
-has_mark m ts = list_any (is (TokenKind.Mark m)) ts
+abbrev pub has : TokenKind → List Token → Bool
+has kind ts = list_any (is kind) ts
 
-abbrev has_word : Keyword → List Token → Bool
-has_word w ts = list_any (is (TokenKind.Word w)) ts
+abbrev pub has_mark : Mark → List Token → Bool
+has_mark m ts = has (TokenKind.Mark m) ts
 
-abbrev name_in : Token → Option Word
+abbrev pub has_word : Keyword → List Token → Bool
+has_word w ts = has (TokenKind.Word w) ts
+
+abbrev pub name_in : Token → Option Word
 name_in (Token.Name n) = Some n
 name_in _ = None
 
-abbrev label_in : Token → Option Word
+abbrev pub label_in : Token → Option Word
 label_in (Token.Label n) = Some n
 label_in _ = None
 
-abbrev number_in : Token → Option (ℕ × Option IntKind)
+abbrev pub number_in : Token → Option (ℕ × Option IntKind)
 number_in (Token.Number value suffix) = Some (value, suffix)
 number_in _ = None
 
-abbrev or_else : {A : Type 0} → Option A → Option A → Option A
+abbrev pub or_else : {A : Type 0} → Option A → Option A → Option A
 or_else None other = other
 or_else (Some a) other = Some a
 
 -- the first of some tokens that tells something
-abbrev first_that : {A : Type 0} → (Token → Option A) → List Token → Option A
+abbrev pub first_that : {A : Type 0} → (Token → Option A) → List Token → Option A
 first_that f [] = None
 first_that f (t ∷ ts) = or_else (f t) (first_that f ts)
 
-abbrev or_empty : Option Word → Word
+abbrev pub or_empty : Option Word → Word
 or_empty None = []
 or_empty (Some n) = n
 
-abbrev or_zero : Option (ℕ × Option IntKind) → ℕ × Option IntKind
+abbrev pub or_zero : Option (ℕ × Option IntKind) → ℕ × Option IntKind
 or_zero None = (0, None)
 or_zero (Some n) = n
 
-abbrev a_name : List Token → Word
+abbrev pub a_name : List Token → Word
 a_name ts = or_empty (first_that name_in ts)
 
-abbrev a_number : List Token → ℕ × Option IntKind
+abbrev pub a_number : List Token → ℕ × Option IntKind
 a_number ts = or_zero (first_that number_in ts)
 
-abbrev a_label : List Token → Option Word
+abbrev pub a_label : List Token → Option Word
 a_label ts = first_that label_in ts
 
-abbrev math_in : Token → Option Math
+abbrev pub math_in : Token → Option Math
 math_in (Token.Mark Mark.Plus) = Some Math.Add
 math_in (Token.Mark Mark.Minus) = Some Math.Sub
 math_in (Token.Mark Mark.Star) = Some Math.Mul
@@ -76,7 +79,7 @@ math_in (Token.Mark Mark.Slash) = Some Math.Div
 math_in (Token.Mark Mark.Percent) = Some Math.Rem
 math_in _ = None
 
-abbrev cmp_in : Token → Option Cmp
+abbrev pub cmp_in : Token → Option Cmp
 cmp_in (Token.Mark Mark.EqEq) = Some Cmp.Eq
 cmp_in (Token.Mark Mark.Ne) = Some Cmp.Ne
 cmp_in (Token.Mark Mark.Lt) = Some Cmp.Lt
@@ -86,115 +89,115 @@ cmp_in (Token.Mark Mark.Ge) = Some Cmp.Ge
 cmp_in _ = None
 
 -- the tokens behind a word
-abbrev behind_word : Keyword → List Token → List Token
+abbrev pub behind_word : Keyword → List Token → List Token
 behind_word w [] = []
 behind_word w (t ∷ ts) = if is (TokenKind.Word w) t then ts else behind_word w ts
 
 -- ---- nodes
 
-abbrev rest_of : Syns → Syns
+abbrev pub rest_of : Syns → Syns
 rest_of no_syn = no_syn
 rest_of (a_syn first rest) = rest
 
-abbrev first_of : Syns → MaybeSyn
+abbrev pub first_of : Syns → MaybeSyn
 first_of no_syn = nothing
 first_of (a_syn first rest) = just first
 
 -- the last of some nodes, and the others
-abbrev last_of : Syns → MaybeSyn
+abbrev pub last_of : Syns → MaybeSyn
 last_of no_syn = nothing
 last_of (a_syn first no_syn) = just first
 last_of (a_syn first (a_syn second rest)) = last_of (a_syn second rest)
 
-abbrev but_last : Syns → Syns
+abbrev pub but_last : Syns → Syns
 but_last no_syn = no_syn
 but_last (a_syn first no_syn) = no_syn
 but_last (a_syn first (a_syn second rest)) = a_syn first (but_last (a_syn second rest))
 
 -- what stands at the head of a list, and what is made of the rest
-abbrev with_first : (Syn → Syns → Shape) → Syns → Shape
+abbrev pub with_first : (Syn → Syns → Shape) → Syns → Shape
 with_first f no_syn = Odd
 with_first f (a_syn first rest) = f first rest
 
-abbrev with_two : (Syn → Syn → Syns → Shape) → Syns → Shape
+abbrev pub with_two : (Syn → Syn → Syns → Shape) → Syns → Shape
 with_two f ss = with_first (λ a. with_first (f a)) ss
 
-abbrev with_three : (Syn → Syn → Syn → Syns → Shape) → Syns → Shape
+abbrev pub with_three : (Syn → Syn → Syn → Syns → Shape) → Syns → Shape
 with_three f ss = with_first (λ a. with_two (f a)) ss
 
-abbrev made_by : {A : Type 0} → (A → Shape) → Option A → Shape
+abbrev pub made_by : {A : Type 0} → (A → Shape) → Option A → Shape
 made_by f None = Odd
 made_by f (Some a) = f a
 
-abbrev from_just : (Syn → Shape) → MaybeSyn → Shape
+abbrev pub from_just : (Syn → Shape) → MaybeSyn → Shape
 from_just f nothing = Odd
 from_just f (just s) = f s
 
 -- names that stand first in a list, and what is behind them
-abbrev ident_in : Shape → Option Word
+abbrev pub ident_in : Shape → Option Word
 ident_in (Ident name) = Some name
 ident_in _ = None
 
-abbrev is_ident : Syn → Bool
+abbrev pub is_ident : Syn → Bool
 is_ident (syn at (Ident name)) = true
 is_ident _ = false
 
-abbrev named : Syn → Named
+abbrev pub named : Syn → Named
 named (syn at (Ident name)) = (at, name)
 named (syn at form) = (at, [])
 
-abbrev idents : Syns → List Named
+abbrev pub idents : Syns → List Named
 idents no_syn = []
 idents (a_syn first rest) = if is_ident first then named first ∷ idents rest else []
 
-abbrev behind_idents : Syns → Syns
+abbrev pub behind_idents : Syns → Syns
 behind_idents no_syn = no_syn
 behind_idents (a_syn first rest) = if is_ident first then behind_idents rest else a_syn first rest
 
 -- the last of some names, and the others
-abbrev with_last_name : (List Named → Named → Shape) → List Named → Shape
+abbrev pub with_last_name : (List Named → Named → Shape) → List Named → Shape
 with_last_name f [] = Odd
 with_last_name f (n ∷ []) = f [] n
 with_last_name f (n ∷ m ∷ ns) = with_last_name (λ earlier. f (n ∷ earlier)) (m ∷ ns)
 
 -- a path: a name or `Self`, and the name behind `::`
-abbrev path_head : List Token → Option Word
+abbrev pub path_head : List Token → Option Word
 path_head [] = None
 path_head (t ∷ ts) = name_in t
 
-abbrev ident_name : MaybeSyn → Option Word
+abbrev pub ident_name : MaybeSyn → Option Word
 ident_name nothing = None
 ident_name (just (syn at form)) = ident_in form
 
-abbrev path_tail : List Token → Syns → Option Word
+abbrev pub path_tail : List Token → Syns → Option Word
 path_tail ts ss = if has_mark Mark.PathSep ts then ident_name (first_of ss) else None
 
-abbrev behind_path : List Token → Syns → Syns
+abbrev pub behind_path : List Token → Syns → Syns
 behind_path ts ss = if has_mark Mark.PathSep ts then rest_of ss else ss
 
-abbrev is_true : Token → Bool
+abbrev pub is_true : Token → Bool
 is_true (Token.Word Keyword.True) = true
 is_true _ = false
 
-abbrev has_true : List Token → Bool
+abbrev pub has_true : List Token → Bool
 has_true ts = list_any is_true ts
 
 -- `self` is a variable by this name, which no other can have
 abbrev pub self_name : Word
 self_name = codes "self"
 
-abbrev is_statement : Syn → Bool
+abbrev pub is_statement : Syn → Bool
 is_statement (syn at (LetOf pattern ty value)) = true
 is_statement (syn at Empty) = true
 is_statement (syn at (Semi expression)) = true
 is_statement _ = false
 
 -- an expression that stands last in a block is its tail
-abbrev block_by : Syns → MaybeSyn → Shape
+abbrev pub block_by : Syns → MaybeSyn → Shape
 block_by ss nothing = Braces ss nothing
 block_by ss (just last) = if is_statement last then Braces ss nothing else Braces (but_last ss) (just last)
 
-abbrev is_type : Syn → Bool
+abbrev pub is_type : Syn → Bool
 is_type (syn at (NamedType name)) = true
 is_type (syn at (GenericType name content)) = true
 is_type (syn at (DynType name trait_)) = true
@@ -209,58 +212,58 @@ is_type _ = false
 -- ---- rows
 
 -- one part without a comma is the part in parentheses
-abbrev round : (Syn → Shape) → (Syns → Shape) → List Token → Syns → Shape
+abbrev pub round : (Syn → Shape) → (Syns → Shape) → List Token → Syns → Shape
 round one many ts (a_syn first no_syn) =
     if has_mark Mark.Comma ts || has_mark Mark.DotDot ts then many (a_syn first no_syn) else one first
 round one many ts ss = many ss
 
-abbrev prefix : List Token → Syn → Shape
+abbrev pub prefix : List Token → Syn → Shape
 prefix [] operand = Odd
 prefix (t ∷ ts) operand =
     if is (TokenKind.Mark Mark.Minus) t then Minus operand
     else (if is (TokenKind.Mark Mark.Not) t then Bang operand
     else (if is (TokenKind.Mark Mark.Star) t then Star operand else Ampersand (has_word Keyword.Mut ts) operand))
 
-abbrev if_row : Bool → Syns → Shape
+abbrev pub if_row : Bool → Syns → Shape
 if_row true ss = with_three (λ p s b rest. IfLetElse p s b (first_of rest)) ss
 if_row false ss = with_two (λ c b rest. IfElse c b (first_of rest)) ss
 
-abbrev while_row : Bool → Option Word → Syns → Shape
+abbrev pub while_row : Bool → Option Word → Syns → Shape
 while_row true label ss = with_three (λ p s b rest. WhileLetOf label p s b) ss
 while_row false label ss = with_two (λ c b rest. WhileOf label c b) ss
 
-abbrev arm_row : Bool → Syns → Shape
+abbrev pub arm_row : Bool → Syns → Shape
 arm_row true ss = with_three (λ p g b rest. ArmOf p (just g) b) ss
 arm_row false ss = with_two (λ p b rest. ArmOf p nothing b) ss
 
 -- a label before it stands as a node, where it is gone to
-abbrev label_name : Shape → Option Word
+abbrev pub label_name : Shape → Option Word
 label_name (LabelOf name) = Some name
 label_name _ = None
 
-abbrev is_label : Syn → Bool
+abbrev pub is_label : Syn → Bool
 is_label (syn at (LabelOf name)) = true
 is_label _ = false
 
-abbrev label_of : MaybeSyn → Option Word
+abbrev pub label_of : MaybeSyn → Option Word
 label_of nothing = None
 label_of (just (syn at form)) = label_name form
 
-abbrev behind_label : Syns → Syns
+abbrev pub behind_label : Syns → Syns
 behind_label no_syn = no_syn
 behind_label (a_syn first rest) = if is_label first then rest else a_syn first rest
 
-abbrev let_row : Bool → Bool → Syn → Syns → Shape
+abbrev pub let_row : Bool → Bool → Syn → Syns → Shape
 let_row true has_value p ss = with_first (λ ty rest. LetOf p (just ty) (first_of rest)) ss
 let_row false has_value p ss = LetOf p nothing (first_of ss)
 
 -- what stands behind the parameters: a type where there is an arrow, and a block
-abbrev behind_params : Bool → (Syns → MaybeSyn → Syn → Shape) → Syns → Shape
+abbrev pub behind_params : Bool → (Syns → MaybeSyn → Syn → Shape) → Syns → Shape
 behind_params has_answer f ss =
     from_just (λ block. if has_answer then f (but_last (but_last ss)) (last_of (but_last ss)) block else f (but_last
     ss) nothing block) (last_of ss)
 
-abbrev fn_row : Bool → Bool → Syns → Shape
+abbrev pub fn_row : Bool → Bool → Syns → Shape
 fn_row has_answer true ss =
     with_first (λ name rest. behind_params has_answer (λ params answer block. FnItem (named name) params answer (just
     block)) rest) ss
@@ -268,34 +271,34 @@ fn_row true false ss = with_first (λ name rest. FnItem (named name) (but_last r
 fn_row false false ss = with_first (λ name rest. FnItem (named name) rest nothing nothing) ss
 
 -- captures stand first
-abbrev syns_of : List Named → Syns
+abbrev pub syns_of : List Named → Syns
 syns_of [] = no_syn
 syns_of (n ∷ ns) = a_syn (syn n.0 (Ident n.1)) (syns_of ns)
 
-abbrev closure_row : Bool → Syns → Shape
+abbrev pub closure_row : Bool → Syns → Shape
 closure_row has_answer ss =
     behind_params has_answer (λ params answer block. MoveOf (syns_of (idents ss)) params answer block) (behind_idents
     ss)
 
-abbrev kind_by : Bool → Bool → Kind
+abbrev pub kind_by : Bool → Bool → Kind
 kind_by true parens = Fields_
 kind_by false true = Tuple_
 kind_by false false = Unit_
 
-abbrev kind_of : List Token → Kind
+abbrev pub kind_of : List Token → Kind
 kind_of ts = kind_by (has_mark Mark.OpenBrace ts) (has_mark Mark.OpenParenthesis ts)
 
-abbrev impl_row : Bool → List Named → Syns → Shape
+abbrev pub impl_row : Bool → List Named → Syns → Shape
 impl_row true (trait_ ∷ name ∷ []) methods = ImplItem (Some trait_) name methods
 impl_row false (name ∷ []) methods = ImplItem None name methods
 impl_row _ _ methods = Odd
 
-abbrev self_row : List Token → Shape
+abbrev pub self_row : List Token → Shape
 self_row ts =
     if has_mark Mark.And ts then SelfParam (if has_word Keyword.Mut ts then ByUnique else ByShared) else SelfParam
     ByValue
 
-abbrev number_row : (ℕ × Option IntKind → Shape) → List Token → Shape
+abbrev pub number_row : (ℕ × Option IntKind → Shape) → List Token → Shape
 number_row f ts = f (a_number ts)
 
 abbrev pub made : Row → List Token → Syns → Shape

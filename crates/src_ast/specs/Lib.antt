@@ -1,0 +1,9 @@
+pub mod Syntax
+pub mod View
+pub mod Sorts
+pub mod Seen
+pub mod Types
+pub mod ItemForms
+pub mod PartForms
+pub mod Patterns
+pub mod Expressions

@@ -1,0 +1,85 @@
+//! What the tokens of a node tell.
+ghost use Rattle.std.specs.Prelude.{◌≡◌, ◌∷◌, [], MatchOption};
+ghost use Rattle.src_ast.specs.Seen.{word_of};
+ghost use Rattle.src_ast.specs.View as seen;
+ghost use Rattle.src_ast.specs.View.{tokens_in};
+ghost use Rattle.src_tree.specs.View.{parts_in};
+
+use mir_base::IntKind;
+use src_token::{Mark, Token, Word};
+use src_tree::{Kind, Piece, is};
+
+/// Whether a token of this kind is among some parts.
+pub fn has(kind: Kind, pieces: &[Piece]) -> bool
+    ensures { result ≡ seen.has kind (tokens_in (parts_in pieces.now)) }
+{
+    for piece in pieces {
+        if let Piece::Token(token) = piece
+            && is(kind, token)
+        {
+            return true;
+        }
+    }
+    false
+}
+
+/// The first name among some parts; where there is none, an empty one.
+pub fn a_name(pieces: &[Piece]) -> &[u8]
+    ensures { result.now ≡ seen.a_name (tokens_in (parts_in pieces.now)) }
+{
+    for piece in pieces {
+        if let Piece::Token(Token::Name(name)) = piece {
+            return name.as_bytes();
+        }
+    }
+    &[]
+}
+
+/// The first number among some parts, with its suffix; where there is none, 0.
+pub fn a_number(pieces: &[Piece]) -> (u64, Option<IntKind>)
+    ensures { result ≡ seen.a_number (tokens_in (parts_in pieces.now)) }
+{
+    for piece in pieces {
+        if let Piece::Token(Token::Number { value, suffix }) = piece {
+            return (*value, *suffix);
+        }
+    }
+    (0, None)
+}
+
+/// The first label among some parts.
+pub fn a_label(pieces: &[Piece]) -> Option<&[u8]>
+    ensures { word_of result ≡ seen.a_label (tokens_in (parts_in pieces.now)) }
+{
+    for piece in pieces {
+        if let Piece::Token(Token::Label(name)) = piece {
+            return Some(name.as_bytes());
+        }
+    }
+    None
+}
+
+/// Whether `true` is among some parts.
+pub fn has_true(pieces: &[Piece]) -> bool
+    ensures { result ≡ seen.has_true (tokens_in (parts_in pieces.now)) }
+{
+    for piece in pieces {
+        if let Piece::Token(Token::Word(Word::True)) = piece {
+            return true;
+        }
+    }
+    false
+}
+
+/// The first token among some parts, and the parts behind it.
+pub fn split_token(pieces: &[Piece]) -> Option<(&Token, &[Piece])>
+    ensures { MatchOption result (tokens_in (parts_in pieces.now) ≡ []) (λ e.
+        tokens_in (parts_in pieces.now) ≡ e.0.now ∷ tokens_in (parts_in e.1.now)) }
+{
+    for (i, piece) in pieces.iter().enumerate() {
+        if let Piece::Token(token) = piece {
+            return Some((token, &pieces[i + 1..]));
+        }
+    }
+    None
+}

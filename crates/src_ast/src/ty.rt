@@ -1,0 +1,154 @@
+ghost use Rattle.std.specs.Prelude.{◌≡◌};
+ghost use Rattle.src_ast.specs.Seen.{made_of, syn_of};
+ghost use Rattle.src_ast.specs.Syntax.{shape_of};
+ghost use Rattle.src_ast.specs.Types.{type_of};
+ghost use Rattle.src_ast.specs.View.{made, named, tokens_in, views};
+ghost use Rattle.src_tree.specs.View.{parts_in};
+ghost use Rattle.src_tree.specs.declared.row.Row.{Row};
+ghost use Rattle.src_ast.specs.Sorts.{type_part};
+
+use crate::nodes::{First, Nodes};
+use crate::tokens::{a_name, a_number, has};
+use mir_base::{IntKind, Pos};
+use src_token::{Mark, Word};
+use src_tree::{Kind, Node, Piece, Row};
+
+/// A type as it is written (The Rust Reference, "Types").
+#[derive(Clone, Copy)]
+pub enum TypeForm<'a> {
+    /// A name by itself.
+    Name(&'a [u8]),
+    /// `Box<T>`, whatever the name.
+    Generic {
+        name: &'a [u8],
+        content: &'a Node,
+    },
+    /// `Box<dyn Trait>`, whatever the name; the trait's name has its place.
+    Dyn {
+        name: &'a [u8],
+        trait_at: Pos,
+        trait_name: &'a [u8],
+    },
+    /// `Self`.
+    SelfType,
+    /// A type in parentheses.
+    Parens(&'a Node),
+    /// A tuple; without parts, `()`.
+    Tuple(Nodes<'a>),
+    /// An array, with the suffix of its count.
+    Array {
+        element: &'a Node,
+        count: u64,
+        suffix: Option<IntKind>,
+    },
+    /// `!`.
+    Never,
+    /// `&T`, or `&mut T` where it is unique.
+    Reference {
+        unique: bool,
+        to: &'a Node,
+    },
+    /// No type.
+    Other,
+}
+
+/// A node as a type; `TypeForm::Other` where it is none.
+#[tactic(auto, using(crate::proofs::Named::no_type_seen, crate::proofs::Named::seen_as))]
+pub fn type_form(node: &Node) -> TypeForm<'_>
+    ensures { type_of result ≡ type_part (shape_of (syn_of node.now)) }
+{
+    match node.row {
+        Row::NamedType => TypeForm::Name(a_name(node.parts.as_slice())),
+        Row::SelfType => TypeForm::SelfType,
+        Row::NeverType => TypeForm::Never,
+        Row::GenericType => generic(node.parts.as_slice()),
+        Row::DynType => object(node.parts.as_slice()),
+        Row::TupleType => round(node.parts.as_slice()),
+        Row::ArrayType => array(node.parts.as_slice()),
+        Row::RefType => reference(node.parts.as_slice()),
+        _ => TypeForm::Other,
+    }
+}
+
+fn generic(pieces: &[Piece]) -> TypeForm<'_>
+    ensures { type_of result ≡ type_part (made_of Row.GenericType pieces.now) }
+{
+    match Nodes::among(pieces).first() {
+        Some(content) => TypeForm::Generic {
+            name: a_name(pieces),
+            content,
+        },
+        None => TypeForm::Other,
+    }
+}
+
+fn reference(pieces: &[Piece]) -> TypeForm<'_>
+    ensures { type_of result ≡ type_part (made_of Row.RefType pieces.now) }
+{
+    match Nodes::among(pieces).first() {
+        Some(to) => TypeForm::Reference {
+            unique: has(Kind::Word(Word::Mut), pieces),
+            to,
+        },
+        None => TypeForm::Other,
+    }
+}
+
+fn array(pieces: &[Piece]) -> TypeForm<'_>
+    ensures { type_of result ≡ type_part (made_of Row.ArrayType pieces.now) }
+{
+    match Nodes::among(pieces).first() {
+        Some(element) => {
+            let (count, suffix) = a_number(pieces);
+            TypeForm::Array {
+                element,
+                count,
+                suffix,
+            }
+        }
+        None => TypeForm::Other,
+    }
+}
+
+fn round(pieces: &[Piece]) -> TypeForm<'_>
+    ensures { type_of result ≡ type_part (made_of Row.TupleType pieces.now) }
+{
+    let parts = Nodes::among(pieces);
+    match parts.split_first() {
+        Some(First { first, rest }) => {
+            if rest.is_empty()
+                && !has(Kind::Mark(Mark::Comma), pieces)
+                && !has(Kind::Mark(Mark::DotDot), pieces)
+            {
+                TypeForm::Parens(first)
+            } else {
+                TypeForm::Tuple(parts)
+            }
+        }
+        None => TypeForm::Tuple(parts),
+    }
+}
+
+fn object(pieces: &[Piece]) -> TypeForm<'_>
+    ensures { type_of result ≡ type_part (made_of Row.DynType pieces.now) }
+{
+    match Nodes::among(pieces).first() {
+        Some(trait_) => TypeForm::Dyn {
+            name: a_name(pieces),
+            trait_at: trait_.at,
+            trait_name: name_of(trait_),
+        },
+        None => TypeForm::Other,
+    }
+}
+
+/// The name that a node is; an empty one where it is none.
+#[tactic(auto, using(crate::proofs::Named::unnamed_seen, crate::proofs::Named::seen_as))]
+pub fn name_of(node: &Node) -> &[u8]
+    ensures { (node.now.at, result.now) ≡ named (syn_of node.now) }
+{
+    match node.row {
+        Row::Ident => a_name(node.parts.as_slice()),
+        _ => &[],
+    }
+}
