@@ -1,7 +1,8 @@
 -- Names that stand first among some nodes.
-use Rattle.std.proofs.Common.{◌≡◌, ℕ, suc, ◌+◌, ◌-◌, ◌<◌, ◌≤◌, Bool, true, false, ◌&&◌, List, [], ◌∷◌, ◌++◌, length, take, drop, get_or, map, refl, ap, sym, ◌∙◌, arith, append-nil, length-drop}
+use Rattle.std.proofs.Common.{◌≡◌, ℕ, suc, ◌+◌, ◌-◌, ◌<◌, ◌≤◌, true, false, ◌&&◌, List, [], ◌∷◌, ◌++◌, length, take, drop, get_or, map, refl, ap, sym, ◌∙◌, arith, append-nil, length-drop}
 use Rattle.std.proofs.Math.Seq.{take-suc}
 use Rattle.std.proofs.lemmas.List.{take-append-drop, drop_more, take_all}
+use Rattle.std.proofs.lemmas.Bool.{and_parts}
 use Rattle.src_token.specs.declared.token.Token.{Token}
 use Rattle.src_tree.specs.declared.node.Node.{Node}
 use Rattle.src_tree.specs.declared.node.Piece.{Piece}
@@ -28,21 +29,17 @@ singles_joined (p ∷ ps) qs = ap (λ z. piece_of p ∷ z) (singles_joined ps qs
 parts_joined : (ps qs : List Piece) → views (parts_in (ps ++ qs)) ≡ joined (views (parts_in ps)) (views (parts_in qs))
 parts_joined ps qs = ap (λ z. views (parts_from z)) (singles_joined ps qs) ∙ views_joined (map piece_of ps) (map piece_of qs)
 
-and_true : (x y : Bool) → x && y ≡ true → (x ≡ true) × (y ≡ true)
-and_true true y h = (refl, h)
-and_true false y h = cc
-
 behind_joined : (as_ bs : Syns) → are_idents as_ ≡ true → behind_idents (joined as_ bs) ≡ behind_idents bs
 behind_joined no_syn bs h = refl
-behind_joined (a_syn a as_) bs h = let both = and_true (is_ident a) _ h in rw (both.0) (behind_joined as_ bs both.1)
+behind_joined (a_syn a as_) bs h = let both = and_parts (is_ident a) _ h in rw (both.0) (behind_joined as_ bs both.1)
 
 idents_joined : (as_ bs : Syns) → are_idents as_ ≡ true → idents (joined as_ bs) ≡ idents as_ ++ idents bs
 idents_joined no_syn bs h = refl
-idents_joined (a_syn a as_) bs h = let both = and_true (is_ident a) _ h in rw (both.0) (ap (λ z. named a ∷ z) (idents_joined as_ bs both.1))
+idents_joined (a_syn a as_) bs h = let both = and_parts (is_ident a) _ h in rw (both.0) (ap (λ z. named a ∷ z) (idents_joined as_ bs both.1))
 
 are_joined : (as_ bs : Syns) → are_idents as_ ≡ true → are_idents bs ≡ true → are_idents (joined as_ bs) ≡ true
 are_joined no_syn bs h k = k
-are_joined (a_syn a as_) bs h k = let both = and_true (is_ident a) _ h in rw (both.0) (are_joined as_ bs both.1 k)
+are_joined (a_syn a as_) bs h k = let both = and_parts (is_ident a) _ h in rw (both.0) (are_joined as_ bs both.1 k)
 
 module _ (xs : List Piece) (i : ℕ) (p : Piece) (within : i < length xs) (is : p ≡ get_or xs i p) (names : are_idents (views (parts_in (take i xs))) ≡ true) where
   apart : views (parts_in xs) ≡ joined (views (parts_in (take i xs))) (views (parts_in (drop i xs)))
@@ -93,7 +90,7 @@ module _ (xs : List Piece) (i : ℕ) (p : Piece) (within : i < length xs) (is : 
 
 nothing_after : (as_ : Syns) → are_idents as_ ≡ true → behind_idents as_ ≡ no_syn
 nothing_after no_syn h = refl
-nothing_after (a_syn a as_) h = let both = and_true (is_ident a) _ h in rw (both.0) (nothing_after as_ both.1)
+nothing_after (a_syn a as_) h = let both = and_parts (is_ident a) _ h in rw (both.0) (nothing_after as_ both.1)
 
 pub nothing_behind : (xs : List Piece) (i : ℕ) → length xs ≤ i → are_idents (views (parts_in (take i xs))) ≡ true → behind_idents (views (parts_in xs)) ≡ no_syn
 nothing_behind xs i past h = nothing_after (views (parts_in xs)) (ap (λ z. are_idents (views (parts_in z))) (sym (take_all i xs past)) ∙ h)

@@ -1,12 +1,9 @@
 -- The names of an `impl`: the trait's, where there is `for`, and the type's.
-use Rattle.std.proofs.Common.{◌≡◌, Bool, true, false, ◌&&◌, List, [], ◌∷◌, Some, None, refl, ap, sym, ◌∙◌}
+use Rattle.std.proofs.Common.{◌≡◌, Bool, true, false, List, [], ◌∷◌, Some, None, refl, ap, sym, ◌∙◌}
+use Rattle.std.proofs.lemmas.Bool.{and_parts}
 use Rattle.src_ast.specs.Seen.{are_idents, is_none}
 use Rattle.src_ast.specs.Syntax.{Named, Syn, Odd, ImplItem, Syns, no_syn, a_syn}
 use Rattle.src_ast.specs.View.{is_ident, named, idents, impl_row}
-
-and_true : (x y : Bool) → x && y ≡ true → (x ≡ true) × (y ≡ true)
-and_true true y h = (refl, h)
-and_true false y h = cc
 
 abbrev all_named : Syns → List Named
 all_named no_syn = []
@@ -14,7 +11,7 @@ all_named (a_syn a rest) = named a ∷ all_named rest
 
 all_idents : (ss : Syns) → are_idents ss ≡ true → idents ss ≡ all_named ss
 all_idents no_syn h = refl
-all_idents (a_syn a rest) h = let both = and_true (is_ident a) _ h in rw (both.0) (ap (λ z. named a ∷ z) (all_idents rest both.1))
+all_idents (a_syn a rest) h = let both = and_parts (is_ident a) _ h in rw (both.0) (ap (λ z. named a ∷ z) (all_idents rest both.1))
 
 row_by : (b : Bool) (ss ts ms : Syns) → are_idents ss ≡ true → ts ≡ ss → impl_row b (idents ss) ms ≡ impl_row b (all_named ts) ms
 row_by b ss ts ms all is = ap (λ z. impl_row b z ms) (all_idents ss all) ∙ ap (λ z. impl_row b (all_named z) ms) (sym is)

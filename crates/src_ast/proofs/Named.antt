@@ -1,161 +1,15 @@
 -- A node that is no name has an empty one.
-use Rattle.std.proofs.Common.{◌≡◌, false, [], None, eqb, refl, ap, sym, ◌∙◌}
+use Rattle.std.proofs.Common.{◌≡◌, Bool, true, false, [], None, eqb, refl, ap, sym, ◌∙◌}
 use Rattle.std.specs.Option.{is_some}
-use Rattle.mir_base.specs.declared.place_in_text.Pos.{Pos}
+use Rattle.std.specs.Prelude.{◌==◌}
 use Rattle.src_tree.specs.declared.node.Node.{Node}
 use Rattle.src_tree.specs.View.{parts_in}
 use Rattle.src_tree.proofs.Pieces.{node_laid}
 use Rattle.src_ast.specs.Seen.{syn_of}
 use Rattle.src_ast.specs.Syntax.{Syn, syn, Shape, at_of, shape_of, Ident, LabelOf, Literal, TruthLiteral, Path, Minus, Bang, Star, Ampersand, Calculate, Compare, Both, Either, Store, CallOf, MethodOf, FieldOf, PartOf, ElementOf, StructOf, FieldInit, Parens, TupleOf, ArrayOf, Braces, IfElse, IfLetElse, MatchOn, ArmOf, LoopOf, WhileOf, WhileLetOf, BreakOf, ContinueOf, ReturnOf, MoveOf, PanicOf, LetOf, Empty, Semi, AnyPattern, BindPattern, LiteralPattern, TruthPattern, PathPattern, PartsPattern, FieldsPattern, FieldPattern, ParensPattern, TuplePattern, ArrayPattern, Alternatives, NamedType, GenericType, DynType, SelfType, ParensType, TupleType, ArrayType, NeverType, RefType, StructItem, EnumItem, FieldDecl, VariantDecl, TraitItem, ImplItem, FnItem, ParamOf, SelfParam, Odd}
 use Rattle.src_ast.specs.Sorts.{sort_of, sort_of_row, some_if, statement_part, type_part, item_part, param_part, field_part, variant_part, init_part, field_pattern_part, arm_part, pattern_part, expression_part}
-use Rattle.src_ast.specs.View.{ident_in, is_ident, is_label, is_statement, label_name, named, made, tokens_in, view, views}
+use Rattle.src_ast.specs.View.{ident_in, or_empty, is_ident, is_label, is_statement, label_name, named, made, tokens_in, view, views}
 use Rattle.src_ast.proofs.Rows.{other_sort}
-
-unnamed : (at : Pos) (s : Shape) → eqb (sort_of s) 1 ≡ false → named (syn at s) ≡ (at, [])
-unnamed at (Ident a) h = cc
-unnamed at (LabelOf a) h = refl
-unnamed at (Literal a b) h = refl
-unnamed at (TruthLiteral a) h = refl
-unnamed at (Path a b) h = refl
-unnamed at (Minus a) h = refl
-unnamed at (Bang a) h = refl
-unnamed at (Star a) h = refl
-unnamed at (Ampersand a b) h = refl
-unnamed at (Calculate a b c) h = refl
-unnamed at (Compare a b c) h = refl
-unnamed at (Both a b) h = refl
-unnamed at (Either a b) h = refl
-unnamed at (Store a b) h = refl
-unnamed at (CallOf a b) h = refl
-unnamed at (MethodOf a b c) h = refl
-unnamed at (FieldOf a b) h = refl
-unnamed at (PartOf a b) h = refl
-unnamed at (ElementOf a b) h = refl
-unnamed at (StructOf a b c) h = refl
-unnamed at (FieldInit a b) h = refl
-unnamed at (Parens a) h = refl
-unnamed at (TupleOf a) h = refl
-unnamed at (ArrayOf a) h = refl
-unnamed at (Braces a b) h = refl
-unnamed at (IfElse a b c) h = refl
-unnamed at (IfLetElse a b c d) h = refl
-unnamed at (MatchOn a b) h = refl
-unnamed at (ArmOf a b c) h = refl
-unnamed at (LoopOf a b) h = refl
-unnamed at (WhileOf a b c) h = refl
-unnamed at (WhileLetOf a b c d) h = refl
-unnamed at (BreakOf a b) h = refl
-unnamed at (ContinueOf a) h = refl
-unnamed at (ReturnOf a) h = refl
-unnamed at (MoveOf a b c d) h = refl
-unnamed at PanicOf h = refl
-unnamed at (LetOf a b c) h = refl
-unnamed at Empty h = refl
-unnamed at (Semi a) h = refl
-unnamed at AnyPattern h = refl
-unnamed at (BindPattern a) h = refl
-unnamed at (LiteralPattern a b c) h = refl
-unnamed at (TruthPattern a) h = refl
-unnamed at (PathPattern a b) h = refl
-unnamed at (PartsPattern a b c d) h = refl
-unnamed at (FieldsPattern a b c d) h = refl
-unnamed at (FieldPattern a b) h = refl
-unnamed at (ParensPattern a) h = refl
-unnamed at (TuplePattern a b) h = refl
-unnamed at (ArrayPattern a b) h = refl
-unnamed at (Alternatives a) h = refl
-unnamed at (NamedType a) h = refl
-unnamed at (GenericType a b) h = refl
-unnamed at (DynType a b) h = refl
-unnamed at SelfType h = refl
-unnamed at (ParensType a) h = refl
-unnamed at (TupleType a) h = refl
-unnamed at (ArrayType a b c) h = refl
-unnamed at NeverType h = refl
-unnamed at (RefType a b) h = refl
-unnamed at (StructItem a b c d) h = refl
-unnamed at (EnumItem a b c) h = refl
-unnamed at (FieldDecl a b) h = refl
-unnamed at (VariantDecl a b c) h = refl
-unnamed at (TraitItem a b) h = refl
-unnamed at (ImplItem a b c) h = refl
-unnamed at (FnItem a b c d) h = refl
-unnamed at (ParamOf a b) h = refl
-unnamed at (SelfParam a) h = refl
-unnamed at Odd h = refl
-
-no_name : (at : Pos) (s : Shape) → eqb (sort_of s) 1 ≡ false → is_ident (syn at s) ≡ false
-no_name at (Ident a) h = cc
-no_name at (LabelOf a) h = refl
-no_name at (Literal a b) h = refl
-no_name at (TruthLiteral a) h = refl
-no_name at (Path a b) h = refl
-no_name at (Minus a) h = refl
-no_name at (Bang a) h = refl
-no_name at (Star a) h = refl
-no_name at (Ampersand a b) h = refl
-no_name at (Calculate a b c) h = refl
-no_name at (Compare a b c) h = refl
-no_name at (Both a b) h = refl
-no_name at (Either a b) h = refl
-no_name at (Store a b) h = refl
-no_name at (CallOf a b) h = refl
-no_name at (MethodOf a b c) h = refl
-no_name at (FieldOf a b) h = refl
-no_name at (PartOf a b) h = refl
-no_name at (ElementOf a b) h = refl
-no_name at (StructOf a b c) h = refl
-no_name at (FieldInit a b) h = refl
-no_name at (Parens a) h = refl
-no_name at (TupleOf a) h = refl
-no_name at (ArrayOf a) h = refl
-no_name at (Braces a b) h = refl
-no_name at (IfElse a b c) h = refl
-no_name at (IfLetElse a b c d) h = refl
-no_name at (MatchOn a b) h = refl
-no_name at (ArmOf a b c) h = refl
-no_name at (LoopOf a b) h = refl
-no_name at (WhileOf a b c) h = refl
-no_name at (WhileLetOf a b c d) h = refl
-no_name at (BreakOf a b) h = refl
-no_name at (ContinueOf a) h = refl
-no_name at (ReturnOf a) h = refl
-no_name at (MoveOf a b c d) h = refl
-no_name at PanicOf h = refl
-no_name at (LetOf a b c) h = refl
-no_name at Empty h = refl
-no_name at (Semi a) h = refl
-no_name at AnyPattern h = refl
-no_name at (BindPattern a) h = refl
-no_name at (LiteralPattern a b c) h = refl
-no_name at (TruthPattern a) h = refl
-no_name at (PathPattern a b) h = refl
-no_name at (PartsPattern a b c d) h = refl
-no_name at (FieldsPattern a b c d) h = refl
-no_name at (FieldPattern a b) h = refl
-no_name at (ParensPattern a) h = refl
-no_name at (TuplePattern a b) h = refl
-no_name at (ArrayPattern a b) h = refl
-no_name at (Alternatives a) h = refl
-no_name at (NamedType a) h = refl
-no_name at (GenericType a b) h = refl
-no_name at (DynType a b) h = refl
-no_name at SelfType h = refl
-no_name at (ParensType a) h = refl
-no_name at (TupleType a) h = refl
-no_name at (ArrayType a b c) h = refl
-no_name at NeverType h = refl
-no_name at (RefType a b) h = refl
-no_name at (StructItem a b c d) h = refl
-no_name at (EnumItem a b c) h = refl
-no_name at (FieldDecl a b) h = refl
-no_name at (VariantDecl a b c) h = refl
-no_name at (TraitItem a b) h = refl
-no_name at (ImplItem a b c) h = refl
-no_name at (FnItem a b c d) h = refl
-no_name at (ParamOf a b) h = refl
-no_name at (SelfParam a) h = refl
-no_name at Odd h = refl
 
 no_word : (s : Shape) → eqb (sort_of s) 1 ≡ false → ident_in s ≡ None
 no_word (Ident a) h = cc
@@ -303,152 +157,6 @@ unlabelled (ParamOf a b) h = refl
 unlabelled (SelfParam a) h = refl
 unlabelled Odd h = refl
 
-pub labels : (at : Pos) (s : Shape) → is_label (syn at s) ≡ is_some (label_name s)
-labels at (Ident a) = refl
-labels at (LabelOf a) = refl
-labels at (Literal a b) = refl
-labels at (TruthLiteral a) = refl
-labels at (Path a b) = refl
-labels at (Minus a) = refl
-labels at (Bang a) = refl
-labels at (Star a) = refl
-labels at (Ampersand a b) = refl
-labels at (Calculate a b c) = refl
-labels at (Compare a b c) = refl
-labels at (Both a b) = refl
-labels at (Either a b) = refl
-labels at (Store a b) = refl
-labels at (CallOf a b) = refl
-labels at (MethodOf a b c) = refl
-labels at (FieldOf a b) = refl
-labels at (PartOf a b) = refl
-labels at (ElementOf a b) = refl
-labels at (StructOf a b c) = refl
-labels at (FieldInit a b) = refl
-labels at (Parens a) = refl
-labels at (TupleOf a) = refl
-labels at (ArrayOf a) = refl
-labels at (Braces a b) = refl
-labels at (IfElse a b c) = refl
-labels at (IfLetElse a b c d) = refl
-labels at (MatchOn a b) = refl
-labels at (ArmOf a b c) = refl
-labels at (LoopOf a b) = refl
-labels at (WhileOf a b c) = refl
-labels at (WhileLetOf a b c d) = refl
-labels at (BreakOf a b) = refl
-labels at (ContinueOf a) = refl
-labels at (ReturnOf a) = refl
-labels at (MoveOf a b c d) = refl
-labels at PanicOf = refl
-labels at (LetOf a b c) = refl
-labels at Empty = refl
-labels at (Semi a) = refl
-labels at AnyPattern = refl
-labels at (BindPattern a) = refl
-labels at (LiteralPattern a b c) = refl
-labels at (TruthPattern a) = refl
-labels at (PathPattern a b) = refl
-labels at (PartsPattern a b c d) = refl
-labels at (FieldsPattern a b c d) = refl
-labels at (FieldPattern a b) = refl
-labels at (ParensPattern a) = refl
-labels at (TuplePattern a b) = refl
-labels at (ArrayPattern a b) = refl
-labels at (Alternatives a) = refl
-labels at (NamedType a) = refl
-labels at (GenericType a b) = refl
-labels at (DynType a b) = refl
-labels at SelfType = refl
-labels at (ParensType a) = refl
-labels at (TupleType a) = refl
-labels at (ArrayType a b c) = refl
-labels at NeverType = refl
-labels at (RefType a b) = refl
-labels at (StructItem a b c d) = refl
-labels at (EnumItem a b c) = refl
-labels at (FieldDecl a b) = refl
-labels at (VariantDecl a b c) = refl
-labels at (TraitItem a b) = refl
-labels at (ImplItem a b c) = refl
-labels at (FnItem a b c d) = refl
-labels at (ParamOf a b) = refl
-labels at (SelfParam a) = refl
-labels at Odd = refl
-
-pub statements : (at : Pos) (s : Shape) → is_statement (syn at s) ≡ is_some (statement_part s)
-statements at (Ident a) = refl
-statements at (LabelOf a) = refl
-statements at (Literal a b) = refl
-statements at (TruthLiteral a) = refl
-statements at (Path a b) = refl
-statements at (Minus a) = refl
-statements at (Bang a) = refl
-statements at (Star a) = refl
-statements at (Ampersand a b) = refl
-statements at (Calculate a b c) = refl
-statements at (Compare a b c) = refl
-statements at (Both a b) = refl
-statements at (Either a b) = refl
-statements at (Store a b) = refl
-statements at (CallOf a b) = refl
-statements at (MethodOf a b c) = refl
-statements at (FieldOf a b) = refl
-statements at (PartOf a b) = refl
-statements at (ElementOf a b) = refl
-statements at (StructOf a b c) = refl
-statements at (FieldInit a b) = refl
-statements at (Parens a) = refl
-statements at (TupleOf a) = refl
-statements at (ArrayOf a) = refl
-statements at (Braces a b) = refl
-statements at (IfElse a b c) = refl
-statements at (IfLetElse a b c d) = refl
-statements at (MatchOn a b) = refl
-statements at (ArmOf a b c) = refl
-statements at (LoopOf a b) = refl
-statements at (WhileOf a b c) = refl
-statements at (WhileLetOf a b c d) = refl
-statements at (BreakOf a b) = refl
-statements at (ContinueOf a) = refl
-statements at (ReturnOf a) = refl
-statements at (MoveOf a b c d) = refl
-statements at PanicOf = refl
-statements at (LetOf a b c) = refl
-statements at Empty = refl
-statements at (Semi a) = refl
-statements at AnyPattern = refl
-statements at (BindPattern a) = refl
-statements at (LiteralPattern a b c) = refl
-statements at (TruthPattern a) = refl
-statements at (PathPattern a b) = refl
-statements at (PartsPattern a b c d) = refl
-statements at (FieldsPattern a b c d) = refl
-statements at (FieldPattern a b) = refl
-statements at (ParensPattern a) = refl
-statements at (TuplePattern a b) = refl
-statements at (ArrayPattern a b) = refl
-statements at (Alternatives a) = refl
-statements at (NamedType a) = refl
-statements at (GenericType a b) = refl
-statements at (DynType a b) = refl
-statements at SelfType = refl
-statements at (ParensType a) = refl
-statements at (TupleType a) = refl
-statements at (ArrayType a b c) = refl
-statements at NeverType = refl
-statements at (RefType a b) = refl
-statements at (StructItem a b c d) = refl
-statements at (EnumItem a b c) = refl
-statements at (FieldDecl a b) = refl
-statements at (VariantDecl a b c) = refl
-statements at (TraitItem a b) = refl
-statements at (ImplItem a b c) = refl
-statements at (FnItem a b c d) = refl
-statements at (ParamOf a b) = refl
-statements at (SelfParam a) = refl
-statements at Odd = refl
-
 -- a node by its row
 pub seen_as : (n : Node) → syn_of n ≡ syn n.at (made n.row (tokens_in (parts_in n.parts)) (views (parts_in n.parts)))
 seen_as n = ap view (node_laid n)
@@ -519,16 +227,6 @@ no_arm_seen n h =
     let ss = views (parts_in n.parts) in
     ap (λ z. arm_part (shape_of z)) (seen_as n) ∙ ap (λ z. some_if z (made n.row ts ss)) (other_sort 11 n.row ts ss refl h)
 
-pub unnamed_seen : (n : Node) → eqb (sort_of_row n.row) 1 ≡ false → (n.at, []) ≡ named (syn_of n)
-unnamed_seen n h =
-    let ts = tokens_in (parts_in n.parts) in
-    let ss = views (parts_in n.parts) in sym (ap named (seen_as n) ∙ unnamed n.at (made n.row ts ss) (other_sort 1 n.row ts ss refl h))
-
-pub no_ident_seen : (n : Node) → eqb (sort_of_row n.row) 1 ≡ false → false ≡ is_ident (syn_of n)
-no_ident_seen n h =
-    let ts = tokens_in (parts_in n.parts) in
-    let ss = views (parts_in n.parts) in sym (ap is_ident (seen_as n) ∙ no_name n.at (made n.row ts ss) (other_sort 1 n.row ts ss refl h))
-
 pub no_word_seen : (n : Node) → eqb (sort_of_row n.row) 1 ≡ false → None ≡ ident_in (shape_of (syn_of n))
 no_word_seen n h =
     let ts = tokens_in (parts_in n.parts) in
@@ -541,11 +239,24 @@ no_label_seen n h =
     let ss = views (parts_in n.parts) in
     sym (ap (λ z. label_name (shape_of z)) (seen_as n) ∙ unlabelled (made n.row ts ss) (other_sort 3 n.row ts ss refl h))
 
+pub unnamed_seen : (n : Node) → eqb (sort_of_row n.row) 1 ≡ false → (n.at, []) ≡ named (syn_of n)
+unnamed_seen n h =
+    let ts = tokens_in (parts_in n.parts) in
+    let ss = views (parts_in n.parts) in
+    sym (ap named (seen_as n) ∙ ap (λ z. (n.at, or_empty z)) (no_word (made n.row ts ss) (other_sort 1 n.row ts ss refl h)))
+
 shaped : (s : Syn) → s ≡ syn (at_of s) (shape_of s)
 shaped (syn at s) = refl
 
+pub no_ident_seen : (n : Node) → eqb (sort_of_row n.row) 1 ≡ false → false ≡ is_ident (syn_of n)
+no_ident_seen n h = sym (ap is_ident (shaped (syn_of n)) ∙ ap is_some (sym (no_word_seen n h)))
+
 pub label_seen : (n : Node) → is_label (syn_of n) ≡ is_some (label_name (shape_of (syn_of n)))
-label_seen n = ap is_label (shaped (syn_of n)) ∙ labels (at_of (syn_of n)) (shape_of (syn_of n))
+label_seen n = ap is_label (shaped (syn_of n))
 
 pub statement_seen : (n : Node) → is_statement (syn_of n) ≡ is_some (statement_part (shape_of (syn_of n)))
-statement_seen n = ap is_statement (shaped (syn_of n)) ∙ statements (at_of (syn_of n)) (shape_of (syn_of n))
+statement_seen n = ap is_statement (shaped (syn_of n)) ∙ some_is (sort_of (shape_of (syn_of n)) == 2) (shape_of (syn_of n))
+  where
+    some_is : (b : Bool) (s : Shape) → b ≡ is_some (some_if b s)
+    some_is true s = refl
+    some_is false s = refl

@@ -10,7 +10,8 @@ use Rattle.src_ast.specs.Syntax.{Shape}
 use Rattle.src_ast.specs.View.{idents, self_name, syns_of}
 
 abbrev pub statement_of : StatementForm → Option Shape
-statement_of (StatementForm.Let pattern ty value) = Some (form.LetOf (syn_of pattern.now) (maybe_of ty) (maybe_of value))
+statement_of (StatementForm.Let pattern ty value) =
+    Some (form.LetOf (syn_of pattern.now) (maybe_of ty) (maybe_of value))
 statement_of StatementForm.Empty = Some form.Empty
 statement_of (StatementForm.Semi expression) = Some (form.Semi (syn_of expression.now))
 statement_of StatementForm.Other = None

@@ -1,6 +1,6 @@
 pub mod Syntax
-pub mod View
 pub mod Sorts
+pub mod View
 pub mod Seen
 pub mod Types
 pub mod ItemForms

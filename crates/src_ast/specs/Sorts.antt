@@ -1,6 +1,6 @@
 -- The sorts of forms, by numbers: 1 a name, 2 a statement, 3 a label, 4 a type, 5 an item or a method, 6 a parameter,
--- 7 a field, 8 a variant, 9 an initialiser of a field, 10 a pattern of a field, 11 an arm, 12 a pattern, 13 an expression;
--- 0 none of them.
+-- 7 a field, 8 a variant, 9 an initialiser of a field, 10 a pattern of a field, 11 an arm, 12 a pattern,
+-- 13 an expression; 0 none of them.
 use Rattle.std.specs.Prelude.{ℕ, ◌==◌, Bool, true, false, Option, Some, None}
 use Rattle.src_tree.specs.declared.row.Row.{Row}
 use Rattle.src_ast.specs.Syntax.{Shape, Ident, LabelOf, Literal, TruthLiteral, Path, Minus, Bang, Star, Ampersand, Calculate, Compare, Both, Either, Store, CallOf, MethodOf, FieldOf, PartOf, ElementOf, StructOf, FieldInit, Parens, TupleOf, ArrayOf, Braces, IfElse, IfLetElse, MatchOn, ArmOf, LoopOf, WhileOf, WhileLetOf, BreakOf, ContinueOf, ReturnOf, MoveOf, PanicOf, LetOf, Empty, Semi, AnyPattern, BindPattern, LiteralPattern, TruthPattern, PathPattern, PartsPattern, FieldsPattern, FieldPattern, ParensPattern, TuplePattern, ArrayPattern, Alternatives, NamedType, GenericType, DynType, SelfType, ParensType, TupleType, ArrayType, NeverType, RefType, StructItem, EnumItem, FieldDecl, VariantDecl, TraitItem, ImplItem, FnItem, ParamOf, SelfParam}

@@ -1,8 +1,9 @@
 -- From the rows of the grammar to the forms: one line a row. A row is its tokens and its nodes, each in their order;
 -- the
 -- tokens tell which of its parts are there.
-use Rattle.std.specs.Prelude.{ℕ, Bool, true, false, ◌||◌, List, [], ◌∷◌, Option, Some, None, if◌then◌else◌, codes}
+use Rattle.std.specs.Prelude.{ℕ, ◌==◌, Bool, true, false, ◌||◌, List, [], ◌∷◌, Option, Some, None, if◌then◌else◌, codes}
 use Rattle.std.specs.List.{list_any}
+use Rattle.std.specs.Option.{is_some}
 use Rattle.mir_base.specs.declared.int_kind.IntKind.{IntKind}
 use Rattle.mir_base.specs.declared.operator.Cmp.{Cmp}
 use Rattle.mir_base.specs.declared.operator.Math.{Math}
@@ -15,6 +16,7 @@ use Rattle.src_tree.specs.declared.row.Row.{Row}
 use Rattle.src_tree.specs.Grammar.{is}
 use Rattle.src_tree.specs.Layout as layout
 use Rattle.src_tree.specs.Layout.{node, Parts, end, tok, sub}
+use Rattle.src_ast.specs.Sorts.{sort_of}
 use Rattle.src_ast.specs.Syntax.{Word, Named, Kind, Unit_, Tuple_, Fields_, ByValue, ByShared, ByUnique, Syn, syn, Shape, Ident, LabelOf, Literal, TruthLiteral, Path, Minus, Bang, Star, Ampersand, Calculate, Compare, Both, Either, Store, CallOf, MethodOf, FieldOf, PartOf, ElementOf, StructOf, FieldInit, Parens, TupleOf, ArrayOf, Braces, IfElse, IfLetElse, MatchOn, ArmOf, LoopOf, WhileOf, WhileLetOf, BreakOf, ContinueOf, ReturnOf, MoveOf, PanicOf, LetOf, Empty, Semi, AnyPattern, BindPattern, LiteralPattern, TruthPattern, PathPattern, PartsPattern, FieldsPattern, FieldPattern, ParensPattern, TuplePattern, ArrayPattern, Alternatives, NamedType, GenericType, DynType, SelfType, ParensType, TupleType, ArrayType, NeverType, RefType, StructItem, EnumItem, FieldDecl, VariantDecl, TraitItem, ImplItem, FnItem, ParamOf, SelfParam, Odd, Syns, no_syn, a_syn, MaybeSyn, nothing, just}
 
 -- ---- tokens
@@ -139,12 +141,10 @@ ident_in (Ident name) = Some name
 ident_in _ = None
 
 abbrev pub is_ident : Syn → Bool
-is_ident (syn at (Ident name)) = true
-is_ident _ = false
+is_ident (syn at form) = is_some (ident_in form)
 
 abbrev pub named : Syn → Named
-named (syn at (Ident name)) = (at, name)
-named (syn at form) = (at, [])
+named (syn at form) = (at, or_empty (ident_in form))
 
 abbrev pub idents : Syns → List Named
 idents no_syn = []
@@ -187,27 +187,12 @@ abbrev pub self_name : Word
 self_name = codes "self"
 
 abbrev pub is_statement : Syn → Bool
-is_statement (syn at (LetOf pattern ty value)) = true
-is_statement (syn at Empty) = true
-is_statement (syn at (Semi expression)) = true
-is_statement _ = false
+is_statement (syn at form) = sort_of form == 2
 
 -- an expression that stands last in a block is its tail
 abbrev pub block_by : Syns → MaybeSyn → Shape
 block_by ss nothing = Braces ss nothing
 block_by ss (just last) = if is_statement last then Braces ss nothing else Braces (but_last ss) (just last)
-
-abbrev pub is_type : Syn → Bool
-is_type (syn at (NamedType name)) = true
-is_type (syn at (GenericType name content)) = true
-is_type (syn at (DynType name trait_)) = true
-is_type (syn at SelfType) = true
-is_type (syn at (ParensType inside)) = true
-is_type (syn at (TupleType parts)) = true
-is_type (syn at (ArrayType element count suffix)) = true
-is_type (syn at NeverType) = true
-is_type (syn at (RefType unique to)) = true
-is_type _ = false
 
 -- ---- rows
 
@@ -242,8 +227,7 @@ label_name (LabelOf name) = Some name
 label_name _ = None
 
 abbrev pub is_label : Syn → Bool
-is_label (syn at (LabelOf name)) = true
-is_label _ = false
+is_label (syn at form) = is_some (label_name form)
 
 abbrev pub label_of : MaybeSyn → Option Word
 label_of nothing = None
