@@ -28,17 +28,21 @@ without-or : (m a b : Bool) → (not m && (a || b)) ≡ ((not m && a) || (not m 
 without-or true a b = refl
 without-or false a b = refl
 
-union-union : (m a b : Row) → length m ≡ length a → length a ≡ length b → union m (union a b) ≡ union (union m a) (union m b)
+union-union : (m a b : Row) → length m ≡ length a → length a ≡ length b
+    → union m (union a b) ≡ union (union m a) (union m b)
 union-union [] [] [] e d = refl
-union-union (m ∷ ms) (x ∷ xs) (y ∷ ys) e d = λ i. or-or m x y i ∷ union-union ms xs ys (omega (e, arith)) (omega (d, arith)) i
+union-union (m ∷ ms) (x ∷ xs) (y ∷ ys) e d =
+    λ i. or-or m x y i ∷ union-union ms xs ys (omega (e, arith)) (omega (d, arith)) i
 union-union [] (x ∷ xs) ys e d = absurd (omega (e, arith))
 union-union (m ∷ ms) [] ys e d = absurd (omega (e, arith))
 union-union [] [] (y ∷ ys) e d = absurd (omega (d, arith))
 union-union (m ∷ ms) (x ∷ xs) [] e d = absurd (omega (d, arith))
 
-difference-union : (m a b : Row) → length m ≡ length a → length a ≡ length b → difference m (union a b) ≡ union (difference m a) (difference m b)
+difference-union : (m a b : Row) → length m ≡ length a → length a ≡ length b
+    → difference m (union a b) ≡ union (difference m a) (difference m b)
 difference-union [] [] [] e d = refl
-difference-union (m ∷ ms) (x ∷ xs) (y ∷ ys) e d = λ i. without-or m x y i ∷ difference-union ms xs ys (omega (e, arith)) (omega (d, arith)) i
+difference-union (m ∷ ms) (x ∷ xs) (y ∷ ys) e d =
+    λ i. without-or m x y i ∷ difference-union ms xs ys (omega (e, arith)) (omega (d, arith)) i
 difference-union [] (x ∷ xs) ys e d = absurd (omega (e, arith))
 difference-union (m ∷ ms) [] ys e d = absurd (omega (e, arith))
 difference-union [] [] (y ∷ ys) e d = absurd (omega (d, arith))
@@ -47,20 +51,27 @@ difference-union (m ∷ ms) (x ∷ xs) [] e d = absurd (omega (d, arith))
 length-switched : (mask : Row) (on : Bool) (row : Row) → length (switched mask on row) ≡ length row
 length-switched mask on row = by (nat_eq (length mask) (length row)) on refl
   where
-    by : (c on : Bool) → nat_eq (length mask) (length row) ≡ c → length (if c then (if on then union mask row else difference mask row) else row) ≡ length row
+    by : (c on : Bool) → nat_eq (length mask) (length row) ≡ c
+        → length (if c then (if on then union mask row else difference mask row) else row) ≡ length row
     by true true e = length-union mask row (eqb-true (length mask) (length row) e)
     by true false e = length-difference mask row (eqb-true (length mask) (length row) e)
     by false on e = refl
 
-switched-union : (mask : Row) (on : Bool) (a b : Row) → length a ≡ length b → switched mask on (union a b) ≡ union (switched mask on a) (switched mask on b)
+switched-union : (mask : Row) (on : Bool) (a b : Row) → length a ≡ length b
+    → switched mask on (union a b) ≡ union (switched mask on a) (switched mask on b)
 switched-union mask on a b same =
-    ap (λ (n : ℕ). if nat_eq (length mask) n then (if on then union mask (union a b) else difference mask (union a b)) else union a b) (length-union a b same ∙ sym same)
+    ap (λ (n : ℕ).
+    if nat_eq (length mask) n then (if on then union mask (union a b) else difference mask (union a b)) else union a b)
+    (length-union a b same ∙ sym same)
     ∙ by (nat_eq (length mask) (length a)) on refl
-    ∙ ap (λ (n : ℕ). union (switched mask on a) (if nat_eq (length mask) n then (if on then union mask b else difference mask b) else b)) same
+    ∙ ap (λ (n : ℕ).
+    union (switched mask on a) (if nat_eq (length mask) n then (if on then union mask b else difference mask b) else b))
+    same
   where
     by : (c on : Bool) → nat_eq (length mask) (length a) ≡ c
         → (if c then (if on then union mask (union a b) else difference mask (union a b)) else union a b)
-        ≡ union (if c then (if on then union mask a else difference mask a) else a) (if c then (if on then union mask b else difference mask b) else b)
+        ≡ union (if c then (if on then union mask a else difference mask a) else a)
+        (if c then (if on then union mask b else difference mask b) else b)
     by true true e = union-union mask a b (eqb-true (length mask) (length a) e) same
     by true false e = difference-union mask a b (eqb-true (length mask) (length a) e) same
     by false on e = refl
@@ -69,26 +80,33 @@ length-mask : (mask : Option Row) (on : Bool) (row : Row) → length (by_mask ma
 length-mask None on row = refl
 length-mask (Some mask) on row = length-switched mask on row
 
-mask-union : (mask : Option Row) (on : Bool) (a b : Row) → length a ≡ length b → by_mask mask on (union a b) ≡ union (by_mask mask on a) (by_mask mask on b)
+mask-union : (mask : Option Row) (on : Bool) (a b : Row) → length a ≡ length b
+    → by_mask mask on (union a b) ≡ union (by_mask mask on a) (by_mask mask on b)
 mask-union None on a b same = refl
 mask-union (Some mask) on a b same = switched-union mask on a b same
 
-pub length-all : (below : List Row) (switches : List Switch) (row : Row) → length (all_switched below switches row) ≡ length row
+pub length-all :
+    (below : List Row) (switches : List Switch) (row : Row) → length (all_switched below switches row) ≡ length row
 length-all below [] row = refl
-length-all below (switch ∷ switches) row = length-all below switches (switch_by below switch row) ∙ length-mask (slice_get below switch.path) switch.on row
+length-all below (switch ∷ switches) row =
+    length-all below switches (switch_by below switch row) ∙ length-mask (slice_get below switch.path) switch.on row
 
-all-union : (below : List Row) (switches : List Switch) (a b : Row) → length a ≡ length b → all_switched below switches (union a b) ≡ union (all_switched below switches a) (all_switched below switches b)
+all-union : (below : List Row) (switches : List Switch) (a b : Row) → length a ≡ length b
+    → all_switched below switches (union a b) ≡ union (all_switched below switches a) (all_switched below switches b)
 all-union below [] a b same = refl
 all-union below (switch ∷ switches) a b same =
     ap (all_switched below switches) (mask-union (slice_get below switch.path) switch.on a b same)
     ∙ all-union below switches (switch_by below switch a) (switch_by below switch b)
-    (length-mask (slice_get below switch.path) switch.on a ∙ same ∙ sym (length-mask (slice_get below switch.path) switch.on b))
+    (length-mask (slice_get below switch.path) switch.on a ∙ same
+    ∙ sym (length-mask (slice_get below switch.path) switch.on b))
 
 -- the laws of an analysis
-pub keeps : (s : Switches) (block way : ℕ) (row : Row) → length row ≡ length s.first → length (passed_by s block way row) ≡ length s.first
+pub keeps : (s : Switches) (block way : ℕ) (row : Row) → length row ≡ length s.first
+    → length (passed_by s block way row) ≡ length s.first
 keeps s block way row long = length-all s.below (slice_index_or s.ways (block * 2 + way) []) row ∙ long
 
 pub distributes :
     (s : Switches) (block way : ℕ) (a b : Row) → length a ≡ length s.first → length b ≡ length s.first
     → passed_by s block way (union a b) ≡ union (passed_by s block way a) (passed_by s block way b)
-distributes s block way a b long other = all-union s.below (slice_index_or s.ways (block * 2 + way) []) a b (long ∙ sym other)
+distributes s block way a b long other =
+    all-union s.below (slice_index_or s.ways (block * 2 + way) []) a b (long ∙ sym other)
