@@ -1,5 +1,7 @@
 //! Texts with what reading them gives: `ok`, or the number of the refusal with its line and column.
+use mir_base::Pos;
 use mir_pipeline::{Refusal, read_tree};
+use src_parse::parse;
 use src_token::lex;
 use src_tree::{depth, levelled, spell};
 use std::alloc::{AllocError, Global};
@@ -313,6 +315,18 @@ fn spelled_back(rt: HostRuntime) -> Result<(), Fail> {
                 assert!(rt; spanned.token == *token);
             }
         }
+    }
+    Ok(())
+}
+
+#[test]
+fn tokens_are_lent(rt: HostRuntime) -> Result<(), Fail> {
+    let tokens = lex(rt.alloc(), b"fn main() {}")?;
+    assert!(rt; tokens.len() == 6);
+    if tokens.len() < 100 {
+        let end = Pos { line: 1, col: 13 };
+        assert!(rt; parse(rt.alloc(), tokens.as_slice(), end).is_ok());
+        assert!(rt; parse(rt.alloc(), &tokens.as_slice()[..5], end).is_err());
     }
     Ok(())
 }
