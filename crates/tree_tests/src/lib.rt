@@ -3,4 +3,6 @@
 #![tactic(auto)]
 
 #[cfg(test)]
+mod patterns;
+#[cfg(test)]
 mod trees;

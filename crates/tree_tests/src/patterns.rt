@@ -1,0 +1,58 @@
+//! What one pattern asks of a place, and what its name takes from it.
+use cfg_graph::{Place, Step};
+use mir_base::{IntKind, Key, List, Name, NodeId, Pos};
+use mir_ty::{Items, TyId};
+use pattern_lower::{Test, bindings, tests};
+use std::test::Fail;
+use store_model::Path;
+use typed_tree::{Form, Node, Use};
+
+fn node(id: u32, by: Option<Use>, form: Form) -> Node {
+    Node {
+        id: NodeId(id),
+        at: Pos { line: 1, col: 1 },
+        ty: TyId(0),
+        by,
+        form,
+    }
+}
+
+/// The pattern `(x, 3 | true)`, a number and a truth value as alternatives, for the place `_7`.
+#[test]
+fn pair_with_alternatives(rt: HostRuntime) -> Result<(), Fail> {
+    let alloc = rt.alloc();
+    let mut alternatives = List::new(alloc);
+    alternatives.push(node(3, None, Form::NumberPattern(3)))?;
+    alternatives.push(node(4, None, Form::TruthPattern(true)))?;
+    let mut parts = List::new(alloc);
+    let x = Name::from_str(alloc, "x")?;
+    parts.push(node(1, Some(Use::Move), Form::Binding(x)))?;
+    parts.push(node(2, None, Form::OrPattern(alternatives)))?;
+    let pattern = node(0, None, Form::TuplePattern(parts));
+    let place = Place {
+        local: 7,
+        steps: Path::new(alloc),
+    };
+    let items = Items::new(alloc);
+
+    let made = tests(alloc, &items, &pattern, &place)?;
+    assert_eq!(rt; made.len(), 1);
+    let Some(Test::Any(any)) = made.get(0) else {
+        return Err(Fail);
+    };
+    assert_eq!(rt; any.len(), 2);
+    let Some(Test::Equal { node, at, value, kind }) = any.get(0).and_then(|all| all.get(0)) else {
+        return Err(Fail);
+    };
+    assert_eq!(rt; (*node, at.local, *value, *kind), (NodeId(3), 7, 3, IntKind::I32));
+    assert!(rt; at.steps.as_slice() == &[Step::Part(1)]);
+
+    let taken = bindings(alloc, &pattern, &place)?;
+    assert_eq!(rt; taken.len(), 1);
+    let Some(x) = taken.get(0) else {
+        return Err(Fail);
+    };
+    assert_eq!(rt; (x.key, x.by), (Key(1), Use::Move));
+    assert!(rt; x.from.steps.as_slice() == &[Step::Part(0)]);
+    Ok(())
+}
