@@ -31,17 +31,17 @@ passing p xs h = let found = passing_place p xs h in (found.1, Contains-slice_ge
 any_passes : {X : Type 0} → (p : X → Bool) (xs : List X) (x : X) → Contains xs x → p x ≡ true → list_any p xs ≡ true
 any_passes p xs x c h = list_any_at p xs c.0 x c.1 (ap p c.2 ∙ h)
 
-list_any-grows : {X : Type 0} → (P Q : X → Bool) → ((x : X) → P x ≡ true → Q x ≡ true) → (xs : List X) → list_any P xs ≡ true → list_any Q xs ≡ true
+pub list_any-grows : {X : Type 0} → (P Q : X → Bool) → ((x : X) → P x ≡ true → Q x ≡ true) → (xs : List X) → list_any P xs ≡ true → list_any Q xs ≡ true
 list_any-grows P Q sub xs h = let found = passing P xs h in any_passes Q xs found.0 found.1 (sub found.0 found.2)
 
 module _ (items : ItemTable) (sought : Option Ty → Bool) where
-  abbrev rule : Rule
+  abbrev pub rule : Rule
   rule = holding items sought
 
   abbrev reaches : TyId → Bool
   reaches = by_rule items.types rule
 
-  growing : IsGrowing rule
+  pub growing : IsGrowing rule
   growing = record {
     grows = λ P Q sub ty h. elim (or_cases (sought (Some ty)) (list_any P (held_by items ty)) h) [
       | inl here ↦ or_left (sought (Some ty)) (list_any Q (held_by items ty)) here

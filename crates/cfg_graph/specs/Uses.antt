@@ -17,7 +17,7 @@ pub data Use : Type 0 where
   Drops : Use
   Frees : Use
 
-abbrev operand_uses : Operand → List (Use × Place)
+abbrev pub operand_uses : Operand → List (Use × Place)
 operand_uses (Operand.Copied place) = (Copies, place) ∷ []
 operand_uses (Operand.Moved place) = (Moves, place) ∷ []
 operand_uses _ = []
@@ -56,7 +56,7 @@ stored_by_stmt (Stmt.Forget operand) = []
 stored_by_stmt (Stmt.Free place) = []
 
 -- what is used otherwise than as an operand, before anything is stored
-abbrev other_uses : Stmt → List (Use × Place)
+abbrev pub other_uses : Stmt → List (Use × Place)
 other_uses (Stmt.Borrow to unique of) = (Borrows, of) ∷ []
 other_uses (Stmt.Touch place) = (Touches, place) ∷ []
 other_uses (Stmt.Free place) = (Frees, place) ∷ []
@@ -99,7 +99,7 @@ stored_by_term (Term.Panic why unwind) = []
 stored_by_term Term.Return = []
 stored_by_term Term.Resume = []
 
-abbrev other_term_uses : Term → List (Use × Place)
+abbrev pub other_term_uses : Term → List (Use × Place)
 other_term_uses (Term.Case on variant if_true if_false) = (Tests, on) ∷ []
 other_term_uses (Term.DropAt place next unwind) = (Drops, place) ∷ []
 other_term_uses _ = []
@@ -108,7 +108,7 @@ other_term_uses _ = []
 abbrev pub term_uses : Term → List (Use × Place)
 term_uses term = flat_map operand_uses (operands_of_term term) ++ other_term_uses term
 
-abbrev place_used : Use × Place → Place
+abbrev pub place_used : Use × Place → Place
 place_used made = made.1
 
 -- all places of a statement, and of a terminator

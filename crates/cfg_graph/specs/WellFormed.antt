@@ -4,5 +4,6 @@ pub mod Faults
 pub mod ItemFaults
 pub mod LineFaults
 pub mod NameFaults
+pub mod Questions
 pub mod TypeFaults
 pub mod Typing

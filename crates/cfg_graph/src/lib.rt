@@ -3,11 +3,16 @@
 //! in `specs/`. The rustc development guide calls such graphs MIR ("The MIR").
 #![tactic(auto)]
 
+mod edge_faults;
 mod graph;
 mod laws;
+mod line_places;
+mod name_faults;
 mod place;
+mod place_types;
 mod statement;
 mod terminator;
+mod type_faults;
 
 pub use graph::{Block, Body, Graph, GraphFault, Kind, rank};
 pub use laws::{law_of_holding, law_of_items, law_of_presence, law_of_ranks, law_of_whole_places};

@@ -13,12 +13,12 @@ abbrev pub edges_lower : Body → Block → Bool
 edges_lower body block =
     list_all (λ n. option_map_or (lowers block) (slice_get body.blocks n) true) (targets block.term)
 
-abbrev is_abort : Unwind → Bool
+abbrev pub is_abort : Unwind → Bool
 is_abort Unwind.Abort = true
 is_abort _ = false
 
 -- the terminators of cleanup blocks
-abbrev cleans_up : Term → Bool
+abbrev pub cleans_up : Term → Bool
 cleans_up (Term.Goto block) = true
 cleans_up (Term.If on if_true if_false) = true
 cleans_up (Term.Case on variant if_true if_false) = true
@@ -34,19 +34,19 @@ cleans_up Term.Return = false
 cleans_up Term.Resume = true
 
 -- these blocks, where they exist, are cleanup blocks; and they are none
-abbrev are_cleanup : Body → List ℕ → Bool
+abbrev pub are_cleanup : Body → List ℕ → Bool
 are_cleanup body blocks = list_all (λ n. option_map_or is_cleanup (slice_get body.blocks n) true) blocks
 
-abbrev are_no_cleanup : Body → List ℕ → Bool
+abbrev pub are_no_cleanup : Body → List ℕ → Bool
 are_no_cleanup body blocks =
     list_all (λ n. option_map_or (λ block. not (is_cleanup block)) (slice_get body.blocks n) true) blocks
 
-abbrev is_resume : Term → Bool
+abbrev pub is_resume : Term → Bool
 is_resume Term.Resume = true
 is_resume _ = false
 
 -- from a cleanup block all edges stay among cleanup blocks; from another block exactly unwinding leads to them
-abbrev keeps_cleanup : Bool → Body → Term → Bool
+abbrev pub keeps_cleanup : Bool → Body → Term → Bool
 keeps_cleanup true body term = cleans_up term && are_cleanup body (targets term)
 keeps_cleanup false body term =
     not (is_resume term) && are_no_cleanup body (onward term) && are_cleanup body (unwind_targets term)

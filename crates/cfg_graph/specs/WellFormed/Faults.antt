@@ -12,6 +12,7 @@ use Rattle.cfg_graph.specs.declared.graph.Body.{Body}
 use Rattle.cfg_graph.specs.declared.graph.Graph.{Graph}
 use Rattle.cfg_graph.specs.declared.graph.GraphFault.{GraphFault}
 use Rattle.cfg_graph.specs.Edges.{IsRanked}
+use Rattle.cfg_graph.specs.WellFormed.Broken.{first_of}
 use Rattle.cfg_graph.specs.WellFormed.ItemFaults.{adt_faults, trait_faults, impl_faults, closure_faults}
 use Rattle.cfg_graph.specs.WellFormed.LineFaults.{stmt_faults, term_faults, local_faults, body_faults}
 use Rattle.cfg_graph.specs.WellFormed.NameFaults.{same_name}
@@ -30,12 +31,8 @@ abbrev pub of_each : {X : Type 0} → (ℕ → X → List GraphFault) → ℕ �
 of_each faults n [] = []
 of_each faults n (x ∷ xs) = faults n x ++ of_each faults (suc n) xs
 
-abbrev pub first_of_list : List GraphFault → Option GraphFault
-first_of_list [] = None
-first_of_list (fault ∷ rest) = Some fault
-
 module _ (graph : Graph) where
-  abbrev bodies : ℕ
+  abbrev pub bodies : ℕ
   bodies = length graph.bodies
 
   -- the lines of items are counted in the order of the text; those of a kind begin after this many
@@ -84,11 +81,11 @@ module _ (graph : Graph) where
       own_faults number body ++ (locals_faults number body ++ of_each (block_faults number body) 0 body.blocks)
 
   -- `main`, without parameters
-  abbrev is_main : Sig × Body → Bool
+  abbrev pub is_main : Sig × Body → Bool
   is_main heads = same_name heads.0.name (codes "main") && (heads.1.params == 0)
 
   -- whether there is a `main`
-  abbrev main_faults : Bool → List GraphFault
+  abbrev pub main_faults : Bool → List GraphFault
   main_faults true = []
   main_faults false = at_line nowhere nowhere nowhere (1 ∷ [])
 
@@ -100,7 +97,7 @@ module _ (graph : Graph) where
   faults = item_faults ++ (of_each faults_of_body 0 graph.bodies ++ end_faults)
 
   abbrev pub first_fault : Option GraphFault
-  first_fault = first_of_list faults
+  first_fault = first_of faults
 
   -- no fault at all
   abbrev pub IsWellFormed : Type 0

@@ -17,40 +17,40 @@ use Rattle.store_model.specs.Places.TypeForms.{same_id, same_ids, is_unit, is_ad
 use Rattle.cfg_graph.specs.WellFormed.TypeFaults.{is_drop_body, ty_exists, misplaces_dyn, adt_holds_itself, closure_holds_itself}
 
 -- the types that the line of a struct or enum has, and that of a trait
-abbrev field_types : Adt → List TyId
+abbrev pub field_types : Adt → List TyId
 field_types adt = flat_map (λ variant. variant.fields) adt.variants
 
-abbrev types_of_sig : Sig → List TyId
+abbrev pub types_of_sig : Sig → List TyId
 types_of_sig sig = sig.result ∷ sig.params
 
-abbrev types_of_trait : TraitDef → List TyId
+abbrev pub types_of_trait : TraitDef → List TyId
 types_of_trait def = flat_map types_of_sig def.methods
 
 -- the items, and how many bodies there are
 module _ (items : ItemTable) (bodies : ℕ) where
   -- these types exist, with all that they name
-  abbrev exist : List TyId → Bool
+  abbrev pub exist : List TyId → Bool
   exist ids = list_all (ty_exists items) ids
 
   -- none of them has a `dyn` type in a wrong place
-  abbrev place_dyn : List TyId → Bool
+  abbrev pub place_dyn : List TyId → Bool
   place_dyn ids = not (list_any (misplaces_dyn items) ids)
 
   -- `&mut` of the struct or enum with this number
-  abbrev is_unique_adt : ℕ → Option Ty → Bool
+  abbrev pub is_unique_adt : ℕ → Option Ty → Bool
   is_unique_adt n (Some (Ty.Unique to)) = is_adt n (type_at items to)
   is_unique_adt n _ = false
 
   -- the parameters of the `Drop` body of the struct or enum with this number
-  abbrev are_dropped : ℕ → List TyId → Bool
+  abbrev pub are_dropped : ℕ → List TyId → Bool
   are_dropped n [] = false
   are_dropped n (only ∷ []) = is_unique_adt n (type_at items only)
   are_dropped n (first ∷ second ∷ rest) = false
 
-  abbrev is_drop_sig : ℕ → Sig → Bool
+  abbrev pub is_drop_sig : ℕ → Sig → Bool
   is_drop_sig n sig = are_dropped n sig.params && is_unit (type_at items sig.result)
 
-  abbrev has_drop_sig : ℕ → ℕ → Bool
+  abbrev pub has_drop_sig : ℕ → ℕ → Bool
   has_drop_sig n body = option_map_or (is_drop_sig n) (slice_get items.bodies body) false
 
   -- a struct or enum has its types: no `dyn` type in a wrong place, and a `Drop` body of its own types
@@ -87,26 +87,26 @@ module _ (items : ItemTable) (bodies : ℕ) where
       ∷ [])
 
   -- the type of `self` in a trait's method, and in the body of it for this struct or enum
-  abbrev are_selves : ℕ → Option Ty → Option Ty → Bool
+  abbrev pub are_selves : ℕ → Option Ty → Option Ty → Bool
   are_selves n (Some (Ty.Shared object)) (Some (Ty.Shared to)) = is_adt n (type_at items to)
   are_selves n (Some (Ty.Unique object)) (Some (Ty.Unique to)) = is_adt n (type_at items to)
   are_selves n _ _ = false
 
-  abbrev params_implement : ℕ → List TyId → List TyId → Bool
+  abbrev pub params_implement : ℕ → List TyId → List TyId → Bool
   params_implement n (object ∷ params) (self_ty ∷ own) =
       are_selves n (type_at items object) (type_at items self_ty) && same_ids params own
   params_implement n [] own = false
   params_implement n (object ∷ params) [] = false
 
-  abbrev sig_implements : ℕ → Sig → Sig → Bool
+  abbrev pub sig_implements : ℕ → Sig → Sig → Bool
   sig_implements n method sig = params_implement n method.params sig.params && same_id method.result sig.result
 
   -- a body has the types of the method for this struct or enum, and is the body of no `Drop` impl
-  abbrev body_implements : ℕ → Sig → ℕ → Bool
+  abbrev pub body_implements : ℕ → Sig → ℕ → Bool
   body_implements n method body =
       option_map_or (sig_implements n method) (slice_get items.bodies body) false && not (is_drop_body items body)
 
-  abbrev methods_of : ℕ → List Sig
+  abbrev pub methods_of : ℕ → List Sig
   methods_of trait_no = option_map_or (λ def. def.methods) (slice_get items.traits trait_no) []
 
   abbrev pub impl_faults : ℕ → ImplDef → List ℕ
@@ -121,11 +121,11 @@ module _ (items : ItemTable) (bodies : ℕ) where
       ∷ [])
 
   -- the closure value is the first parameter of its body
-  abbrev begins_with_closure : ℕ → List TyId → Bool
+  abbrev pub begins_with_closure : ℕ → List TyId → Bool
   begins_with_closure n [] = false
   begins_with_closure n (first ∷ rest) = is_closure n (type_at items first)
 
-  abbrev has_closure_sig : ℕ → ℕ → Bool
+  abbrev pub has_closure_sig : ℕ → ℕ → Bool
   has_closure_sig n body = option_map_or (λ sig. begins_with_closure n sig.params) (slice_get items.bodies body) false
 
   abbrev pub closure_has_types : ℕ → ClosureDef → Bool

@@ -24,30 +24,30 @@ use Rattle.cfg_graph.specs.Uses.{places_of_stmt, places_of_term}
 -- the items, and how many bodies there are
 module _ (items : ItemTable) (bodies : ℕ) where
   -- G1 of a statement: the struct, enum, closure or trait that it names exists
-  abbrev stmt_numbers_exist : Stmt → Bool
+  abbrev pub stmt_numbers_exist : Stmt → Bool
   stmt_numbers_exist (Stmt.Make to adt variant parts) = nat_lt adt (length items.adts)
   stmt_numbers_exist (Stmt.Close to closure parts) = nat_lt closure (length items.closures)
   stmt_numbers_exist (Stmt.Unsize to trait_no from) = nat_lt trait_no (length items.traits)
   stmt_numbers_exist _ = true
 
   -- G1 of a terminator, beside its blocks: the body, or the trait and its method, that it calls exists
-  abbrev term_numbers_exist : Term → Bool
+  abbrev pub term_numbers_exist : Term → Bool
   term_numbers_exist (Term.Call to body args next unwind) = nat_lt body bodies
   term_numbers_exist (Term.Virtual to trait_no method args next unwind) = is_some (method_at items trait_no method)
   term_numbers_exist _ = true
 
   -- G2 of a line: the locals of a place exist, those of its indices too
-  abbrev locals_exist : Body → Place → Bool
+  abbrev pub locals_exist : Body → Place → Bool
   locals_exist body place =
       list_all (λ local. nat_lt local (length body.locals)) (place.local ∷ index_locals place.steps)
 
   -- G6: the type whose box becomes a box of `dyn` has an impl of the trait
-  abbrev has_row : ℕ → Option TyId → Bool
+  abbrev pub has_row : ℕ → Option TyId → Bool
   has_row trait_no None = true
   has_row trait_no (Some content) =
       option_map_or (λ adt. is_some (impl_of items trait_no adt)) (adt_of (type_at items content)) false
 
-  abbrev stmt_has_row : List TyId → Stmt → Bool
+  abbrev pub stmt_has_row : List TyId → Stmt → Bool
   stmt_has_row locals (Stmt.Unsize to trait_no from) = has_row trait_no (box_content (ty_of_operand items locals from))
   stmt_has_row locals _ = true
 
@@ -62,7 +62,7 @@ module _ (items : ItemTable) (bodies : ℕ) where
       ∷ [])
 
   -- the blocks to which edges lead exist
-  abbrev blocks_exist : Body → List ℕ → Bool
+  abbrev pub blocks_exist : Body → List ℕ → Bool
   blocks_exist body blocks = list_all (λ n. nat_lt n (length body.blocks)) blocks
 
   -- of the terminator of a block
@@ -83,17 +83,17 @@ module _ (items : ItemTable) (bodies : ℕ) where
   local_faults id = broken ((1, ty_exists items id) ∷ (3, not (misplaces_dyn items id)) ∷ [])
 
   -- a signature is that of the locals: the result first, and after it the parameters
-  abbrev is_sig_of : Body → Sig → Bool
+  abbrev pub is_sig_of : Body → Sig → Bool
   is_sig_of body sig =
       (length sig.params == body.params) && same_ids (take (suc body.params) body.locals) (sig.result ∷ sig.params)
 
-  abbrev has_sig : Body → Option Sig → Bool
+  abbrev pub has_sig : Body → Option Sig → Bool
   has_sig body sig = option_map_or (is_sig_of body) sig false
 
-  abbrev body_names : List (List ℕ)
+  abbrev pub body_names : List (List ℕ)
   body_names = map (λ sig. sig.name) items.bodies
 
-  abbrev has_own_name : ℕ → Sig → Bool
+  abbrev pub has_own_name : ℕ → Sig → Bool
   has_own_name n sig = is_name sig.name && not (is_repeated body_names n sig.name)
 
   -- of the line of the body with this number

@@ -7,14 +7,14 @@ use Rattle.mir_ty.specs.declared.def.ImplDef.{ImplDef}
 abbrev pub same_name : List ℕ → List ℕ → Bool
 same_name = pointwise nat_eq
 
-abbrev is_among : List (List ℕ) → List ℕ → Bool
+abbrev pub is_among : List (List ℕ) → List ℕ → Bool
 is_among names name = list_any (same_name name) names
 
 -- the marks that end a name; each byte of a longer character is above them and the space
-abbrev marks : List ℕ
+abbrev pub marks : List ℕ
 marks = codes "()[]{}<>,;&!"
 
-abbrev stands_in_names : ℕ → Bool
+abbrev pub stands_in_names : ℕ → Bool
 stands_in_names byte = nat_lt 32 byte && not (list_any (nat_eq byte) marks)
 
 -- one or more characters above the space, and no mark
@@ -22,7 +22,7 @@ abbrev pub is_name : List ℕ → Bool
 is_name name = nat_lt 0 (length name) && list_all stands_in_names name
 
 -- the words that begin another type
-abbrev type_words : List (List ℕ)
+abbrev pub type_words : List (List ℕ)
 type_words =
     codes "i32" ∷ codes "i64" ∷ codes "u32" ∷ codes "u64" ∷ codes "usize" ∷ codes "bool" ∷ codes "Box" ∷ codes "dyn"
     ∷ []
@@ -35,7 +35,7 @@ is_adt_name name = is_name name && not (is_among type_words name) && not (starts
 abbrev pub is_repeated : List (List ℕ) → ℕ → List ℕ → Bool
 is_repeated names n name = is_among (take n names) name
 
-abbrev same_impl : ImplDef → ImplDef → Bool
+abbrev pub same_impl : ImplDef → ImplDef → Bool
 same_impl a b = (a.trait_no == b.trait_no) && (a.adt == b.adt)
 
 -- an impl before this one is of the same trait for the same type

@@ -12,7 +12,7 @@ use Rattle.mir_ty.specs.ItemTable.{ItemTable, type_at}
 use Rattle.mir_ty.specs.Parts.{held_by, Holds}
 use Rattle.store_model.specs.Places.TypeForms.{is_dyn, is_adt, is_closure}
 
-abbrev is_drop_body_of : ℕ → Adt → Bool
+abbrev pub is_drop_body_of : ℕ → Adt → Bool
 is_drop_body_of body adt = option_map_or (nat_eq body) adt.drop_body false
 
 -- a body is that of a `Drop` impl
@@ -21,14 +21,14 @@ is_drop_body items body = list_any (is_drop_body_of body) items.adts
 
 module _ (items : ItemTable) where
   -- the item that a type itself names exists
-  abbrev own_number_exists : Ty → Bool
+  abbrev pub own_number_exists : Ty → Bool
   own_number_exists (Ty.Adt n) = nat_lt n (length items.adts)
   own_number_exists (Ty.Dyn n) = nat_lt n (length items.traits)
   own_number_exists (Ty.Closure n) = nat_lt n (length items.closures)
   own_number_exists _ = true
 
   -- all types in it exist too
-  abbrev existing : Rule
+  abbrev pub existing : Rule
   existing known ty = own_number_exists ty && list_all known (types_in ty)
 
   -- a type, and all types in it, are in the table and name items that exist
@@ -36,11 +36,11 @@ module _ (items : ItemTable) where
   ty_exists id = by_rule items.types existing id
 
   -- behind a box or a reference
-  abbrev unless_dyn : (TyId → Bool) → TyId → Bool
+  abbrev pub unless_dyn : (TyId → Bool) → TyId → Bool
   unless_dyn known id = not (is_dyn (type_at items id)) && known id
 
   -- a type itself misplaces a `dyn` type, or one in it does
-  abbrev misplacing : Rule
+  abbrev pub misplacing : Rule
   misplacing known (Ty.Dyn n) = true
   misplacing known (Ty.Boxed inside) = unless_dyn known inside
   misplacing known (Ty.Shared to) = unless_dyn known to

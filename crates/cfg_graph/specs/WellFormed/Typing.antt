@@ -22,12 +22,12 @@ use Rattle.store_model.specs.Places.TypeForms.{same_id, is_int, is_bool, is_unit
 use Rattle.cfg_graph.specs.Uses.{places_of_stmt, places_of_term, operands_of_stmt, operands_of_term, stored_by_stmt, stored_by_term}
 
 -- the numbers that a constant may be
-abbrev constant_fits : Operand → Bool
+abbrev pub constant_fits : Operand → Bool
 constant_fits (Operand.Number value kind) = fits kind value
 constant_fits _ = true
 
 -- a panic that a graph may start by itself: `panic!`, and a match that no arm takes
-abbrev is_started : Why → Bool
+abbrev pub is_started : Why → Bool
 is_started Why.Explicit = true
 is_started Why.Match = true
 is_started _ = false
@@ -38,32 +38,32 @@ method_at items trait_no method =
     option_and_then (λ def. slice_get def.methods method) (slice_get items.traits trait_no)
 
 -- the variant of a struct or an enum
-abbrev variant_at : ItemTable → ℕ → ℕ → Option Variant
+abbrev pub variant_at : ItemTable → ℕ → ℕ → Option Variant
 variant_at items adt variant = option_and_then (λ def. slice_get def.variants variant) (slice_get items.adts adt)
 
 -- a variant of an enum
-abbrev enum_variant : ItemTable → ℕ → ℕ → Bool
+abbrev pub enum_variant : ItemTable → ℕ → ℕ → Bool
 enum_variant items adt variant =
     option_map_or (λ def. def.is_enum) (slice_get items.adts adt) false && is_some (variant_at items adt variant)
 
 -- the items of a graph and the locals of a body
 module _ (items : ItemTable) (locals : List TyId) where
   -- the type of a place, and of an operand
-  abbrev ty : Place → Option Ty
+  abbrev pub ty : Place → Option Ty
   ty place = ty_of_place items locals place
 
-  abbrev operand_ty : Operand → Option Ty
+  abbrev pub operand_ty : Operand → Option Ty
   operand_ty operand = ty_of_operand items locals operand
 
   -- each step of a place leads somewhere, and its indices are of type `usize`
-  abbrev is_typed_place : Place → Bool
+  abbrev pub is_typed_place : Place → Bool
   is_typed_place place =
       is_some (ty place)
       && list_all (λ local. is_int IntKind.Usize (option_and_then (type_at items) (slice_get locals local)))
       (index_locals place.steps)
 
   -- a value of the type with this number
-  abbrev operand_is : TyId → Operand → Bool
+  abbrev pub operand_is : TyId → Operand → Bool
   operand_is id (Operand.Copied place) = option_map_or (same_id id) (place_id items locals place) false
   operand_is id (Operand.Moved place) = option_map_or (same_id id) (place_id items locals place) false
   operand_is id (Operand.Number value kind) = is_int kind (type_at items id)
@@ -71,22 +71,22 @@ module _ (items : ItemTable) (locals : List TyId) where
   operand_is id Operand.Unit = is_unit (type_at items id)
 
   -- as many values as types, each of its type
-  abbrev operands_are : List TyId → List Operand → Bool
+  abbrev pub operands_are : List TyId → List Operand → Bool
   operands_are = pointwise operand_is
 
   -- the elements are as many as the array's type says, and each is of its element's type
-  abbrev are_elements : List Operand → Option Ty → Bool
+  abbrev pub are_elements : List Operand → Option Ty → Bool
   are_elements operands (Some (Ty.Array element count)) =
       (length operands == count) && list_all (operand_is element) operands
   are_elements operands _ = false
 
   -- the arguments and the result are those of a signature
-  abbrev calls : Place → List Operand → Sig → Bool
+  abbrev pub calls : Place → List Operand → Sig → Bool
   calls to args sig =
       operands_are sig.params args && option_map_or (same_id sig.result) (place_id items locals to) false
 
   -- what a statement stores is of the type of its place
-  abbrev stmt_has_types : Stmt → Bool
+  abbrev pub stmt_has_types : Stmt → Bool
   stmt_has_types (Stmt.Put to from) = option_map_or (λ id. operand_is id from) (place_id items locals to) false
   stmt_has_types (Stmt.Compare to op left right) = is_bool (ty to) && are_compared (operand_ty left) (operand_ty right)
   stmt_has_types (Stmt.Not to operand) = is_bool (ty to) && is_bool (operand_ty operand)
@@ -108,7 +108,7 @@ module _ (items : ItemTable) (locals : List TyId) where
   stmt_has_types (Stmt.Free place) = is_some (box_content (ty place))
 
   -- what a terminator takes and stores is of the types that it wants; no `Drop` body is called
-  abbrev term_has_types : Term → Bool
+  abbrev pub term_has_types : Term → Bool
   term_has_types (Term.Goto block) = true
   term_has_types (Term.If on if_true if_false) = is_bool (operand_ty on)
   term_has_types (Term.Case on variant if_true if_false) =
@@ -128,15 +128,15 @@ module _ (items : ItemTable) (locals : List TyId) where
   term_has_types Term.Resume = true
 
   -- what is stored into, and what is an operand, is not of a `dyn` type
-  abbrev is_sized : Place → Bool
+  abbrev pub is_sized : Place → Bool
   is_sized place = not (is_dyn (ty place))
 
   -- an operand is of no `dyn` type, and a constant is inside its type
-  abbrev operand_stands : Operand → Bool
+  abbrev pub operand_stands : Operand → Bool
   operand_stands operand = not (is_dyn (operand_ty operand)) && constant_fits operand
 
   -- the places and operands of a statement or a terminator, whatever it is
-  abbrev places_have_types : List Place → List Operand → List Place → Bool
+  abbrev pub places_have_types : List Place → List Operand → List Place → Bool
   places_have_types stored operands places =
       list_all is_typed_place places && list_all is_sized stored && list_all operand_stands operands
 
