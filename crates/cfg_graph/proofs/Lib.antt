@@ -3,10 +3,13 @@ pub mod AskedOfLines
 pub mod AskedOfLists
 mod Examples
 pub mod FiniteSize
+pub mod FirstBroken
 pub mod Growing
 pub mod InfiniteSize
+pub mod OneKind
 pub mod NoFaults
 pub mod Noting
 pub mod Present
 pub mod Ranked
+pub mod Rests
 pub mod WholePlaces

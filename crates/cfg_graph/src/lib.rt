@@ -5,14 +5,18 @@
 
 mod edge_faults;
 mod graph;
+mod item_faults;
 mod laws;
+mod line_faults;
 mod line_places;
 mod name_faults;
 mod place;
 mod place_types;
+mod same_types;
 mod statement;
 mod terminator;
 mod type_faults;
+mod typing;
 
 pub use graph::{Block, Body, Graph, GraphFault, Kind, rank};
 pub use laws::{law_of_holding, law_of_items, law_of_presence, law_of_ranks, law_of_whole_places};

@@ -1,5 +1,5 @@
 //! What can be wrong with a type, at any depth of it.
-ghost use Rattle.std.specs.Prelude.{◌≡◌, ◌<◌, ◌^◌, ◌-◌, length, slice_get, Some, count_by, not, option_and_then};
+ghost use Rattle.std.specs.Prelude.{◌≡◌, ◌<◌, ◌≤◌, ◌^◌, ◌-◌, length, Some, count_by, not};
 ghost use Rattle.std.specs.Bool.{OnTrue, OnFalse};
 ghost use Rattle.std.specs.List.{list_any, list_all};
 ghost use Rattle.mir_ty.specs.AreItems.{types_in};
@@ -9,11 +9,10 @@ ghost use Rattle.mir_ty.specs.Known.{known_by, IsShown, IsSettledAt, IsNews};
 ghost use Rattle.mir_ty.specs.Parts.{held_by};
 ghost use Rattle.mir_ty.specs.declared.ty.TyId.{TyId};
 ghost use Rattle.store_model.specs.Places.TypeForms.{is_dyn as dyn_type, is_adt as adt_type, is_closure as closure_type};
-ghost use Rattle.cfg_graph.specs.WellFormed.TypeFaults.{own_number_exists as own_exists, misplacing, unless_dyn as if_no_dyn, is_drop_body as drop_body, is_drop_body_of};
-ghost use Rattle.cfg_graph.specs.WellFormed.Questions.{rule_for, shown_from, Tells};
+ghost use Rattle.cfg_graph.specs.WellFormed.TypeFaults.{ty_exists as type_exists, misplaces_dyn as dyn_misplaced, own_number_exists as own_exists, misplacing, unless_dyn as if_no_dyn};
+ghost use Rattle.cfg_graph.specs.WellFormed.Questions.{rule_for, shown_from, Tells, AreTests};
 
-use mir_base::List;
-use mir_ty::{Adt, Items, Ty, TyId, Variant};
+use mir_ty::{Items, Ty, TyId, Variant};
 
 /// What can be true of a type by what is true of the types in it.
 #[derive(Clone, Copy)]
@@ -258,4 +257,61 @@ pub fn find_out(items: &Items, question: Question, known: &mut [bool])
 {
     known.fill(false);
     settle(items, question, known);
+}
+
+/// What is known of the types of a graph: tables, from which so many rounds go on.
+pub struct TypeTests<'a> {
+    /// Which exist, with all that they name.
+    pub exists: &'a [bool],
+    /// Which have a `dyn` type in a wrong place.
+    pub misplaced: &'a [bool],
+    pub rounds: usize,
+}
+
+/// Whether a type, and all types in it, exist.
+pub fn ty_exists(items: &Items, tests: &TypeTests, id: TyId) -> bool
+    requires { AreTests items.now tests.now }
+    ensures { result ≡ type_exists items.now id }
+{
+    is_shown(items, Question::Exists, tests.exists, tests.rounds, id)
+}
+
+/// Whether a `dyn` type stands in a wrong place of a type.
+pub fn misplaces_dyn(items: &Items, tests: &TypeTests, id: TyId) -> bool
+    requires { AreTests items.now tests.now }
+    ensures { result ≡ dyn_misplaced items.now id }
+{
+    is_shown(
+        items,
+        Question::MisplacesDyn,
+        tests.misplaced,
+        tests.rounds,
+        id,
+    )
+}
+
+/// Whether what a type holds at once is such a type or holds one, at any depth. There is room for a table of all types,
+/// over which each call goes.
+#[tactic(auto, using(crate::proofs::AskedOfLists::told_of_all))]
+fn is_held_by(items: &Items, question: Question, room: &mut [bool], types: usize, ty: &Ty) -> bool
+    requires few { length room.old < 2 ^ 32 }
+    requires within { types ≤ length room.old }
+    requires all { types ≡ length items.now.types }
+    ensures { result ≡ list_any (by_rule items.now.types (rule_for items.now question)) (held_by items.now ty.now) }
+{
+    let known = &mut room[..types];
+    find_out(items, question, known);
+    any_held(items, question, known, 0, ty)
+}
+
+/// The same, with room on the stack where the types are not too many for it; for more it goes along all that is held.
+pub fn is_held(items: &Items, question: Question, types: usize, ty: &Ty) -> bool
+    requires { types ≡ length items.now.types }
+    ensures { result ≡ list_any (by_rule items.now.types (rule_for items.now question)) (held_by items.now ty.now) }
+{
+    if types > MOST_TYPES {
+        return any_held(items, question, &[], types, ty);
+    }
+    let mut room = [false; MOST_TYPES];
+    is_held_by(items, question, &mut room, types, ty)
 }

@@ -10,3 +10,8 @@ broken (test ∷ tests) = if test.1 then broken tests else test.0 ∷ broken tes
 abbrev pub first_of : {X : Type 0} → List X → Option X
 first_of [] = None
 first_of (x ∷ rest) = Some x
+
+-- the number of the first test that does not hold
+abbrev pub first_broken : List (ℕ × Bool) → Option ℕ
+first_broken [] = None
+first_broken (test ∷ tests) = if test.1 then first_broken tests else Some test.0

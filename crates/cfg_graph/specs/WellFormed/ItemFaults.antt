@@ -74,17 +74,19 @@ module _ (items : ItemTable) (bodies : ℕ) where
   abbrev pub adt_faults : ℕ → Adt → List ℕ
   adt_faults n adt = broken (adt_tests n adt)
 
+  -- the names of a trait and of its methods stand in a listing, and no earlier trait has its name
+  abbrev pub trait_has_names : ℕ → TraitDef → Bool
+  trait_has_names n def =
+      is_name def.name
+      && list_all (λ method. is_name method.name) def.methods
+      && not (is_repeated (map (λ other. other.name) items.traits) n def.name)
+
+  abbrev pub trait_tests : ℕ → TraitDef → List (ℕ × Bool)
+  trait_tests n def =
+      (1, exist (types_of_trait def)) ∷ (3, place_dyn (types_of_trait def)) ∷ (7, trait_has_names n def) ∷ []
+
   abbrev pub trait_faults : ℕ → TraitDef → List ℕ
-  trait_faults n def =
-      broken (
-      (1, exist (types_of_trait def))
-      ∷ (3, place_dyn (types_of_trait def))
-      ∷ (
-        7,
-        is_name def.name && list_all (λ method. is_name method.name) def.methods
-            && not (is_repeated (map (λ other. other.name) items.traits) n def.name),
-      )
-      ∷ [])
+  trait_faults n def = broken (trait_tests n def)
 
   -- the type of `self` in a trait's method, and in the body of it for this struct or enum
   abbrev pub are_selves : ℕ → Option Ty → Option Ty → Bool
@@ -109,16 +111,22 @@ module _ (items : ItemTable) (bodies : ℕ) where
   abbrev pub methods_of : ℕ → List Sig
   methods_of trait_no = option_map_or (λ def. def.methods) (slice_get items.traits trait_no) []
 
-  abbrev pub impl_faults : ℕ → ImplDef → List ℕ
-  impl_faults n impl =
-      broken ((
-        1,
-        nat_lt impl.trait_no (length items.traits) && nat_lt impl.adt (length items.adts)
-            && list_all (λ body. nat_lt body bodies) impl.bodies,
-      )
+  -- the trait, the struct or enum, and the bodies of an impl exist
+  abbrev pub impl_exists : ImplDef → Bool
+  impl_exists impl =
+      nat_lt impl.trait_no (length items.traits)
+      && nat_lt impl.adt (length items.adts)
+      && list_all (λ body. nat_lt body bodies) impl.bodies
+
+  abbrev pub impl_tests : ℕ → ImplDef → List (ℕ × Bool)
+  impl_tests n impl =
+      (1, impl_exists impl)
       ∷ (3, pointwise (body_implements impl.adt) (methods_of impl.trait_no) impl.bodies)
       ∷ (7, not (is_repeated_impl items.impls n impl))
-      ∷ [])
+      ∷ []
+
+  abbrev pub impl_faults : ℕ → ImplDef → List ℕ
+  impl_faults n impl = broken (impl_tests n impl)
 
   -- the closure value is the first parameter of its body
   abbrev pub begins_with_closure : ℕ → List TyId → Bool

@@ -52,14 +52,16 @@ module _ (items : ItemTable) (bodies : ℕ) where
   stmt_has_row locals _ = true
 
   -- of a statement
-  abbrev pub stmt_faults : Body → Stmt → List ℕ
-  stmt_faults body stmt =
-      broken (
+  abbrev pub stmt_tests : Body → Stmt → List (ℕ × Bool)
+  stmt_tests body stmt =
       (1, stmt_numbers_exist stmt)
       ∷ (2, list_all (locals_exist body) (places_of_stmt stmt))
       ∷ (3, stmt_is_typed items body.locals stmt)
       ∷ (6, stmt_has_row body.locals stmt)
-      ∷ [])
+      ∷ []
+
+  abbrev pub stmt_faults : Body → Stmt → List ℕ
+  stmt_faults body stmt = broken (stmt_tests body stmt)
 
   -- the blocks to which edges lead exist
   abbrev pub blocks_exist : Body → List ℕ → Bool
@@ -79,8 +81,11 @@ module _ (items : ItemTable) (bodies : ℕ) where
   term_faults body block = broken (term_tests body block)
 
   -- of a local, by its type
+  abbrev pub local_tests : TyId → List (ℕ × Bool)
+  local_tests id = (1, ty_exists items id) ∷ (3, not (misplaces_dyn items id)) ∷ []
+
   abbrev pub local_faults : TyId → List ℕ
-  local_faults id = broken ((1, ty_exists items id) ∷ (3, not (misplaces_dyn items id)) ∷ [])
+  local_faults id = broken (local_tests id)
 
   -- a signature is that of the locals: the result first, and after it the parameters
   abbrev pub is_sig_of : Body → Sig → Bool
@@ -97,11 +102,13 @@ module _ (items : ItemTable) (bodies : ℕ) where
   has_own_name n sig = is_name sig.name && not (is_repeated body_names n sig.name)
 
   -- of the line of the body with this number
-  abbrev pub body_faults : ℕ → Body → List ℕ
-  body_faults n body =
-      broken (
+  abbrev pub body_tests : ℕ → Body → List (ℕ × Bool)
+  body_tests n body =
       (1, nat_lt 0 (length body.blocks))
       ∷ (2, nat_lt body.params (length body.locals))
       ∷ (3, has_sig body (slice_get items.bodies n))
       ∷ (7, option_map_or (has_own_name n) (slice_get items.bodies n) true)
-      ∷ [])
+      ∷ []
+
+  abbrev pub body_faults : ℕ → Body → List ℕ
+  body_faults n body = broken (body_tests n body)

@@ -10,6 +10,7 @@ use Rattle.mir_ty.specs.Known.{known_by}
 use Rattle.mir_ty.specs.ItemTable.{ItemTable}
 use Rattle.store_model.specs.Places.TypeForms.{is_int, is_adt, is_closure}
 use Rattle.cfg_graph.specs.declared.type_faults.Question.{Question}
+use Rattle.cfg_graph.specs.declared.type_faults.TypeTests.{TypeTests}
 use Rattle.cfg_graph.specs.declared.line_places.PlaceTest.{PlaceTest}
 use Rattle.cfg_graph.specs.declared.edge_faults.EdgeTest.{EdgeTest}
 use Rattle.cfg_graph.specs.declared.place.Place.{Place}
@@ -40,6 +41,11 @@ Tells items question known rounds =
     (id : TyId) →
     shown_from (known_by known) items.types (rule_for items question) rounds id
     ≡ by_rule items.types (rule_for items question) id
+
+-- what is told of types where there is a table of each question, and where there is none
+pub record AreTests (items : ItemTable) (tests : TypeTests) : Type 0 where
+  pub exists : Tells items Question.Exists tests.exists.now tests.rounds
+  pub misplaced : Tells items Question.MisplacesDyn tests.misplaced.now tests.rounds
 
 -- an element that is there or not
 abbrev pub listed : {X : Type 0} → Option X → List X

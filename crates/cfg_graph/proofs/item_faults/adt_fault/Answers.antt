@@ -1,0 +1,11 @@
+use Rattle.std.proofs.Common.{◌≡◌, [], drop, refl, ap, not}
+use Rattle.cfg_graph.proofs.FirstBroken.{unless_more}
+use Rattle.cfg_graph.specs.WellFormed.ItemFaults.{adt_tests}
+use Rattle.cfg_graph.proofs.item_faults.adt_fault.Goals as goal
+
+pub returns : goal.returns
+returns c =
+    let tests = adt_tests c.args.items.now c.args.bodies c.args.n c.args.adt.now in
+    let named = unless_more 7 _ _ _ _ [] c.adt_has_names.ensures refl c.unless-named.ensures in
+    let typed = unless_more 3 _ _ _ _ (drop 2 tests) c.adt_is_typed.ensures named c.unless-typed.ensures in
+    unless_more 1 _ _ _ _ (drop 1 tests) c.adt_exists.ensures typed c.unless.ensures

@@ -1,0 +1,518 @@
+//! The first fault of the line of a struct or enum, a trait, an impl or a closure.
+ghost use Rattle.std.specs.Prelude.{◌≡◌, ◌&&◌, not, true, false, length, slice_get, take, nat_lt};
+ghost use Rattle.std.specs.Cmp.Lexicographic.{pointwise};
+ghost use Rattle.std.specs.List.{list_any, list_all};
+ghost use Rattle.std.specs.Option.{option_copied, option_map_or};
+ghost use Rattle.store_model.specs.Places.TypeForms.{is_adt, is_closure};
+ghost use Rattle.cfg_graph.specs.WellFormed.Broken.{first_of};
+ghost use Rattle.cfg_graph.specs.WellFormed.NameFaults.{is_name as name_stands, same_name, same_impl, is_repeated_impl};
+ghost use Rattle.cfg_graph.specs.WellFormed.Questions.{AreTests};
+ghost use Rattle.cfg_graph.specs.WellFormed.TypeFaults.{misplaces_dyn as dyn_misplaced, adt_holds_itself, closure_holds_itself};
+ghost use Rattle.cfg_graph.specs.WellFormed.ItemFaults.{exist, place_dyn, field_types, types_of_sig, types_of_trait, is_unique_adt as unique_adt, are_dropped as dropped_are, is_drop_sig as drop_sig, has_drop_sig as drops_by_sig, adt_has_types as adt_types_fit, adt_has_names as adt_names_stand, adt_tests, adt_faults, trait_has_names as trait_names_stand, trait_faults, impl_exists as impl_named, are_selves as selves_are, params_implement as params_fit, body_implements as body_fits, methods_of, impl_faults, begins_with_closure as closure_first, has_closure_sig as closure_sig, closure_has_types as closure_types_fit, closure_faults};
+
+use crate::line_faults::unless;
+use crate::name_faults::{is_adt_name, is_name};
+use crate::same_types::same_ids;
+use crate::type_faults::{Question, TypeTests, is_held, misplaces_dyn, ty_exists};
+use crate::typing::is_drop_body;
+use mir_base::Name;
+use mir_ty::{Adt, ClosureDef, ImplDef, Items, Sig, TraitDef, Ty, TyId, Variant};
+
+/// Whether these types exist, with all that they name.
+fn all_exist(items: &Items, tests: &TypeTests, bodies: usize, ids: &[TyId]) -> bool
+    requires { AreTests items.now tests.now }
+    ensures { result ≡ exist items.now bodies ids.now }
+{
+    for id in ids {
+        if !ty_exists(items, tests, *id) {
+            return false;
+        }
+    }
+    true
+}
+
+/// Whether one of these types has a `dyn` type in a wrong place.
+fn any_misplaces(items: &Items, tests: &TypeTests, ids: &[TyId]) -> bool
+    requires { AreTests items.now tests.now }
+    ensures { result ≡ list_any (dyn_misplaced items.now) ids.now }
+{
+    for id in ids {
+        if misplaces_dyn(items, tests, *id) {
+            return true;
+        }
+    }
+    false
+}
+
+fn fields_exist(items: &Items, tests: &TypeTests, bodies: usize, variants: &[Variant]) -> bool
+    requires { AreTests items.now tests.now }
+    ensures { result ≡ list_all (λ variant. exist items.now bodies variant.fields) variants.now }
+{
+    for variant in variants {
+        if !all_exist(items, tests, bodies, variant.fields.as_slice()) {
+            return false;
+        }
+    }
+    true
+}
+
+fn any_field_misplaces(items: &Items, tests: &TypeTests, variants: &[Variant]) -> bool
+    requires { AreTests items.now tests.now }
+    ensures { result ≡ list_any (λ variant. list_any (dyn_misplaced items.now) variant.fields) variants.now }
+{
+    for variant in variants {
+        if any_misplaces(items, tests, variant.fields.as_slice()) {
+            return true;
+        }
+    }
+    false
+}
+
+fn is_unique_adt(items: &Items, bodies: usize, n: u32, ty: Option<&Ty>) -> bool
+    ensures { result ≡ unique_adt items.now bodies n (option_copied ty.entry) }
+{
+    match ty {
+        Some(Ty::Unique(to)) => is_adt_of(n, items.ty(*to)),
+        _ => false,
+    }
+}
+
+fn is_adt_of(n: u32, ty: Option<&Ty>) -> bool
+    ensures { result ≡ is_adt n (option_copied ty.entry) }
+{
+    match ty {
+        Some(Ty::Adt(found)) => n == *found,
+        _ => false,
+    }
+}
+
+/// Whether a signature is that of the `Drop` body of a struct or an enum.
+fn is_drop_sig(items: &Items, bodies: usize, n: u32, sig: &Sig) -> bool
+    ensures { result ≡ drop_sig items.now bodies n sig.now }
+{
+    are_dropped(items, bodies, n, sig.params.as_slice())
+        && matches!(items.ty(sig.result), Some(Ty::Unit))
+}
+
+fn are_dropped(items: &Items, bodies: usize, n: u32, params: &[TyId]) -> bool
+    ensures { result ≡ dropped_are items.now bodies n params.now }
+{
+    match params {
+        [only] => is_unique_adt(items, bodies, n, items.ty(*only)),
+        _ => false,
+    }
+}
+
+fn has_drop_sig(items: &Items, bodies: usize, n: u32, body: Option<u32>) -> bool
+    ensures { result ≡ option_map_or (drops_by_sig items.now bodies n) body true }
+{
+    match body {
+        Some(body) => match items.body_sig(body) {
+            Some(sig) => is_drop_sig(items, bodies, n, sig),
+            None => false,
+        },
+        None => true,
+    }
+}
+
+#[tactic(auto, using(crate::proofs::AskedOfLists::any_field_of))]
+fn adt_has_types(items: &Items, tests: &TypeTests, bodies: usize, n: u32, adt: &Adt) -> bool
+    requires { AreTests items.now tests.now }
+    ensures { result ≡ adt_types_fit items.now bodies n adt.now }
+{
+    !any_field_misplaces(items, tests, adt.variants.as_slice())
+        && has_drop_sig(items, bodies, n, adt.drop_body)
+}
+
+fn adt_is_named(items: &Items, n: u32, name: &Name) -> bool
+    ensures { result ≡ option_map_or (λ other. same_name name.now other.name) (slice_get items.now.adts n) false }
+{
+    match items.adt(n) {
+        Some(other) => *name == other.name,
+        None => false,
+    }
+}
+
+/// Whether one of the first `n` structs and enums has this name.
+fn adt_name_is_taken(items: &Items, n: u32, name: &Name) -> bool
+    ensures { result ≡ list_any (λ other. same_name name.now other.name) (take n items.now.adts) }
+{
+    for i in 0..n {
+        if adt_is_named(items, i, name) {
+            return true;
+        }
+    }
+    false
+}
+
+fn variants_are_named(variants: &[Variant]) -> bool
+    ensures { result ≡ list_all (λ variant. name_stands variant.name) variants.now }
+{
+    variants.iter().all(|variant| is_name(&variant.name))
+}
+
+#[tactic(auto, using(crate::proofs::Rests::few_mapped))]
+fn adt_has_names(items: &Items, bodies: usize, n: u32, adt: &Adt) -> bool
+    ensures { result ≡ adt_names_stand items.now bodies n adt.now }
+{
+    is_adt_name(&adt.name)
+        && variants_are_named(adt.variants.as_slice())
+        && !adt_name_is_taken(items, n, &adt.name)
+}
+
+/// Whether the types of a struct or an enum, and its `Drop` body, exist.
+#[tactic(auto, using(crate::proofs::AskedOfLists::all_fields_of))]
+fn adt_exists(items: &Items, tests: &TypeTests, bodies: usize, adt: &Adt) -> bool
+    requires { AreTests items.now tests.now }
+    ensures { result ≡ (exist items.now bodies (field_types adt.now) && option_map_or (λ body. nat_lt body bodies) adt.now.drop_body true) }
+{
+    fields_exist(items, tests, bodies, adt.variants.as_slice())
+        && match adt.drop_body {
+            Some(body) => (body as usize) < bodies,
+            None => true,
+        }
+}
+
+/// Whether a struct or an enum has its types and does not hold itself.
+fn adt_is_typed(
+    items: &Items,
+    tests: &TypeTests,
+    bodies: usize,
+    types: usize,
+    n: u32,
+    adt: &Adt,
+) -> bool
+    requires tests { AreTests items.now tests.now }
+    requires types { types ≡ length items.now.types }
+    ensures { result ≡ (adt_types_fit items.now bodies n adt.now && not (adt_holds_itself items.now n)) }
+{
+    adt_has_types(items, tests, bodies, n, adt)
+        && !is_held(items, Question::HoldsAdt(n), types, &Ty::Adt(n))
+}
+
+/// The first fault of the line of the struct or enum with this number.
+pub fn adt_fault(
+    items: &Items,
+    tests: &TypeTests,
+    bodies: usize,
+    types: usize,
+    n: u32,
+    adt: &Adt,
+) -> Option<u8>
+    requires tests { AreTests items.now tests.now }
+    requires types { types ≡ length items.now.types }
+    ensures { result ≡ first_of (adt_faults items.now bodies n adt.now) }
+{
+    let named = unless(adt_has_names(items, bodies, n, adt), 7, None);
+    let typed = unless(
+        adt_is_typed(items, tests, bodies, types, n, adt),
+        3,
+        named,
+    );
+    unless(adt_exists(items, tests, bodies, adt), 1, typed)
+}
+
+fn sig_exists(items: &Items, tests: &TypeTests, bodies: usize, sig: &Sig) -> bool
+    requires { AreTests items.now tests.now }
+    ensures { result ≡ exist items.now bodies (types_of_sig sig.now) }
+{
+    ty_exists(items, tests, sig.result)
+        && all_exist(items, tests, bodies, sig.params.as_slice())
+}
+
+fn sig_misplaces(items: &Items, tests: &TypeTests, sig: &Sig) -> bool
+    requires { AreTests items.now tests.now }
+    ensures { result ≡ list_any (dyn_misplaced items.now) (types_of_sig sig.now) }
+{
+    misplaces_dyn(items, tests, sig.result) || any_misplaces(items, tests, sig.params.as_slice())
+}
+
+fn methods_exist(items: &Items, tests: &TypeTests, bodies: usize, methods: &[Sig]) -> bool
+    requires { AreTests items.now tests.now }
+    ensures { result ≡ list_all (λ sig. exist items.now bodies (types_of_sig sig)) methods.now }
+{
+    for sig in methods {
+        if !sig_exists(items, tests, bodies, sig) {
+            return false;
+        }
+    }
+    true
+}
+
+fn any_method_misplaces(items: &Items, tests: &TypeTests, methods: &[Sig]) -> bool
+    requires { AreTests items.now tests.now }
+    ensures { result ≡ list_any (λ sig. list_any (dyn_misplaced items.now) (types_of_sig sig)) methods.now }
+{
+    for sig in methods {
+        if sig_misplaces(items, tests, sig) {
+            return true;
+        }
+    }
+    false
+}
+
+#[tactic(auto, using(crate::proofs::AskedOfLists::all_types_of_trait))]
+fn trait_exists(items: &Items, tests: &TypeTests, bodies: usize, def: &TraitDef) -> bool
+    requires { AreTests items.now tests.now }
+    ensures { result ≡ exist items.now bodies (types_of_trait def.now) }
+{
+    methods_exist(items, tests, bodies, def.methods.as_slice())
+}
+
+#[tactic(auto, using(crate::proofs::AskedOfLists::any_type_of_trait))]
+fn trait_places_dyn(items: &Items, tests: &TypeTests, bodies: usize, def: &TraitDef) -> bool
+    requires { AreTests items.now tests.now }
+    ensures { result ≡ place_dyn items.now bodies (types_of_trait def.now) }
+{
+    !any_method_misplaces(items, tests, def.methods.as_slice())
+}
+
+fn trait_is_named(items: &Items, n: u32, name: &Name) -> bool
+    ensures { result ≡ option_map_or (λ other. same_name name.now other.name) (slice_get items.now.traits n) false }
+{
+    match items.trait_def(n) {
+        Some(other) => *name == other.name,
+        None => false,
+    }
+}
+
+/// Whether one of the first `n` traits has this name.
+fn trait_name_is_taken(items: &Items, n: u32, name: &Name) -> bool
+    ensures { result ≡ list_any (λ other. same_name name.now other.name) (take n items.now.traits) }
+{
+    for i in 0..n {
+        if trait_is_named(items, i, name) {
+            return true;
+        }
+    }
+    false
+}
+
+fn methods_are_named(methods: &[Sig]) -> bool
+    ensures { result ≡ list_all (λ method. name_stands method.name) methods.now }
+{
+    methods.iter().all(|method| is_name(&method.name))
+}
+
+#[tactic(auto, using(crate::proofs::Rests::few_mapped))]
+fn trait_has_names(items: &Items, bodies: usize, n: u32, def: &TraitDef) -> bool
+    ensures { result ≡ trait_names_stand items.now bodies n def.now }
+{
+    is_name(&def.name)
+        && methods_are_named(def.methods.as_slice())
+        && !trait_name_is_taken(items, n, &def.name)
+}
+
+/// The first fault of the line of the trait with this number.
+pub fn trait_fault(
+    items: &Items,
+    tests: &TypeTests,
+    bodies: usize,
+    n: u32,
+    def: &TraitDef,
+) -> Option<u8>
+    requires { AreTests items.now tests.now }
+    ensures { result ≡ first_of (trait_faults items.now bodies n def.now) }
+{
+    let named = unless(trait_has_names(items, bodies, n, def), 7, None);
+    let typed = unless(trait_places_dyn(items, tests, bodies, def), 3, named);
+    unless(trait_exists(items, tests, bodies, def), 1, typed)
+}
+
+/// Whether the type of `self` in a body is that of the method, with the struct or enum in the place of `dyn`.
+fn are_selves(items: &Items, bodies: usize, n: u32, method: Option<&Ty>, own: Option<&Ty>) -> bool
+    ensures { result ≡ selves_are items.now bodies n (option_copied method.entry) (option_copied own.entry) }
+{
+    match method {
+        Some(Ty::Shared(_)) => match own {
+            Some(Ty::Shared(to)) => is_adt_of(n, items.ty(*to)),
+            _ => false,
+        },
+        Some(Ty::Unique(_)) => match own {
+            Some(Ty::Unique(to)) => is_adt_of(n, items.ty(*to)),
+            _ => false,
+        },
+        _ => false,
+    }
+}
+
+fn params_implement(items: &Items, bodies: usize, n: u32, method: &[TyId], own: &[TyId]) -> bool
+    ensures { result ≡ params_fit items.now bodies n method.now own.now }
+{
+    match method {
+        [] => false,
+        [object, params @ ..] => match own {
+            [] => false,
+            [self_ty, own @ ..] => {
+                are_selves(items, bodies, n, items.ty(*object), items.ty(*self_ty))
+                    && same_ids(params, own)
+            }
+        },
+    }
+}
+
+fn body_implements(items: &Items, bodies: usize, n: u32, method: &Sig, body: u32) -> bool
+    ensures { result ≡ body_fits items.now bodies n method.now body }
+{
+    match items.body_sig(body) {
+        Some(sig) => {
+            params_implement(
+                items,
+                bodies,
+                n,
+                method.params.as_slice(),
+                sig.params.as_slice(),
+            ) && method.result.0 == sig.result.0
+                && !is_drop_body(items, body)
+        }
+        None => false,
+    }
+}
+
+fn bodies_implement(items: &Items, bodies: usize, n: u32, methods: &[Sig], own: &[u32]) -> bool
+    ensures { result ≡ pointwise (body_fits items.now bodies n) methods.now own.now }
+{
+    match methods {
+        [] => own.is_empty(),
+        [method, methods @ ..] => match own {
+            [] => false,
+            [body, own @ ..] => {
+                body_implements(items, bodies, n, method, *body)
+                    && bodies_implement(items, bodies, n, methods, own)
+            }
+        },
+    }
+}
+
+fn impl_is_typed(items: &Items, bodies: usize, def: &ImplDef) -> bool
+    ensures { result ≡ pointwise (body_fits items.now bodies def.now.adt) (methods_of items.now bodies def.now.trait_no) def.now.bodies }
+{
+    let own = def.bodies.as_slice();
+    match items.trait_def(def.trait_no) {
+        Some(found) => bodies_implement(items, bodies, def.adt, found.methods.as_slice(), own),
+        None => own.is_empty(),
+    }
+}
+
+fn are_bodies(bodies: usize, numbers: &[u32]) -> bool
+    ensures { result ≡ list_all (λ body. nat_lt body bodies) numbers.now }
+{
+    numbers.iter().all(|body| (*body as usize) < bodies)
+}
+
+fn impl_exists(items: &Items, bodies: usize, def: &ImplDef) -> bool
+    ensures { result ≡ impl_named items.now bodies def.now }
+{
+    items.trait_def(def.trait_no).is_some()
+        && items.adt(def.adt).is_some()
+        && are_bodies(bodies, def.bodies.as_slice())
+}
+
+fn impl_is_same(items: &Items, n: u32, def: &ImplDef) -> bool
+    ensures { result ≡ option_map_or (same_impl def.now) (slice_get items.now.impls n) false }
+{
+    match items.impl_def(n) {
+        Some(other) => def.trait_no == other.trait_no && def.adt == other.adt,
+        None => false,
+    }
+}
+
+/// Whether one of the first `n` impls is of the same trait for the same type.
+fn impl_is_taken(items: &Items, n: u32, def: &ImplDef) -> bool
+    ensures { result ≡ is_repeated_impl items.now.impls n def.now }
+{
+    for i in 0..n {
+        if impl_is_same(items, i, def) {
+            return true;
+        }
+    }
+    false
+}
+
+/// The first fault of the line of the impl with this number.
+pub fn impl_fault(items: &Items, bodies: usize, n: u32, def: &ImplDef) -> Option<u8>
+    ensures { result ≡ first_of (impl_faults items.now bodies n def.now) }
+{
+    let named = unless(!impl_is_taken(items, n, def), 7, None);
+    let typed = unless(impl_is_typed(items, bodies, def), 3, named);
+    unless(impl_exists(items, bodies, def), 1, typed)
+}
+
+fn is_closure_of(n: u32, ty: Option<&Ty>) -> bool
+    ensures { result ≡ is_closure n (option_copied ty.entry) }
+{
+    match ty {
+        Some(Ty::Closure(found)) => n == *found,
+        _ => false,
+    }
+}
+
+fn has_closure_sig(items: &Items, bodies: usize, n: u32, body: u32) -> bool
+    ensures { result ≡ closure_sig items.now bodies n body }
+{
+    match items.body_sig(body) {
+        Some(sig) => match sig.params.as_slice() {
+            [] => false,
+            [first, ..] => is_closure_of(n, items.ty(*first)),
+        },
+        None => false,
+    }
+}
+
+fn closure_has_types(
+    items: &Items,
+    tests: &TypeTests,
+    bodies: usize,
+    n: u32,
+    def: &ClosureDef,
+) -> bool
+    requires { AreTests items.now tests.now }
+    ensures { result ≡ closure_types_fit items.now bodies n def.now }
+{
+    !any_misplaces(items, tests, def.captures.as_slice())
+        && has_closure_sig(items, bodies, n, def.body)
+}
+
+fn closure_is_typed(
+    items: &Items,
+    tests: &TypeTests,
+    bodies: usize,
+    types: usize,
+    n: u32,
+    def: &ClosureDef,
+) -> bool
+    requires tests { AreTests items.now tests.now }
+    requires types { types ≡ length items.now.types }
+    ensures { result ≡ (closure_types_fit items.now bodies n def.now && not (closure_holds_itself items.now n)) }
+{
+    closure_has_types(items, tests, bodies, n, def)
+        && !is_held(items, Question::HoldsClosure(n), types, &Ty::Closure(n))
+}
+
+fn closure_exists(items: &Items, tests: &TypeTests, bodies: usize, def: &ClosureDef) -> bool
+    requires { AreTests items.now tests.now }
+    ensures { result ≡ (exist items.now bodies def.now.captures && nat_lt def.now.body bodies) }
+{
+    all_exist(items, tests, bodies, def.captures.as_slice()) && (def.body as usize) < bodies
+}
+
+/// The first fault of the line of the closure with this number.
+pub fn closure_fault(
+    items: &Items,
+    tests: &TypeTests,
+    bodies: usize,
+    types: usize,
+    n: u32,
+    def: &ClosureDef,
+) -> Option<u8>
+    requires tests { AreTests items.now tests.now }
+    requires types { types ≡ length items.now.types }
+    ensures { result ≡ first_of (closure_faults items.now bodies n def.now) }
+{
+    let typed = unless(
+        closure_is_typed(items, tests, bodies, types, n, def),
+        3,
+        None,
+    );
+    unless(closure_exists(items, tests, bodies, def), 1, typed)
+}
