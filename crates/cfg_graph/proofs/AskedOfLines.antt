@@ -12,7 +12,7 @@ use Rattle.cfg_graph.specs.declared.statement.Stmt.{Stmt}
 use Rattle.cfg_graph.specs.declared.terminator.Term.{Term}
 use Rattle.cfg_graph.specs.Places.{place_of}
 use Rattle.cfg_graph.specs.Edges.{onward, unwind_targets, targets}
-use Rattle.cfg_graph.specs.Uses.{Use, operand_uses, place_used, other_uses, other_term_uses, operands_of_stmt, operands_of_term, stored_by_stmt, stored_by_term, places_of_stmt, places_of_term, Stores}
+use Rattle.cfg_graph.specs.Uses.{operand_uses, place_used, other_uses, other_term_uses, operands_of_stmt, operands_of_term, stored_by_stmt, stored_by_term, places_of_stmt, places_of_term, Stores}
 
 module _ (p : Place → Bool) where
   used : (operand : Operand) → list_all p (map place_used (operand_uses operand)) ≡ list_all p (place_of operand)
@@ -52,9 +52,9 @@ module _ (p : Place → Bool) where
       ∙ list_all-append p (map place_used (flat_map operand_uses (operands_of_stmt stmt) ++ other_uses stmt)) (map place_used (map (λ place. (Stores, place)) (stored_by_stmt stmt)))
       ∙ ap (λ b. list_all p (map place_used (flat_map operand_uses (operands_of_stmt stmt) ++ other_uses stmt)) && b) (stored_used (stored_by_stmt stmt))
       ∙ ap (λ b. b && list_all p (stored_by_stmt stmt))
-        (ap (list_all p) (map-append' place_used (flat_map operand_uses (operands_of_stmt stmt)) (other_uses stmt))
-        ∙ list_all-append p (map place_used (flat_map operand_uses (operands_of_stmt stmt))) (map place_used (other_uses stmt))
-        ∙ ap (λ b. b && list_all p (map place_used (other_uses stmt))) (all_used (operands_of_stmt stmt)))
+      (ap (list_all p) (map-append' place_used (flat_map operand_uses (operands_of_stmt stmt)) (other_uses stmt))
+      ∙ list_all-append p (map place_used (flat_map operand_uses (operands_of_stmt stmt))) (map place_used (other_uses stmt))
+      ∙ ap (λ b. b && list_all p (map place_used (other_uses stmt))) (all_used (operands_of_stmt stmt)))
       ∙ and-assoc (of_operands (operands_of_stmt stmt)) (list_all p (map place_used (other_uses stmt))) (list_all p (stored_by_stmt stmt))
 
   pub all_places_of_end : (term : Term)
@@ -62,9 +62,9 @@ module _ (p : Place → Bool) where
   all_places_of_end term =
       list_all-append p (map place_used (flat_map operand_uses (operands_of_term term) ++ other_term_uses term)) (stored_by_term term)
       ∙ ap (λ b. b && list_all p (stored_by_term term))
-        (ap (list_all p) (map-append' place_used (flat_map operand_uses (operands_of_term term)) (other_term_uses term))
-        ∙ list_all-append p (map place_used (flat_map operand_uses (operands_of_term term))) (map place_used (other_term_uses term))
-        ∙ ap (λ b. b && list_all p (map place_used (other_term_uses term))) (all_used (operands_of_term term)))
+      (ap (list_all p) (map-append' place_used (flat_map operand_uses (operands_of_term term)) (other_term_uses term))
+      ∙ list_all-append p (map place_used (flat_map operand_uses (operands_of_term term))) (map place_used (other_term_uses term))
+      ∙ ap (λ b. b && list_all p (map place_used (other_term_uses term))) (all_used (operands_of_term term)))
       ∙ and-assoc (of_operands (operands_of_term term)) (list_all p (map place_used (other_term_uses term))) (list_all p (stored_by_term term))
 
 pub two_parts : {X : Type 0} (q : X → Bool) (first more all : List X) → first ++ more ≡ all → list_all q all ≡ (list_all q first && list_all q more)

@@ -1,5 +1,5 @@
 -- Tests of all members of lists, or of any.
-use Rattle.std.proofs.Common.{◌≡◌, ℕ, zero, suc, length, Bool, false, ◌||◌, ◌&&◌, List, [], ◌∷◌, ◌++◌, slice_get, Option, Some, refl, ap, sym, ◌∙◌}
+use Rattle.std.proofs.Common.{◌≡◌, ℕ, zero, suc, length, Bool, false, ◌||◌, ◌&&◌, List, [], ◌∷◌, slice_get, Option, Some, refl, ap, sym, ◌∙◌}
 use Rattle.std.specs.Prelude.{flat_map}
 use Rattle.std.specs.List.{list_any, list_all}
 use Rattle.std.proofs.lemmas.List.Folds.{list_any-append, list_all-append}

@@ -1,5 +1,5 @@
 -- Integer types of types.
-use Rattle.std.proofs.Common.{◌≡◌, Bool, ◌&&◌, ◌||◌, Option, Some, None, refl, ap}
+use Rattle.std.proofs.Common.{◌≡◌, ◌&&◌, ◌||◌, Option, Some, refl, ap}
 use Rattle.mir_base.specs.declared.int_kind.IntKind.{IntKind}
 use Rattle.mir_ty.specs.declared.ty.Ty.{Ty}
 use Rattle.store_model.specs.Places.TypeForms.{is_int, is_bool, same_int, are_compared, int_kind}

@@ -1,8 +1,8 @@
 -- What is asked of all members of a list is what is asked of the rest, when it is asked of one after the other.
-use Rattle.std.proofs.Common.{◌≡◌, ℕ, zero, suc, ◌+◌, ◌<◌, Bool, true, false, not, cond, ◌⊎◌, inl, inr, ◌||◌, List, [], ◌∷◌, ◌++◌, map, length, drop, take, get_or, slice_get, Option, Some, None, refl, ap, sym, subst, ◌∙◌, arith}
+use Rattle.std.proofs.Common.{◌≡◌, ℕ, zero, suc, ◌+◌, ◌<◌, Bool, true, false, not, cond, ◌⊎◌, inl, inr, ◌||◌, List, [], ◌∷◌, ◌++◌, map, length, drop, take, slice_get, Some, None, refl, ap, sym, ◌∙◌, arith}
 use Rattle.std.specs.List.{list_any}
-use Rattle.std.specs.Option.{option_map_or, is_some}
-use Rattle.std.specs.Prelude.{option_map, position, nat_lt}
+use Rattle.std.specs.Option.{option_map_or, is_some, option_or}
+use Rattle.std.specs.Prelude.{option_map, position, nat_lt, zip}
 use Rattle.std.specs.List.{position_or_len}
 use Rattle.std.proofs.lemmas.Bool.{cases_Bool, lt-ltb, le-ltb, ltb-true, ltb-false}
 use Rattle.std.proofs.Math.Seq.{drop-cons}
@@ -126,3 +126,45 @@ module _ {X : Type 0} (p : X → Bool) where
 
     pub any_is_not : None ≡ slice_get xs n → false ≡ list_any p xs
     any_is_not none = sym (all ∙ any_end p xs n none)
+
+-- the first of two lists
+pub first_of_both : {X : Type 0} (xs ys : List X) → first_of (xs ++ ys) ≡ option_or (first_of xs) (first_of ys)
+first_of_both [] ys = refl
+first_of_both (x ∷ xs) ys = refl
+
+-- the first fault of a line
+pub first_at_line : (body block line : ℕ) (numbers : List ℕ) → first_of (at_line body block line numbers) ≡ option_map (λ number. record { number = number; body = body; block = block; line = line }) (first_of numbers)
+first_at_line body block line numbers = first_of-map (λ number. record { number = number; body = body; block = block; line = line }) numbers
+
+-- a loop that asks one thing after the other for its first fault
+module _ {X : Type 0} (faults : ℕ → X → List GraphFault) (xs : List X) (n : ℕ) (all : first_of (of_each faults 0 xs) ≡ first_of (of_each faults n (drop n xs))) where
+  pub fault_later : (x : X) → Some x ≡ slice_get xs n → None ≡ first_of (faults n x) → first_of (of_each faults 0 xs) ≡ first_of (of_each faults (n + 1) (drop (n + 1) xs))
+  fault_later x at none = all ∙ each_more faults xs n x at none
+
+  pub fault_here : (x : X) (fault : GraphFault) → Some x ≡ slice_get xs n → Some fault ≡ first_of (faults n x) → Some fault ≡ first_of (of_each faults 0 xs)
+  fault_here x fault at found = sym (all ∙ each_found faults xs n x fault at found)
+
+  pub fault_nowhere : None ≡ slice_get xs n → None ≡ first_of (of_each faults 0 xs)
+  fault_nowhere none = sym (all ∙ each_end faults xs n none)
+
+-- a loop that asks the pairs of two lists
+module _ {X Y : Type 0} (p : X × Y → Bool) (xs : List X) (ys : List Y) (n : ℕ) (all : list_any p (zip xs ys) ≡ list_any p (zip (drop n xs) (drop n ys))) where
+  both_from : (x : X) (y : Y) → Some x ≡ slice_get xs n → Some y ≡ slice_get ys n → list_any p (zip xs ys) ≡ (p (x, y) || list_any p (zip (drop (n + 1) xs) (drop (n + 1) ys)))
+  both_from x y at_x at_y = all ∙ ap (λ (zs : List X). list_any p (zip zs (drop n ys))) (rest_from xs n x at_x) ∙ ap (λ (zs : List Y). list_any p (zip (x ∷ drop (n + 1) xs) zs)) (rest_from ys n y at_y)
+
+  pub pair_later : (x : X) (y : Y) (passes : Bool) → Some x ≡ slice_get xs n → Some y ≡ slice_get ys n → passes ≡ p (x, y) → passes ≡ false
+      → list_any p (zip xs ys) ≡ list_any p (zip (drop (n + 1) xs) (drop (n + 1) ys))
+  pair_later x y passes at_x at_y is fails = both_from x y at_x at_y ∙ ap (λ b. b || list_any p (zip (drop (n + 1) xs) (drop (n + 1) ys))) (sym is ∙ fails)
+
+  pub pair_here : (x : X) (y : Y) (passes : Bool) → Some x ≡ slice_get xs n → Some y ≡ slice_get ys n → passes ≡ p (x, y) → passes ≡ true → true ≡ list_any p (zip xs ys)
+  pair_here x y passes at_x at_y is holds = sym (both_from x y at_x at_y ∙ ap (λ b. b || list_any p (zip (drop (n + 1) xs) (drop (n + 1) ys))) (sym is ∙ holds))
+
+  pub no_pair_left : None ≡ slice_get ys n → false ≡ list_any p (zip xs ys)
+  no_pair_left none = sym (all ∙ ap (λ (zs : List Y). list_any p (zip (drop n xs) zs)) (rest_past ys n none) ∙ ap (list_any p) (empty_zip (drop n xs)))
+    where
+      empty_zip : (zs : List X) → zip {K = X} {X = Y} zs [] ≡ []
+      empty_zip [] = refl
+      empty_zip (z ∷ zs) = refl
+
+  pub no_pair_here : None ≡ slice_get xs n → false ≡ list_any p (zip xs ys)
+  no_pair_here none = sym (all ∙ ap (λ (zs : List X). list_any p (zip zs (drop n ys))) (rest_past xs n none))

@@ -204,11 +204,7 @@ pub fn adt_fault(
     ensures { result ≡ first_of (adt_faults items.now bodies n adt.now) }
 {
     let named = unless(adt_has_names(items, bodies, n, adt), 7, None);
-    let typed = unless(
-        adt_is_typed(items, tests, bodies, types, n, adt),
-        3,
-        named,
-    );
+    let typed = unless(adt_is_typed(items, tests, bodies, types, n, adt), 3, named);
     unless(adt_exists(items, tests, bodies, adt), 1, typed)
 }
 
@@ -216,8 +212,7 @@ fn sig_exists(items: &Items, tests: &TypeTests, bodies: usize, sig: &Sig) -> boo
     requires { AreTests items.now tests.now }
     ensures { result ≡ exist items.now bodies (types_of_sig sig.now) }
 {
-    ty_exists(items, tests, sig.result)
-        && all_exist(items, tests, bodies, sig.params.as_slice())
+    ty_exists(items, tests, sig.result) && all_exist(items, tests, bodies, sig.params.as_slice())
 }
 
 fn sig_misplaces(items: &Items, tests: &TypeTests, sig: &Sig) -> bool

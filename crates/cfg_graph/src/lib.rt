@@ -4,6 +4,9 @@
 #![tactic(auto)]
 
 mod edge_faults;
+mod first_body_fault;
+mod first_fault;
+mod first_item_fault;
 mod graph;
 mod item_faults;
 mod laws;
@@ -18,6 +21,7 @@ mod terminator;
 mod type_faults;
 mod typing;
 
+pub use first_fault::well_formed;
 pub use graph::{Block, Body, Graph, GraphFault, Kind, rank};
 pub use laws::{law_of_holding, law_of_items, law_of_presence, law_of_ranks, law_of_whole_places};
 pub use mir_base::{Cmp, Math};

@@ -39,7 +39,9 @@ fn term_numbers_exist(items: &Items, bodies: usize, term: &Term) -> bool
     match term {
         Term::Call { body, .. } => (*body as usize) < bodies,
         Term::Virtual {
-            trait_no, method, ..
+            trait_no,
+            method,
+            ..
         } => method_at(items, *trait_no, *method).is_some(),
         _ => true,
     }
@@ -82,7 +84,12 @@ fn stmt_has_row(items: &Items, bodies: usize, locals: &[TyId], stmt: &Stmt) -> b
 {
     match stmt {
         Stmt::Unsize { trait_no, from, .. } => {
-            has_row(items, bodies, *trait_no, operand_content(items, locals, from))
+            has_row(
+                items,
+                bodies,
+                *trait_no,
+                operand_content(items, locals, from),
+            )
         }
         _ => true,
     }

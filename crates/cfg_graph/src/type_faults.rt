@@ -260,6 +260,7 @@ pub fn find_out(items: &Items, question: Question, known: &mut [bool])
 }
 
 /// What is known of the types of a graph: tables, from which so many rounds go on.
+#[derive(Clone, Copy)]
 pub struct TypeTests<'a> {
     /// Which exist, with all that they name.
     pub exists: &'a [bool],

@@ -97,7 +97,8 @@ fn operands_are(items: &Items, locals: &[TyId], types: &[TyId], operands: &[Oper
 fn calls(items: &Items, locals: &[TyId], to: &Place, args: &[Operand], sig: &Sig) -> bool
     ensures { result ≡ call_fits items.now locals.now to.now args.now sig.now }
 {
-    operands_are(items, locals, sig.params.as_slice(), args) && has_id(items, locals, to, sig.result)
+    operands_are(items, locals, sig.params.as_slice(), args)
+        && has_id(items, locals, to, sig.result)
 }
 
 fn puts(items: &Items, locals: &[TyId], to: &Place, from: &Operand) -> bool
@@ -113,8 +114,10 @@ fn puts(items: &Items, locals: &[TyId], to: &Place, from: &Operand) -> bool
 fn are_compared(items: &Items, locals: &[TyId], left: &Operand, right: &Operand) -> bool
     ensures { result ≡ compared_types (ty_of_operand items.now locals.now left.now) (ty_of_operand items.now locals.now right.now) }
 {
-    are_one_kind(operand_kind(items, locals, left), operand_kind(items, locals, right))
-        || (operand_is_bool(items, locals, left) && operand_is_bool(items, locals, right))
+    are_one_kind(
+        operand_kind(items, locals, left),
+        operand_kind(items, locals, right),
+    ) || (operand_is_bool(items, locals, left) && operand_is_bool(items, locals, right))
 }
 
 fn makes_tuple(items: &Items, locals: &[TyId], to: &Place, parts: &[Operand]) -> bool
@@ -129,7 +132,9 @@ fn makes_tuple(items: &Items, locals: &[TyId], to: &Place, parts: &[Operand]) ->
 fn all_are(items: &Items, locals: &[TyId], id: TyId, operands: &[Operand]) -> bool
     ensures { result ≡ list_all (operand_has items.now locals.now id) operands.now }
 {
-    operands.iter().all(|operand| operand_is(items, locals, id, operand))
+    operands
+        .iter()
+        .all(|operand| operand_is(items, locals, id, operand))
 }
 
 fn makes_array(items: &Items, locals: &[TyId], to: &Place, parts: &[Operand]) -> bool
@@ -272,14 +277,20 @@ fn is_case(items: &Items, locals: &[TyId], on: &Place, variant: u32) -> bool
 fn is_of_kind(items: &Items, locals: &[TyId], operand: &Operand, to: &Place) -> bool
     ensures { result ≡ same_int (ty_of_operand items.now locals.now operand.now) (type_of_place items.now locals.now to.now) }
 {
-    are_one_kind(operand_kind(items, locals, operand), kind_of(ty_of_place(items, locals, to)))
+    are_one_kind(
+        operand_kind(items, locals, operand),
+        kind_of(ty_of_place(items, locals, to)),
+    )
 }
 
 #[tactic(auto, using(crate::proofs::OneKind::kinds_of_two))]
 fn are_of_one_kind(items: &Items, locals: &[TyId], left: &Operand, right: &Operand) -> bool
     ensures { result ≡ same_int (ty_of_operand items.now locals.now left.now) (ty_of_operand items.now locals.now right.now) }
 {
-    are_one_kind(operand_kind(items, locals, left), operand_kind(items, locals, right))
+    are_one_kind(
+        operand_kind(items, locals, left),
+        operand_kind(items, locals, right),
+    )
 }
 
 fn is_signed(items: &Items, locals: &[TyId], operand: &Operand) -> bool
@@ -357,10 +368,11 @@ fn term_has_types(items: &Items, locals: &[TyId], term: &Term) -> bool
         Term::If { on, .. } => operand_is_bool(items, locals, on),
         Term::Case { on, variant, .. } => is_case(items, locals, on, *variant),
         Term::Math {
-            to, left, right, ..
-        } => {
-            are_of_one_kind(items, locals, left, right) && is_of_kind(items, locals, left, to)
-        }
+            to,
+            left,
+            right,
+            ..
+        } => { are_of_one_kind(items, locals, left, right) && is_of_kind(items, locals, left, to) }
         Term::Negate { to, of, .. } => {
             is_signed(items, locals, of) && is_of_kind(items, locals, of, to)
         }

@@ -1,7 +1,7 @@
 -- The faults of a graph, and when it has none. They stand in the order of the text: structs and enums, traits, impls
 -- and closures; then each body with its own line, its locals, and its blocks with their statements and terminators;
 -- and last a `main` that is missing. At one line the lowest number stands first.
-use Rattle.std.specs.Prelude.{◌≡◌, ◌<◌, All, ℕ, suc, ◌+◌, ◌-◌, ◌^◌, ◌==◌, Bool, true, false, ◌&&◌, List, [], ◌∷◌, ◌++◌, map, zip, Option, Some, None, length, codes, slice_get}
+use Rattle.std.specs.Prelude.{◌≡◌, ◌<◌, All, ℕ, suc, ◌+◌, ◌-◌, ◌^◌, ◌==◌, Bool, true, false, ◌&&◌, List, [], ◌∷◌, ◌++◌, map, zip, Option, Some, length, codes, slice_get}
 use Rattle.std.specs.List.{list_any}
 use Rattle.mir_ty.specs.declared.def.Sig.{Sig}
 use Rattle.mir_ty.specs.declared.ty.Ty.{Ty}
@@ -116,3 +116,13 @@ ArePartsFirst types = (n : ℕ) (ty : Ty) → slice_get types n ≡ Some ty → 
 abbrev pub WellFormedHoldsNothing : Type 0
 WellFormedHoldsNothing =
     (graph : Graph) → IsWellFormed graph → ArePartsFirst graph.items.types → NoneHoldsItself graph.items
+
+-- the lists of a body, and of a graph, have fewer members than a number of 32 bits can count
+pub record IsCountedBody (body : Body) : Type 0 where
+  pub locals : length body.locals < 2 ^ 32 - 1
+  pub blocks : length body.blocks < 2 ^ 32 - 1
+  pub stmts : All (λ (block : Block). length block.stmts < 2 ^ 32 - 1) body.blocks
+
+pub record IsCounted (graph : Graph) : Type 0 where
+  pub bodies : length graph.bodies < 2 ^ 32 - 1
+  pub each : All IsCountedBody graph.bodies

@@ -1,6 +1,6 @@
 -- What the code asks of types and of lines, in the words of the definition.
-use Rattle.std.specs.Prelude.{◌≡◌, ℕ, zero, suc, ◌-◌, ◌^◌, ◌<◌, nat_lt, option_map, Bool, true, false, not, ◌&&◌, List, [], ◌∷◌, ◌++◌, Option, Some, None, All, length, slice_get}
-use Rattle.std.specs.List.{list_any, list_all}
+use Rattle.std.specs.Prelude.{◌≡◌, ℕ, zero, suc, nat_lt, Bool, true, false, not, List, [], ◌∷◌, Option, Some, None, length, slice_get}
+use Rattle.std.specs.List.{list_all}
 use Rattle.std.specs.Option.{option_map_or}
 use Rattle.mir_base.specs.declared.int_kind.IntKind.{IntKind}
 use Rattle.mir_ty.specs.declared.ty.Ty.{Ty}
@@ -19,7 +19,6 @@ use Rattle.cfg_graph.specs.Places.{index_locals, place_of}
 use Rattle.cfg_graph.specs.Edges.{is_cleanup, lowers}
 use Rattle.cfg_graph.specs.declared.graph.Block.{Block}
 use Rattle.cfg_graph.specs.declared.graph.Body.{Body}
-use Rattle.cfg_graph.specs.declared.graph.Graph.{Graph}
 use Rattle.cfg_graph.specs.WellFormed.Typing.{is_typed_place}
 use Rattle.cfg_graph.specs.WellFormed.TypeFaults.{existing, misplacing, holding}
 
@@ -75,13 +74,3 @@ edge_passes body block EdgeTest.Lowers n = option_map_or (lowers block) (slice_g
 edge_passes body block EdgeTest.IsCleanup n = option_map_or is_cleanup (slice_get body.blocks n) true
 edge_passes body block EdgeTest.IsNoCleanup n =
     option_map_or (λ found. not (is_cleanup found)) (slice_get body.blocks n) true
-
--- the lists of a body, and of a graph, have fewer members than a number of 32 bits can count
-pub record IsCountedBody (body : Body) : Type 0 where
-  pub locals : length body.locals < 2 ^ 32 - 1
-  pub blocks : length body.blocks < 2 ^ 32 - 1
-  pub stmts : All (λ (block : Block). length block.stmts < 2 ^ 32 - 1) body.blocks
-
-pub record IsCounted (graph : Graph) : Type 0 where
-  pub bodies : length graph.bodies < 2 ^ 32 - 1
-  pub each : All IsCountedBody graph.bodies

@@ -1,9 +1,6 @@
 use Rattle.std.proofs.Common.{◌≡◌, drop}
-use Rattle.std.specs.List.{list_all, list_any}
-use Rattle.mir_ty.specs.declared.adt.Variant.{Variant}
-use Rattle.mir_ty.specs.declared.def.Sig.{Sig}
-use Rattle.cfg_graph.specs.WellFormed.TypeFaults.{ty_exists, misplaces_dyn}
-use Rattle.cfg_graph.specs.WellFormed.ItemFaults.{exist, types_of_sig}
+use Rattle.std.specs.List.{list_all}
+use Rattle.cfg_graph.specs.WellFormed.TypeFaults.{ty_exists}
 use Rattle.cfg_graph.proofs.item_faults.all_exist.Given as goal
 
 -- what is asked of all is what is asked of the rest

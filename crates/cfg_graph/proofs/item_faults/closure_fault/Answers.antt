@@ -1,4 +1,4 @@
-use Rattle.std.proofs.Common.{◌≡◌, [], drop, refl, ap, not}
+use Rattle.std.proofs.Common.{[], drop, refl}
 use Rattle.cfg_graph.proofs.FirstBroken.{unless_more}
 use Rattle.cfg_graph.specs.WellFormed.ItemFaults.{closure_tests}
 use Rattle.cfg_graph.proofs.item_faults.closure_fault.Goals as goal

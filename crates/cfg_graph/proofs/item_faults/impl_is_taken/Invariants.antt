@@ -1,7 +1,6 @@
 use Rattle.std.proofs.Common.{◌≡◌, false, take}
 use Rattle.std.specs.List.{list_any}
-use Rattle.mir_ty.specs.declared.def.ImplDef.{ImplDef}
-use Rattle.cfg_graph.specs.WellFormed.NameFaults.{same_name, same_impl}
+use Rattle.cfg_graph.specs.WellFormed.NameFaults.{same_impl}
 use Rattle.cfg_graph.proofs.item_faults.impl_is_taken.Given as goal
 
 abbrev pub invariant-loop-i : goal.invariant-loop-i

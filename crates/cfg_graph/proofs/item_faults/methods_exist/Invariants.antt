@@ -1,8 +1,6 @@
 use Rattle.std.proofs.Common.{◌≡◌, drop}
-use Rattle.std.specs.List.{list_all, list_any}
-use Rattle.mir_ty.specs.declared.adt.Variant.{Variant}
+use Rattle.std.specs.List.{list_all}
 use Rattle.mir_ty.specs.declared.def.Sig.{Sig}
-use Rattle.cfg_graph.specs.WellFormed.TypeFaults.{ty_exists, misplaces_dyn}
 use Rattle.cfg_graph.specs.WellFormed.ItemFaults.{exist, types_of_sig}
 use Rattle.cfg_graph.proofs.item_faults.methods_exist.Given as goal
 

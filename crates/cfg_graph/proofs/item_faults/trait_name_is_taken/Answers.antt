@@ -1,6 +1,6 @@
 use Rattle.std.proofs.Common.{sym, ◌∙◌, arith}
 use Rattle.mir_ty.specs.declared.def.TraitDef.{TraitDef}
-use Rattle.cfg_graph.specs.WellFormed.NameFaults.{same_name, same_impl}
+use Rattle.cfg_graph.specs.WellFormed.NameFaults.{same_name}
 use Rattle.cfg_graph.proofs.Rests.{few_goes_on, few_kept}
 use Rattle.cfg_graph.proofs.item_faults.trait_name_is_taken.Goals as goal
 

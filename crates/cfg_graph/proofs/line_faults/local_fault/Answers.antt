@@ -1,4 +1,4 @@
-use Rattle.std.proofs.Common.{◌≡◌, ◌∙◌, [], drop, refl, ap, not}
+use Rattle.std.proofs.Common.{[], drop, refl, ap, not}
 use Rattle.cfg_graph.proofs.FirstBroken.{unless_more}
 use Rattle.cfg_graph.specs.WellFormed.LineFaults.{local_tests}
 use Rattle.cfg_graph.proofs.line_faults.local_fault.Goals as goal

@@ -1,4 +1,4 @@
-use Rattle.std.proofs.Common.{◌≡◌, ◌∙◌, [], drop, refl, ap, not}
+use Rattle.std.proofs.Common.{[], drop, refl}
 use Rattle.cfg_graph.proofs.FirstBroken.{unless_more}
 use Rattle.cfg_graph.specs.WellFormed.LineFaults.{term_tests}
 use Rattle.cfg_graph.proofs.line_faults.term_fault.Goals as goal

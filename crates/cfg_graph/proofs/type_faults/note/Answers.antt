@@ -1,4 +1,4 @@
-use Rattle.std.proofs.Common.{◌≡◌, get_or, sym, ◌∙◌, arith}
+use Rattle.std.proofs.Common.{get_or, sym, ◌∙◌, arith}
 use Rattle.std.proofs.lemmas.Option.{slice_get-get_or}
 use Rattle.mir_ty.specs.declared.ty.Ty.{Ty}
 use Rattle.cfg_graph.specs.WellFormed.Questions.{rule_for}
@@ -15,9 +15,9 @@ loop-n-preserved c =
     let growing = rule_for-growing c.args.items.now c.args.question in
     elim c.if-is_news.branch [
       | then-is_news w ↦ rw (w.known-is, w.noted-is)
-        (noting_yes types rule growing c.args.known.now c.loop-n.known c.loop-n.noted c.loop-n.n (get_or types c.loop-n.n Ty.Bool) at (sym (c.is_news.ensures _ at) ∙ w.if-is_news.true) c.loop-n.invariant)
+          (noting_yes types rule growing c.args.known.now c.loop-n.known c.loop-n.noted c.loop-n.n (get_or types c.loop-n.n Ty.Bool) at (sym (c.is_news.ensures _ at) ∙ w.if-is_news.true) c.loop-n.invariant)
       | else-is_news w ↦ rw (w.known-is, w.noted-is)
-        (noting_no types rule growing c.args.known.now c.loop-n.known c.loop-n.noted c.loop-n.n (get_or types c.loop-n.n Ty.Bool) at (sym (c.is_news.ensures _ at) ∙ w.if-is_news.false) c.loop-n.invariant)
+          (noting_no types rule growing c.args.known.now c.loop-n.known c.loop-n.noted c.loop-n.n (get_or types c.loop-n.n Ty.Bool) at (sym (c.is_news.ensures _ at) ∙ w.if-is_news.false) c.loop-n.invariant)
     ]
 
 pub returns-clause-settled : goal.returns-clause-settled

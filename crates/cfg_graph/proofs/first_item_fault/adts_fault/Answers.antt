@@ -1,0 +1,21 @@
+use Rattle.std.proofs.Common.{ℕ, ◌+◌, ◌<◌, length, arith}
+use Rattle.mir_ty.specs.declared.adt.Adt.{Adt}
+use Rattle.cfg_graph.specs.WellFormed.ItemFaults.{adt_faults}
+use Rattle.cfg_graph.specs.WellFormed.Faults.{nowhere, at_line}
+use Rattle.cfg_graph.proofs.Rests.{within, fault_here, fault_later, fault_nowhere}
+use Rattle.cfg_graph.proofs.first_item_fault.adts_fault.Goals as goal
+
+pub returns-in-Some-adt_line : goal.returns-in-Some-adt_line
+returns-in-Some-adt_line c = fault_here (λ (n : ℕ) (item : Adt). at_line nowhere nowhere (0 + n) (adt_faults c.args.graph.now.items (length c.args.graph.now.bodies) n item)) c.args.graph.now.items.adts c.loop-adt.n c.loop-adt.invariant.rest c.in-Some.adt.now c.in-Some-adt_line.fault c.in-Some.ensures.value c.in-Some-adt_line.ensures
+
+pub loop-adt-preserved : goal.loop-adt-preserved
+loop-adt-preserved c = record {
+  rest = fault_later (λ (n : ℕ) (item : Adt). at_line nowhere nowhere (0 + n) (adt_faults c.args.graph.now.items (length c.args.graph.now.bodies) n item)) c.args.graph.now.items.adts c.loop-adt.n c.loop-adt.invariant.rest c.in-Some.adt.now c.in-Some.ensures.value c.in_default-adt_line.ensures;
+  within = let here : c.loop-adt.n < length c.args.graph.now.items.adts = within c.args.graph.now.items.adts c.loop-adt.n c.in-Some.adt.now c.in-Some.ensures.value in omega arith;
+}
+
+pub loop-adt-smaller : goal.loop-adt-smaller
+loop-adt-smaller c = let here : c.loop-adt.n < length c.args.graph.now.items.adts = within c.args.graph.now.items.adts c.loop-adt.n c.in-Some.adt.now c.in-Some.ensures.value in omega arith
+
+pub returns : goal.returns
+returns c = fault_nowhere (λ (n : ℕ) (item : Adt). at_line nowhere nowhere (0 + n) (adt_faults c.args.graph.now.items (length c.args.graph.now.bodies) n item)) c.args.graph.now.items.adts c.loop-adt.n c.loop-adt.invariant.rest c.in_default.ensures.value

@@ -1,0 +1,8 @@
+use Rattle.std.proofs.Common.{◌≤◌, ◌-◌, length}
+use Rattle.cfg_graph.proofs.first_item_fault.trait_count.Given as goal
+
+abbrev pub invariant-loop-def : goal.invariant-loop-def
+invariant-loop-def l = l.n ≤ length l.items.traits
+
+abbrev pub decreases-loop-def : goal.decreases-loop-def
+decreases-loop-def l = length l.items.traits - l.n

@@ -1,0 +1,21 @@
+use Rattle.std.proofs.Common.{ℕ, ◌+◌, ◌<◌, length, arith}
+use Rattle.mir_ty.specs.declared.def.TraitDef.{TraitDef}
+use Rattle.cfg_graph.specs.WellFormed.ItemFaults.{trait_faults}
+use Rattle.cfg_graph.specs.WellFormed.Faults.{nowhere, at_line}
+use Rattle.cfg_graph.proofs.Rests.{within, fault_here, fault_later, fault_nowhere}
+use Rattle.cfg_graph.proofs.first_item_fault.traits_fault.Goals as goal
+
+pub returns-in-Some-trait_line : goal.returns-in-Some-trait_line
+returns-in-Some-trait_line c = fault_here (λ (n : ℕ) (item : TraitDef). at_line nowhere nowhere (length c.args.graph.now.items.adts + n) (trait_faults c.args.graph.now.items (length c.args.graph.now.bodies) n item)) c.args.graph.now.items.traits c.loop-def.n c.loop-def.invariant.rest c.in-Some.def.now c.in-Some-trait_line.fault c.in-Some.ensures.value (rw c.requires.before at c.in-Some-trait_line.ensures)
+
+pub loop-def-preserved : goal.loop-def-preserved
+loop-def-preserved c = record {
+  rest = fault_later (λ (n : ℕ) (item : TraitDef). at_line nowhere nowhere (length c.args.graph.now.items.adts + n) (trait_faults c.args.graph.now.items (length c.args.graph.now.bodies) n item)) c.args.graph.now.items.traits c.loop-def.n c.loop-def.invariant.rest c.in-Some.def.now c.in-Some.ensures.value (rw c.requires.before at c.in_default-trait_line.ensures);
+  within = let here : c.loop-def.n < length c.args.graph.now.items.traits = within c.args.graph.now.items.traits c.loop-def.n c.in-Some.def.now c.in-Some.ensures.value in omega arith;
+}
+
+pub loop-def-smaller : goal.loop-def-smaller
+loop-def-smaller c = let here : c.loop-def.n < length c.args.graph.now.items.traits = within c.args.graph.now.items.traits c.loop-def.n c.in-Some.def.now c.in-Some.ensures.value in omega arith
+
+pub returns : goal.returns
+returns c = fault_nowhere (λ (n : ℕ) (item : TraitDef). at_line nowhere nowhere (length c.args.graph.now.items.adts + n) (trait_faults c.args.graph.now.items (length c.args.graph.now.bodies) n item)) c.args.graph.now.items.traits c.loop-def.n c.loop-def.invariant.rest c.in_default.ensures.value

@@ -1,0 +1,143 @@
+//! The first fault of a body, in the order of its listing.
+ghost use Rattle.std.specs.Prelude.{◌≡◌, ◌++◌, ◌<◌, ◌^◌, ◌-◌, length};
+ghost use Rattle.cfg_graph.specs.WellFormed.Broken.{first_of};
+ghost use Rattle.cfg_graph.specs.WellFormed.Questions.{AreTests};
+ghost use Rattle.cfg_graph.specs.WellFormed.LineFaults.{stmt_faults, local_faults, term_faults};
+ghost use Rattle.cfg_graph.specs.WellFormed.Faults.{IsCountedBody, nowhere, at_line, of_each, stmts_faults, block_faults, own_faults, locals_faults, faults_of_body};
+
+use crate::first_item_fault::{NOWHERE, at};
+use crate::line_faults::{body_fault, local_fault, stmt_fault, term_fault};
+use crate::type_faults::TypeTests;
+use crate::{Block, Body, Graph, GraphFault, Stmt};
+use mir_ty::TyId;
+
+#[tactic(auto, using(crate::proofs::Rests::first_at_line))]
+fn stmt_line(
+    graph: &Graph,
+    number: u32,
+    body: &Body,
+    n: u32,
+    line: u32,
+    stmt: &Stmt,
+) -> Option<GraphFault>
+    ensures { result ≡ first_of (at_line number n line (stmt_faults graph.now.items (length graph.now.bodies) body.now stmt.now)) }
+{
+    let fault = stmt_fault(&graph.items, graph.bodies.len(), body, stmt);
+    at(fault, number, n, line)
+}
+
+fn stmts_fault(graph: &Graph, number: u32, body: &Body, n: u32, block: &Block) -> Option<GraphFault>
+    requires { length block.now.stmts < 2 ^ 32 - 1 }
+    ensures { result ≡ first_of (stmts_faults graph.now number body.now n block.now) }
+{
+    let mut line: u32 = 0;
+    while let Some(stmt) = block.stmts.get(line as usize) {
+        if let Some(fault) = stmt_line(graph, number, body, n, line, stmt) {
+            return Some(fault);
+        }
+        line += 1;
+    }
+    None
+}
+
+#[tactic(auto, using(crate::proofs::Rests::first_at_line))]
+fn term_line(graph: &Graph, number: u32, body: &Body, n: u32, block: &Block) -> Option<GraphFault>
+    requires { length block.now.stmts < 2 ^ 32 - 1 }
+    ensures { result ≡ first_of (at_line number n (length block.now.stmts) (term_faults graph.now.items (length graph.now.bodies) body.now block.now)) }
+{
+    let fault = term_fault(&graph.items, graph.bodies.len(), body, block);
+    at(fault, number, n, block.stmts.len() as u32)
+}
+
+/// The first fault of a block.
+#[tactic(auto, using(crate::proofs::Rests::first_of_both))]
+fn block_fault(graph: &Graph, number: u32, body: &Body, n: u32, block: &Block) -> Option<GraphFault>
+    requires { length block.now.stmts < 2 ^ 32 - 1 }
+    ensures { result ≡ first_of (block_faults graph.now number body.now n block.now) }
+{
+    match stmts_fault(graph, number, body, n, block) {
+        Some(fault) => Some(fault),
+        None => term_line(graph, number, body, n, block),
+    }
+}
+
+fn blocks_fault(graph: &Graph, number: u32, body: &Body) -> Option<GraphFault>
+    requires { IsCountedBody body.now }
+    ensures { result ≡ first_of (of_each (block_faults graph.now number body.now) 0 body.now.blocks) }
+{
+    let mut n: u32 = 0;
+    while let Some(block) = body.blocks.get(n as usize) {
+        if let Some(fault) = block_fault(graph, number, body, n, block) {
+            return Some(fault);
+        }
+        n += 1;
+    }
+    None
+}
+
+#[tactic(auto, using(crate::proofs::Rests::first_at_line))]
+fn local_line(graph: &Graph, tests: &TypeTests, number: u32, n: u32, id: TyId) -> Option<GraphFault>
+    requires { AreTests graph.now.items tests.now }
+    ensures { result ≡ first_of (at_line number nowhere n (local_faults graph.now.items (length graph.now.bodies) id)) }
+{
+    let fault = local_fault(&graph.items, tests, graph.bodies.len(), id);
+    at(fault, number, NOWHERE, n)
+}
+
+fn locals_fault(graph: &Graph, tests: &TypeTests, number: u32, body: &Body) -> Option<GraphFault>
+    requires tests { AreTests graph.now.items tests.now }
+    requires counted { IsCountedBody body.now }
+    ensures { result ≡ first_of (locals_faults graph.now number body.now) }
+{
+    let mut n: u32 = 0;
+    while let Some(id) = body.locals.get(n as usize) {
+        if let Some(fault) = local_line(graph, tests, number, n, *id) {
+            return Some(fault);
+        }
+        n += 1;
+    }
+    None
+}
+
+#[tactic(auto, using(crate::proofs::Rests::first_at_line))]
+fn own_fault(graph: &Graph, number: u32, body: &Body) -> Option<GraphFault>
+    ensures { result ≡ first_of (own_faults graph.now number body.now) }
+{
+    let fault = body_fault(&graph.items, graph.bodies.len(), number, body);
+    at(fault, number, NOWHERE, NOWHERE)
+}
+
+#[tactic(auto, using(crate::proofs::Rests::first_of_both))]
+fn locals_or_blocks(
+    graph: &Graph,
+    tests: &TypeTests,
+    number: u32,
+    body: &Body,
+) -> Option<GraphFault>
+    requires tests { AreTests graph.now.items tests.now }
+    requires counted { IsCountedBody body.now }
+    ensures { result ≡ first_of (locals_faults graph.now number body.now ++ of_each (block_faults graph.now number body.now) 0 body.now.blocks) }
+{
+    match locals_fault(graph, tests, number, body) {
+        Some(fault) => Some(fault),
+        None => blocks_fault(graph, number, body),
+    }
+}
+
+/// The first fault of the body with this number.
+#[tactic(auto, using(crate::proofs::Rests::first_of_both))]
+pub fn fault_of_body(
+    graph: &Graph,
+    tests: &TypeTests,
+    number: u32,
+    body: &Body,
+) -> Option<GraphFault>
+    requires tests { AreTests graph.now.items tests.now }
+    requires counted { IsCountedBody body.now }
+    ensures { result ≡ first_of (faults_of_body graph.now number body.now) }
+{
+    match own_fault(graph, number, body) {
+        Some(fault) => Some(fault),
+        None => locals_or_blocks(graph, tests, number, body),
+    }
+}

@@ -1,0 +1,157 @@
+//! The first fault of a graph, in the order of its listing.
+ghost use Rattle.std.specs.Prelude.{◌≡◌, ◌++◌, ◌≤◌, ◌<◌, ◌^◌, length, zip, MatchResult, Some};
+ghost use Rattle.std.specs.List.{list_any};
+ghost use Rattle.cfg_graph.specs.WellFormed.Broken.{first_of};
+ghost use Rattle.cfg_graph.specs.WellFormed.Questions.{AreTests};
+ghost use Rattle.cfg_graph.specs.WellFormed.Faults.{IsCounted, of_each, faults_of_body, is_main as main_is, end_faults, faults, first_fault as first_of_faults, IsWellFormed};
+
+use crate::first_body_fault::fault_of_body;
+use crate::first_item_fault::{NOWHERE, item_fault};
+use crate::name_faults::is_same;
+use crate::type_faults::{MOST_TYPES, Question, TypeTests, find_out, type_count};
+use crate::{Body, Graph, GraphFault};
+use mir_ty::Sig;
+
+fn bodies_fault(graph: &Graph, tests: &TypeTests) -> Option<GraphFault>
+    requires tests { AreTests graph.now.items tests.now }
+    requires counted { IsCounted graph.now }
+    ensures { result ≡ first_of (of_each (faults_of_body graph.now) 0 graph.now.bodies) }
+{
+    let mut n: u32 = 0;
+    while let Some(body) = graph.bodies.get(n as usize) {
+        if let Some(fault) = fault_of_body(graph, tests, n, body) {
+            return Some(fault);
+        }
+        n += 1;
+    }
+    None
+}
+
+/// Whether a body is `main`, without parameters.
+fn is_main(graph: &Graph, sig: &Sig, body: &Body) -> bool
+    ensures { result ≡ main_is graph.now (sig.now, body.now) }
+{
+    is_same(&sig.name, "main") && body.params == 0
+}
+
+fn has_main(graph: &Graph) -> bool
+    requires { IsCounted graph.now }
+    ensures { result ≡ list_any (main_is graph.now) (zip graph.now.items.bodies graph.now.bodies) }
+{
+    let mut n: u32 = 0;
+    while let Some(body) = graph.bodies.get(n as usize) {
+        match graph.items.body_sig(n) {
+            Some(sig) => {
+                if is_main(graph, sig, body) {
+                    return true;
+                }
+            }
+            None => return false,
+        }
+        n += 1;
+    }
+    false
+}
+
+fn end_fault(graph: &Graph) -> Option<GraphFault>
+    requires { IsCounted graph.now }
+    ensures { result ≡ first_of (end_faults graph.now) }
+{
+    if has_main(graph) {
+        return None;
+    }
+    Some(GraphFault {
+        number: 1,
+        body: NOWHERE,
+        block: NOWHERE,
+        line: NOWHERE,
+    })
+}
+
+#[tactic(auto, using(crate::proofs::Rests::first_of_both))]
+fn bodies_or_end(graph: &Graph, tests: &TypeTests) -> Option<GraphFault>
+    requires tests { AreTests graph.now.items tests.now }
+    requires counted { IsCounted graph.now }
+    ensures { result ≡ first_of (of_each (faults_of_body graph.now) 0 graph.now.bodies ++ end_faults graph.now) }
+{
+    match bodies_fault(graph, tests) {
+        Some(fault) => Some(fault),
+        None => end_fault(graph),
+    }
+}
+
+#[tactic(auto, using(crate::proofs::Rests::first_of_both))]
+fn first_fault(graph: &Graph, tests: &TypeTests, types: usize) -> Option<GraphFault>
+    requires tests { AreTests graph.now.items tests.now }
+    requires types { types ≡ length graph.now.items.types }
+    requires counted { IsCounted graph.now }
+    ensures { result ≡ first_of_faults graph.now }
+{
+    match item_fault(graph, tests, types) {
+        Some(fault) => Some(fault),
+        None => bodies_or_end(graph, tests),
+    }
+}
+
+/// The first fault, with room for what is known of the types.
+fn fault_with_room(
+    graph: &Graph,
+    types: usize,
+    exists: &mut [bool],
+    misplaced: &mut [bool],
+) -> Option<GraphFault>
+    requires types { types ≡ length graph.now.items.types }
+    requires counted { IsCounted graph.now }
+    requires few { types < 2 ^ 32 }
+    requires exists { types ≤ length exists.old }
+    requires misplaced { types ≤ length misplaced.old }
+    ensures { result ≡ first_of_faults graph.now }
+{
+    let exists = &mut exists[..types];
+    find_out(&graph.items, Question::Exists, exists);
+    let misplaced = &mut misplaced[..types];
+    find_out(&graph.items, Question::MisplacesDyn, misplaced);
+    let tests = TypeTests {
+        exists,
+        misplaced,
+        rounds: 0,
+    };
+    first_fault(graph, &tests, types)
+}
+
+fn any_fault(graph: &Graph) -> Option<GraphFault>
+    requires { IsCounted graph.now }
+    ensures { result ≡ first_of_faults graph.now }
+{
+    let types = type_count(&graph.items);
+    if types > MOST_TYPES {
+        let tests = TypeTests {
+            exists: &[],
+            misplaced: &[],
+            rounds: types,
+        };
+        return first_fault(graph, &tests, types);
+    }
+    let mut exists = [false; MOST_TYPES];
+    let mut misplaced = [false; MOST_TYPES];
+    fault_with_room(graph, types, &mut exists, &mut misplaced)
+}
+
+/// Whether a graph is well formed; otherwise its first fault in the order of its listing, and at one line the one with
+/// the lowest number. The lists of a graph and of its bodies, and the statements of its blocks, are fewer than a number
+/// of 32 bits can count.
+///
+/// It takes no memory, and about 300 KB on the stack for a table of the types. Time is spent on each line once, and
+/// besides on what wants a set: each name of a struct, a trait or a body is compared with all before it, each impl with
+/// all before it; each `call` and each body of an impl looks at all structs and enums for `Drop` bodies, and each `unsize`
+/// at all impls; and for each struct, enum and closure the table of all types is gone over. A graph of more than 131,072
+/// types, as no listing has, is tested without the table, along all that its types hold.
+pub fn well_formed(graph: &Graph) -> Result<(), GraphFault>
+    requires { IsCounted graph.now }
+    ensures { MatchResult result (λ done. IsWellFormed graph.now) (λ fault. first_of_faults graph.now ≡ Some fault) }
+{
+    match any_fault(graph) {
+        Some(fault) => Err(fault),
+        None => Ok(()),
+    }
+}

@@ -1,0 +1,224 @@
+//! The first fault of the items of a graph, in the order of its listing.
+ghost use Rattle.std.specs.Prelude.{◌≡◌, ◌++◌, ◌+◌, ◌<◌, ◌^◌, length, option_map};
+ghost use Rattle.cfg_graph.specs.WellFormed.Broken.{first_of};
+ghost use Rattle.cfg_graph.specs.WellFormed.Questions.{AreTests};
+ghost use Rattle.cfg_graph.specs.WellFormed.ItemFaults.{adt_faults, trait_faults, impl_faults, closure_faults};
+ghost use Rattle.cfg_graph.specs.WellFormed.Faults.{nowhere, at_line, adts_faults, traits_faults, impls_faults, closures_faults, item_faults};
+
+use crate::item_faults::{adt_fault, closure_fault, impl_fault, trait_fault};
+use crate::type_faults::TypeTests;
+use crate::{Graph, GraphFault};
+use mir_ty::{Adt, ClosureDef, ImplDef, Items, TraitDef};
+
+/// In the place of a body, a block or a line that a fault does not have.
+pub const NOWHERE: u32 = 4294967295;
+
+/// A fault with this number, if there is one, at a line.
+pub fn at(number: Option<u8>, body: u32, block: u32, line: u32) -> Option<GraphFault>
+    ensures { result ≡ option_map (λ number. record { number = number; body = body; block = block; line = line }) number }
+{
+    match number {
+        Some(number) => Some(GraphFault {
+            number,
+            body,
+            block,
+            line,
+        }),
+        None => None,
+    }
+}
+
+fn adt_count(items: &Items) -> u32
+    ensures { result ≡ length items.now.adts }
+{
+    let mut n: u32 = 0;
+    while let Some(_adt) = items.adt(n) {
+        n += 1;
+    }
+    n
+}
+
+fn trait_count(items: &Items) -> u32
+    ensures count { result ≡ length items.now.traits }
+    ensures few { length items.now.adts + length items.now.traits < 2 ^ 32 }
+{
+    let mut n: u32 = 0;
+    while let Some(_def) = items.trait_def(n) {
+        n += 1;
+    }
+    n
+}
+
+fn impl_count(items: &Items) -> u32
+    ensures count { result ≡ length items.now.impls }
+    ensures few { length items.now.adts + length items.now.traits + length items.now.impls < 2 ^ 32 }
+{
+    let mut n: u32 = 0;
+    while let Some(_def) = items.impl_def(n) {
+        n += 1;
+    }
+    n
+}
+
+#[tactic(auto, using(crate::proofs::Rests::first_at_line))]
+fn adt_line(graph: &Graph, tests: &TypeTests, types: usize, n: u32, adt: &Adt) -> Option<GraphFault>
+    requires tests { AreTests graph.now.items tests.now }
+    requires types { types ≡ length graph.now.items.types }
+    ensures { result ≡ first_of (at_line nowhere nowhere (0 + n) (adt_faults graph.now.items (length graph.now.bodies) n adt.now)) }
+{
+    let number = adt_fault(&graph.items, tests, graph.bodies.len(), types, n, adt);
+    at(number, NOWHERE, NOWHERE, n)
+}
+
+fn adts_fault(graph: &Graph, tests: &TypeTests, types: usize) -> Option<GraphFault>
+    requires tests { AreTests graph.now.items tests.now }
+    requires types { types ≡ length graph.now.items.types }
+    ensures { result ≡ first_of (adts_faults graph.now) }
+{
+    let mut n: u32 = 0;
+    while let Some(adt) = graph.items.adt(n) {
+        if let Some(fault) = adt_line(graph, tests, types, n, adt) {
+            return Some(fault);
+        }
+        n += 1;
+    }
+    None
+}
+
+#[tactic(auto, using(crate::proofs::Rests::first_at_line))]
+fn trait_line(
+    graph: &Graph,
+    tests: &TypeTests,
+    before: u32,
+    n: u32,
+    def: &TraitDef,
+) -> Option<GraphFault>
+    requires tests { AreTests graph.now.items tests.now }
+    requires few { before + n < 2 ^ 32 }
+    ensures { result ≡ first_of (at_line nowhere nowhere (before + n) (trait_faults graph.now.items (length graph.now.bodies) n def.now)) }
+{
+    let number = trait_fault(&graph.items, tests, graph.bodies.len(), n, def);
+    at(number, NOWHERE, NOWHERE, before + n)
+}
+
+fn traits_fault(graph: &Graph, tests: &TypeTests, before: u32) -> Option<GraphFault>
+    requires tests { AreTests graph.now.items tests.now }
+    requires before { before ≡ length graph.now.items.adts }
+    ensures { result ≡ first_of (traits_faults graph.now) }
+{
+    let mut n: u32 = 0;
+    while let Some(def) = graph.items.trait_def(n) {
+        if let Some(fault) = trait_line(graph, tests, before, n, def) {
+            return Some(fault);
+        }
+        n += 1;
+    }
+    None
+}
+
+#[tactic(auto, using(crate::proofs::Rests::first_at_line))]
+fn impl_line(graph: &Graph, before: u32, n: u32, def: &ImplDef) -> Option<GraphFault>
+    requires { before + n < 2 ^ 32 }
+    ensures { result ≡ first_of (at_line nowhere nowhere (before + n) (impl_faults graph.now.items (length graph.now.bodies) n def.now)) }
+{
+    let number = impl_fault(&graph.items, graph.bodies.len(), n, def);
+    at(number, NOWHERE, NOWHERE, before + n)
+}
+
+fn impls_fault(graph: &Graph, before: u32) -> Option<GraphFault>
+    requires { before ≡ length graph.now.items.adts + length graph.now.items.traits }
+    ensures { result ≡ first_of (impls_faults graph.now) }
+{
+    let mut n: u32 = 0;
+    while let Some(def) = graph.items.impl_def(n) {
+        if let Some(fault) = impl_line(graph, before, n, def) {
+            return Some(fault);
+        }
+        n += 1;
+    }
+    None
+}
+
+#[tactic(auto, using(crate::proofs::Rests::first_at_line))]
+fn closure_line(
+    graph: &Graph,
+    tests: &TypeTests,
+    types: usize,
+    before: u32,
+    n: u32,
+    def: &ClosureDef,
+) -> Option<GraphFault>
+    requires tests { AreTests graph.now.items tests.now }
+    requires types { types ≡ length graph.now.items.types }
+    requires few { before + n < 2 ^ 32 }
+    ensures { result ≡ first_of (at_line nowhere nowhere (before + n) (closure_faults graph.now.items (length graph.now.bodies) n def.now)) }
+{
+    let number = closure_fault(&graph.items, tests, graph.bodies.len(), types, n, def);
+    at(number, NOWHERE, NOWHERE, before + n)
+}
+
+fn closures_fault(graph: &Graph, tests: &TypeTests, types: usize, before: u32) -> Option<GraphFault>
+    requires tests { AreTests graph.now.items tests.now }
+    requires types { types ≡ length graph.now.items.types }
+    requires before { before ≡ length graph.now.items.adts + length graph.now.items.traits + length graph.now.items.impls }
+    ensures { result ≡ first_of (closures_faults graph.now) }
+{
+    let mut n: u32 = 0;
+    while let Some(def) = graph.items.closure_def(n) {
+        if let Some(fault) = closure_line(graph, tests, types, before, n, def) {
+            return Some(fault);
+        }
+        n += 1;
+    }
+    None
+}
+
+/// What comes first of two.
+#[tactic(auto, using(crate::proofs::Rests::first_of_both))]
+fn impls_or_closures(
+    graph: &Graph,
+    tests: &TypeTests,
+    types: usize,
+    before: u32,
+) -> Option<GraphFault>
+    requires tests { AreTests graph.now.items tests.now }
+    requires types { types ≡ length graph.now.items.types }
+    requires before { before ≡ length graph.now.items.adts + length graph.now.items.traits }
+    ensures { result ≡ first_of (impls_faults graph.now ++ closures_faults graph.now) }
+{
+    match impls_fault(graph, before) {
+        Some(fault) => Some(fault),
+        None => closures_fault(graph, tests, types, before + impl_count(&graph.items)),
+    }
+}
+
+#[tactic(auto, using(crate::proofs::Rests::first_of_both))]
+fn traits_or_later(
+    graph: &Graph,
+    tests: &TypeTests,
+    types: usize,
+    before: u32,
+) -> Option<GraphFault>
+    requires tests { AreTests graph.now.items tests.now }
+    requires types { types ≡ length graph.now.items.types }
+    requires before { before ≡ length graph.now.items.adts }
+    ensures { result ≡ first_of (traits_faults graph.now ++ (impls_faults graph.now ++ closures_faults graph.now)) }
+{
+    match traits_fault(graph, tests, before) {
+        Some(fault) => Some(fault),
+        None => impls_or_closures(graph, tests, types, before + trait_count(&graph.items)),
+    }
+}
+
+/// The first fault of an item.
+#[tactic(auto, using(crate::proofs::Rests::first_of_both))]
+pub fn item_fault(graph: &Graph, tests: &TypeTests, types: usize) -> Option<GraphFault>
+    requires tests { AreTests graph.now.items tests.now }
+    requires types { types ≡ length graph.now.items.types }
+    ensures { result ≡ first_of (item_faults graph.now) }
+{
+    match adts_fault(graph, tests, types) {
+        Some(fault) => Some(fault),
+        None => traits_or_later(graph, tests, types, adt_count(&graph.items)),
+    }
+}
