@@ -38,6 +38,10 @@ module _ (items : ItemTable) (question : Question) (ids : List TyId) where
   pub told_of_all : (known : List Bool) (rounds : ℕ) → Tells items question known rounds → told known rounds ≡ list_any (by_rule items.types (rule_for items question)) ids
   told_of_all known rounds tells = λ i. list_any (λ id. tells id i) ids
 
+  pub all_told : (known : List Bool) (rounds : ℕ) → Tells items question known rounds
+      → list_all (shown_from (known_by known) items.types (rule_for items question) rounds) ids ≡ list_all (by_rule items.types (rule_for items question)) ids
+  all_told known rounds tells = λ i. list_all (λ id. tells id i) ids
+
 -- without a table the rounds of the rule tell it
 pub told_by_rounds : (items : ItemTable) (question : Question) (rounds : ℕ) → rounds ≡ length items.types → Tells items question [] rounds
 told_by_rounds items question rounds all id = from rounds id ∙ ap (λ k. in_rounds items.types (rule_for items question) k id) all
@@ -46,6 +50,7 @@ told_by_rounds items question rounds all id = from rounds id ∙ ap (λ k. in_ro
     from zero id = refl
     from (suc k) id = λ i. option_map_or (rule_for items question (λ x. from k x i)) (slice_get items.types id.0) false
 
+-- all that is held by a struct or an enum is what its variants have
 list_all-flat_map : {X Y : Type 0} → (p : Y → Bool) (f : X → List Y) (xs : List X) → list_all p (flat_map f xs) ≡ list_all (λ x. list_all p (f x)) xs
 list_all-flat_map p f [] = refl
 list_all-flat_map p f (x ∷ xs) = list_all-append p (f x) (flat_map f xs) ∙ ap (λ b. list_all p (f x) && b) (list_all-flat_map p f xs)
@@ -62,3 +67,11 @@ all_types_of_trait p def = list_all-flat_map p types_of_sig def.methods
 
 pub any_type_of_trait : (p : TyId → Bool) (def : TraitDef) → list_any p (types_of_trait def) ≡ list_any (λ sig. list_any p (types_of_sig sig)) def.methods
 any_type_of_trait p def = list_any-flat_map p types_of_sig def.methods
+
+pub all_held_by_adt : (items : ItemTable) (F : TyId → Bool) (n : ℕ) (ty : Ty) (adt : Adt) (variants : List Variant) (answer : Bool)
+    → ty ≡ Ty.Adt n → Some adt ≡ slice_get items.adts n → variants ≡ adt.variants → answer ≡ list_all (λ variant. list_all F variant.fields) variants
+    → answer ≡ list_all F (held_by items ty)
+all_held_by_adt items F n ty adt variants answer is at same all =
+    all ∙ ap (list_all (λ (variant : Variant). list_all F variant.fields)) same ∙ sym (list_all-flat_map F (λ (variant : Variant). variant.fields) adt.variants)
+    ∙ ap (λ (o : Option Adt). list_all F (flat_map (λ (variant : Variant). variant.fields) (variants_of o))) at
+    ∙ sym (ap (λ (t : Ty). list_all F (held_by items t)) is)

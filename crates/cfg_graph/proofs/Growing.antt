@@ -6,6 +6,7 @@ use Rattle.mir_ty.specs.declared.ty.Ty.{Ty}
 use Rattle.mir_ty.specs.declared.ty.TyId.{TyId}
 use Rattle.mir_ty.specs.AreItems.{types_in}
 use Rattle.mir_ty.specs.ItemTable.{ItemTable, type_at}
+use Rattle.mir_ty.specs.Parts.{held_by}
 use Rattle.mir_ty.proofs.FixedPoint.{IsWithin, IsGrowing}
 use Rattle.store_model.specs.Places.TypeForms.{is_dyn, is_adt, is_closure}
 use Rattle.cfg_graph.specs.declared.type_faults.Question.{Question}
@@ -38,5 +39,6 @@ module _ (items : ItemTable) where
   pub rule_for-growing : (question : Question) → IsGrowing (rule_for items question)
   rule_for-growing Question.Exists = existing-growing
   rule_for-growing Question.MisplacesDyn = record { grows = misplaces_more }
+  rule_for-growing Question.IsFinite = record { grows = λ P Q sub ty h. list_all-grows P Q sub (held_by items ty) h }
   rule_for-growing (Question.HoldsAdt n) = growing items (is_adt n)
   rule_for-growing (Question.HoldsClosure n) = growing items (is_closure n)

@@ -80,7 +80,7 @@ module _ (items : ItemTable) (sought : Option Ty → Bool) where
   reaches_through a c (within {b = b} first rest) h = reaches_through a b first (reaches_through b c rest h)
 
   -- the first step of what holds something
-  first_step : (a c : TyId) → Holds items a c
+  pub first_step : (a c : TyId) → Holds items a c
       → (ty : Ty) × (x : TyId) × (type_at items a ≡ Some ty) × Contains (held_by items ty) x × ((x ≡ c) ⊎ Holds items x c)
   first_step a c (at_once {ty = ty} is found) = (ty, c, is, found, inl refl)
   first_step a c (within {b = b} first rest) = then_on (first_step a b first)

@@ -3,6 +3,7 @@ pub mod AskedOfLines
 pub mod AskedOfLists
 mod Examples
 pub mod FiniteSize
+pub mod FiniteTypes
 pub mod FirstBroken
 pub mod Growing
 pub mod InfiniteSize

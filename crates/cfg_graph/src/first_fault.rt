@@ -99,21 +99,26 @@ fn fault_with_room(
     types: usize,
     exists: &mut [bool],
     misplaced: &mut [bool],
+    finite: &mut [bool],
 ) -> Option<GraphFault>
     requires types { types ≡ length graph.now.items.types }
     requires counted { IsCounted graph.now }
     requires few { types < 2 ^ 32 }
     requires exists { types ≤ length exists.old }
     requires misplaced { types ≤ length misplaced.old }
+    requires finite { types ≤ length finite.old }
     ensures { result ≡ first_of_faults graph.now }
 {
     let exists = &mut exists[..types];
     find_out(&graph.items, Question::Exists, exists);
     let misplaced = &mut misplaced[..types];
     find_out(&graph.items, Question::MisplacesDyn, misplaced);
+    let finite = &mut finite[..types];
+    find_out(&graph.items, Question::IsFinite, finite);
     let tests = TypeTests {
         exists,
         misplaced,
+        finite,
         rounds: 0,
     };
     first_fault(graph, &tests, types)
@@ -128,24 +133,28 @@ fn any_fault(graph: &Graph) -> Option<GraphFault>
         let tests = TypeTests {
             exists: &[],
             misplaced: &[],
+            finite: &[],
             rounds: types,
         };
         return first_fault(graph, &tests, types);
     }
     let mut exists = [false; MOST_TYPES];
     let mut misplaced = [false; MOST_TYPES];
-    fault_with_room(graph, types, &mut exists, &mut misplaced)
+    let mut finite = [false; MOST_TYPES];
+    fault_with_room(graph, types, &mut exists, &mut misplaced, &mut finite)
 }
 
 /// Whether a graph is well formed; otherwise its first fault in the order of its listing, and at one line the one with
 /// the lowest number. The lists of a graph and of its bodies, and the statements of its blocks, are fewer than a number
 /// of 32 bits can count.
 ///
-/// It takes no memory, and about 300 KB on the stack for a table of the types. Time is spent on each line once, and
-/// besides on what wants a set: each name of a struct, a trait or a body is compared with all before it, each impl with
-/// all before it; each `call` and each body of an impl looks at all structs and enums for `Drop` bodies, and each `unsize`
-/// at all impls; and for each struct, enum and closure the table of all types is gone over. A graph of more than 131,072
-/// types, as no listing has, is tested without the table, along all that its types hold.
+/// It takes no memory, and about 400 KB on the stack for tables of the types, or 530 KB where a type holds itself. It goes
+/// over each line once, and over the types as often as types stand in one another in the wrong order of their numbers,
+/// which is mostly twice. What wants a set is looked for among all that came before it: the name of a struct, an enum, a
+/// trait or a body, and an impl; each `call` and each body of an impl looks at all structs and enums for `Drop` bodies,
+/// each `unsize` at all impls. Where some type holds itself, the types are gone over again for each struct, enum and
+/// closure from which there is a way to it. A graph of more than 131,072 types, as no listing has, is tested without
+/// tables, along all ways from a type to those in it.
 pub fn well_formed(graph: &Graph) -> Result<(), GraphFault>
     requires { IsCounted graph.now }
     ensures { MatchResult result (λ done. IsWellFormed graph.now) (λ fault. first_of_faults graph.now ≡ Some fault) }

@@ -5,7 +5,8 @@ ghost use Rattle.cfg_graph.specs.WellFormed.Questions.{AreTests};
 ghost use Rattle.cfg_graph.specs.WellFormed.ItemFaults.{adt_faults, trait_faults, impl_faults, closure_faults};
 ghost use Rattle.cfg_graph.specs.WellFormed.Faults.{nowhere, at_line, adts_faults, traits_faults, impls_faults, closures_faults, item_faults};
 
-use crate::item_faults::{adt_fault, closure_fault, impl_fault, trait_fault};
+use crate::impl_faults::{closure_fault, impl_fault};
+use crate::item_faults::{adt_fault, trait_fault};
 use crate::type_faults::TypeTests;
 use crate::{Graph, GraphFault};
 use mir_ty::{Adt, ClosureDef, ImplDef, Items, TraitDef};

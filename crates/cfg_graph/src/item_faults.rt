@@ -1,4 +1,4 @@
-//! The first fault of the line of a struct or enum, a trait, an impl or a closure.
+//! The first fault of the line of a struct or enum or of a trait.
 ghost use Rattle.std.specs.Prelude.{◌≡◌, ◌&&◌, not, true, false, length, slice_get, take, nat_lt};
 ghost use Rattle.std.specs.Cmp.Lexicographic.{pointwise};
 ghost use Rattle.std.specs.List.{list_any, list_all};
@@ -13,13 +13,13 @@ ghost use Rattle.cfg_graph.specs.WellFormed.ItemFaults.{exist, place_dyn, field_
 use crate::line_faults::unless;
 use crate::name_faults::{is_adt_name, is_name};
 use crate::same_types::same_ids;
-use crate::type_faults::{Question, TypeTests, is_held, misplaces_dyn, ty_exists};
+use crate::type_faults::{TypeTests, adt_is_held, closure_is_held, misplaces_dyn, ty_exists};
 use crate::typing::is_drop_body;
 use mir_base::Name;
 use mir_ty::{Adt, ClosureDef, ImplDef, Items, Sig, TraitDef, Ty, TyId, Variant};
 
 /// Whether these types exist, with all that they name.
-fn all_exist(items: &Items, tests: &TypeTests, bodies: usize, ids: &[TyId]) -> bool
+pub fn all_exist(items: &Items, tests: &TypeTests, bodies: usize, ids: &[TyId]) -> bool
     requires { AreTests items.now tests.now }
     ensures { result ≡ exist items.now bodies ids.now }
 {
@@ -32,7 +32,7 @@ fn all_exist(items: &Items, tests: &TypeTests, bodies: usize, ids: &[TyId]) -> b
 }
 
 /// Whether one of these types has a `dyn` type in a wrong place.
-fn any_misplaces(items: &Items, tests: &TypeTests, ids: &[TyId]) -> bool
+pub fn any_misplaces(items: &Items, tests: &TypeTests, ids: &[TyId]) -> bool
     requires { AreTests items.now tests.now }
     ensures { result ≡ list_any (dyn_misplaced items.now) ids.now }
 {
@@ -77,7 +77,7 @@ fn is_unique_adt(items: &Items, bodies: usize, n: u32, ty: Option<&Ty>) -> bool
     }
 }
 
-fn is_adt_of(n: u32, ty: Option<&Ty>) -> bool
+pub fn is_adt_of(n: u32, ty: Option<&Ty>) -> bool
     ensures { result ≡ is_adt n (option_copied ty.entry) }
 {
     match ty {
@@ -186,8 +186,7 @@ fn adt_is_typed(
     requires types { types ≡ length items.now.types }
     ensures { result ≡ (adt_types_fit items.now bodies n adt.now && not (adt_holds_itself items.now n)) }
 {
-    adt_has_types(items, tests, bodies, n, adt)
-        && !is_held(items, Question::HoldsAdt(n), types, &Ty::Adt(n))
+    adt_has_types(items, tests, bodies, n, adt) && !adt_is_held(items, tests, types, n)
 }
 
 /// The first fault of the line of the struct or enum with this number.
@@ -312,202 +311,4 @@ pub fn trait_fault(
     let named = unless(trait_has_names(items, bodies, n, def), 7, None);
     let typed = unless(trait_places_dyn(items, tests, bodies, def), 3, named);
     unless(trait_exists(items, tests, bodies, def), 1, typed)
-}
-
-/// Whether the type of `self` in a body is that of the method, with the struct or enum in the place of `dyn`.
-fn are_selves(items: &Items, bodies: usize, n: u32, method: Option<&Ty>, own: Option<&Ty>) -> bool
-    ensures { result ≡ selves_are items.now bodies n (option_copied method.entry) (option_copied own.entry) }
-{
-    match method {
-        Some(Ty::Shared(_)) => match own {
-            Some(Ty::Shared(to)) => is_adt_of(n, items.ty(*to)),
-            _ => false,
-        },
-        Some(Ty::Unique(_)) => match own {
-            Some(Ty::Unique(to)) => is_adt_of(n, items.ty(*to)),
-            _ => false,
-        },
-        _ => false,
-    }
-}
-
-fn params_implement(items: &Items, bodies: usize, n: u32, method: &[TyId], own: &[TyId]) -> bool
-    ensures { result ≡ params_fit items.now bodies n method.now own.now }
-{
-    match method {
-        [] => false,
-        [object, params @ ..] => match own {
-            [] => false,
-            [self_ty, own @ ..] => {
-                are_selves(items, bodies, n, items.ty(*object), items.ty(*self_ty))
-                    && same_ids(params, own)
-            }
-        },
-    }
-}
-
-fn body_implements(items: &Items, bodies: usize, n: u32, method: &Sig, body: u32) -> bool
-    ensures { result ≡ body_fits items.now bodies n method.now body }
-{
-    match items.body_sig(body) {
-        Some(sig) => {
-            params_implement(
-                items,
-                bodies,
-                n,
-                method.params.as_slice(),
-                sig.params.as_slice(),
-            ) && method.result.0 == sig.result.0
-                && !is_drop_body(items, body)
-        }
-        None => false,
-    }
-}
-
-fn bodies_implement(items: &Items, bodies: usize, n: u32, methods: &[Sig], own: &[u32]) -> bool
-    ensures { result ≡ pointwise (body_fits items.now bodies n) methods.now own.now }
-{
-    match methods {
-        [] => own.is_empty(),
-        [method, methods @ ..] => match own {
-            [] => false,
-            [body, own @ ..] => {
-                body_implements(items, bodies, n, method, *body)
-                    && bodies_implement(items, bodies, n, methods, own)
-            }
-        },
-    }
-}
-
-fn impl_is_typed(items: &Items, bodies: usize, def: &ImplDef) -> bool
-    ensures { result ≡ pointwise (body_fits items.now bodies def.now.adt) (methods_of items.now bodies def.now.trait_no) def.now.bodies }
-{
-    let own = def.bodies.as_slice();
-    match items.trait_def(def.trait_no) {
-        Some(found) => bodies_implement(items, bodies, def.adt, found.methods.as_slice(), own),
-        None => own.is_empty(),
-    }
-}
-
-fn are_bodies(bodies: usize, numbers: &[u32]) -> bool
-    ensures { result ≡ list_all (λ body. nat_lt body bodies) numbers.now }
-{
-    numbers.iter().all(|body| (*body as usize) < bodies)
-}
-
-fn impl_exists(items: &Items, bodies: usize, def: &ImplDef) -> bool
-    ensures { result ≡ impl_named items.now bodies def.now }
-{
-    items.trait_def(def.trait_no).is_some()
-        && items.adt(def.adt).is_some()
-        && are_bodies(bodies, def.bodies.as_slice())
-}
-
-fn impl_is_same(items: &Items, n: u32, def: &ImplDef) -> bool
-    ensures { result ≡ option_map_or (same_impl def.now) (slice_get items.now.impls n) false }
-{
-    match items.impl_def(n) {
-        Some(other) => def.trait_no == other.trait_no && def.adt == other.adt,
-        None => false,
-    }
-}
-
-/// Whether one of the first `n` impls is of the same trait for the same type.
-fn impl_is_taken(items: &Items, n: u32, def: &ImplDef) -> bool
-    ensures { result ≡ is_repeated_impl items.now.impls n def.now }
-{
-    for i in 0..n {
-        if impl_is_same(items, i, def) {
-            return true;
-        }
-    }
-    false
-}
-
-/// The first fault of the line of the impl with this number.
-pub fn impl_fault(items: &Items, bodies: usize, n: u32, def: &ImplDef) -> Option<u8>
-    ensures { result ≡ first_of (impl_faults items.now bodies n def.now) }
-{
-    let named = unless(!impl_is_taken(items, n, def), 7, None);
-    let typed = unless(impl_is_typed(items, bodies, def), 3, named);
-    unless(impl_exists(items, bodies, def), 1, typed)
-}
-
-fn is_closure_of(n: u32, ty: Option<&Ty>) -> bool
-    ensures { result ≡ is_closure n (option_copied ty.entry) }
-{
-    match ty {
-        Some(Ty::Closure(found)) => n == *found,
-        _ => false,
-    }
-}
-
-fn has_closure_sig(items: &Items, bodies: usize, n: u32, body: u32) -> bool
-    ensures { result ≡ closure_sig items.now bodies n body }
-{
-    match items.body_sig(body) {
-        Some(sig) => match sig.params.as_slice() {
-            [] => false,
-            [first, ..] => is_closure_of(n, items.ty(*first)),
-        },
-        None => false,
-    }
-}
-
-fn closure_has_types(
-    items: &Items,
-    tests: &TypeTests,
-    bodies: usize,
-    n: u32,
-    def: &ClosureDef,
-) -> bool
-    requires { AreTests items.now tests.now }
-    ensures { result ≡ closure_types_fit items.now bodies n def.now }
-{
-    !any_misplaces(items, tests, def.captures.as_slice())
-        && has_closure_sig(items, bodies, n, def.body)
-}
-
-fn closure_is_typed(
-    items: &Items,
-    tests: &TypeTests,
-    bodies: usize,
-    types: usize,
-    n: u32,
-    def: &ClosureDef,
-) -> bool
-    requires tests { AreTests items.now tests.now }
-    requires types { types ≡ length items.now.types }
-    ensures { result ≡ (closure_types_fit items.now bodies n def.now && not (closure_holds_itself items.now n)) }
-{
-    closure_has_types(items, tests, bodies, n, def)
-        && !is_held(items, Question::HoldsClosure(n), types, &Ty::Closure(n))
-}
-
-fn closure_exists(items: &Items, tests: &TypeTests, bodies: usize, def: &ClosureDef) -> bool
-    requires { AreTests items.now tests.now }
-    ensures { result ≡ (exist items.now bodies def.now.captures && nat_lt def.now.body bodies) }
-{
-    all_exist(items, tests, bodies, def.captures.as_slice()) && (def.body as usize) < bodies
-}
-
-/// The first fault of the line of the closure with this number.
-pub fn closure_fault(
-    items: &Items,
-    tests: &TypeTests,
-    bodies: usize,
-    types: usize,
-    n: u32,
-    def: &ClosureDef,
-) -> Option<u8>
-    requires tests { AreTests items.now tests.now }
-    requires types { types ≡ length items.now.types }
-    ensures { result ≡ first_of (closure_faults items.now bodies n def.now) }
-{
-    let typed = unless(
-        closure_is_typed(items, tests, bodies, types, n, def),
-        3,
-        None,
-    );
-    unless(closure_exists(items, tests, bodies, def), 1, typed)
 }

@@ -8,6 +8,7 @@ mod first_body_fault;
 mod first_fault;
 mod first_item_fault;
 mod graph;
+mod impl_faults;
 mod item_faults;
 mod laws;
 mod line_faults;

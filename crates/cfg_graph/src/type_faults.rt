@@ -9,8 +9,8 @@ ghost use Rattle.mir_ty.specs.Known.{known_by, IsShown, IsSettledAt, IsNews};
 ghost use Rattle.mir_ty.specs.Parts.{held_by};
 ghost use Rattle.mir_ty.specs.declared.ty.TyId.{TyId};
 ghost use Rattle.store_model.specs.Places.TypeForms.{is_dyn as dyn_type, is_adt as adt_type, is_closure as closure_type};
-ghost use Rattle.cfg_graph.specs.WellFormed.TypeFaults.{ty_exists as type_exists, misplaces_dyn as dyn_misplaced, own_number_exists as own_exists, misplacing, unless_dyn as if_no_dyn};
-ghost use Rattle.cfg_graph.specs.WellFormed.Questions.{rule_for, shown_from, Tells, AreTests};
+ghost use Rattle.cfg_graph.specs.WellFormed.TypeFaults.{ty_exists as type_exists, misplaces_dyn as dyn_misplaced, adt_holds_itself, closure_holds_itself, own_number_exists as own_exists, misplacing, unless_dyn as if_no_dyn};
+ghost use Rattle.cfg_graph.specs.WellFormed.Questions.{finite, rule_for, shown_from, Tells, AreTests};
 
 use mir_ty::{Items, Ty, TyId, Variant};
 
@@ -21,6 +21,8 @@ pub enum Question {
     Exists,
     /// In it a `dyn` type stands elsewhere than directly in a box or a reference.
     MisplacesDyn,
+    /// No way from it to what it holds, and on to what that holds, is without an end.
+    IsFinite,
     /// It is the struct or enum with this number, or holds it.
     HoldsAdt(u32),
     /// It is the closure with this number, or holds it.
@@ -96,6 +98,7 @@ fn follows(items: &Items, question: Question, known: &[bool], rounds: usize, ty:
             own_number_exists(items, ty) && all_in(items, question, known, rounds, ty)
         }
         Question::MisplacesDyn => misplaces(items, question, known, rounds, ty),
+        Question::IsFinite => all_held(items, question, known, rounds, ty),
         Question::HoldsAdt(n) => is_the_adt(n, ty) || any_held(items, question, known, rounds, ty),
         Question::HoldsClosure(n) => {
             is_the_closure(n, ty) || any_held(items, question, known, rounds, ty)
@@ -116,18 +119,23 @@ fn any_of(items: &Items, question: Question, known: &[bool], rounds: usize, ids:
 }
 
 #[cycle(shown)]
+fn all_of(items: &Items, question: Question, known: &[bool], rounds: usize, ids: &[TyId]) -> bool
+    ensures { result ≡ list_all (shown_from (known_by known.now) items.now.types (rule_for items.now question) rounds) ids.now }
+{
+    for id in ids {
+        if !is_shown(items, question, known, rounds, *id) {
+            return false;
+        }
+    }
+    true
+}
+
+#[cycle(shown)]
 fn all_in(items: &Items, question: Question, known: &[bool], rounds: usize, ty: &Ty) -> bool
     ensures { result ≡ list_all (shown_from (known_by known.now) items.now.types (rule_for items.now question) rounds) (types_in ty.now) }
 {
     match ty {
-        Ty::Tuple(parts) => {
-            for id in parts.as_slice() {
-                if !is_shown(items, question, known, rounds, *id) {
-                    return false;
-                }
-            }
-            true
-        }
+        Ty::Tuple(parts) => all_of(items, question, known, rounds, parts.as_slice()),
         Ty::Array(inner, _) | Ty::Boxed(inner) | Ty::Shared(inner) | Ty::Unique(inner) => {
             is_shown(items, question, known, rounds, *inner)
         }
@@ -187,6 +195,44 @@ fn any_field(
         }
     }
     false
+}
+
+/// Whether it is shown of all types that a type holds at once.
+#[cycle(shown)]
+fn all_held(items: &Items, question: Question, known: &[bool], rounds: usize, ty: &Ty) -> bool
+    ensures { result ≡ list_all (shown_from (known_by known.now) items.now.types (rule_for items.now question) rounds) (held_by items.now ty.now) }
+{
+    match ty {
+        Ty::Adt(n) => match items.adt(*n) {
+            Some(adt) => all_fields(items, question, known, rounds, adt.variants.as_slice()),
+            None => true,
+        },
+        Ty::Tuple(parts) => all_of(items, question, known, rounds, parts.as_slice()),
+        Ty::Array(element, _) => is_shown(items, question, known, rounds, *element),
+        Ty::Closure(n) => match items.closure_def(*n) {
+            Some(def) => all_of(items, question, known, rounds, def.captures.as_slice()),
+            None => true,
+        },
+        _ => true,
+    }
+}
+
+#[cycle(shown)]
+fn all_fields(
+    items: &Items,
+    question: Question,
+    known: &[bool],
+    rounds: usize,
+    variants: &[Variant],
+) -> bool
+    ensures { result ≡ list_all (λ variant. list_all (shown_from (known_by known.now) items.now.types (rule_for items.now question) rounds) variant.fields) variants.now }
+{
+    for variant in variants {
+        if !all_of(items, question, known, rounds, variant.fields.as_slice()) {
+            return false;
+        }
+    }
+    true
 }
 
 /// Whether the rule of a question shows something of the type with this number that is not known yet.
@@ -266,6 +312,8 @@ pub struct TypeTests<'a> {
     pub exists: &'a [bool],
     /// Which have a `dyn` type in a wrong place.
     pub misplaced: &'a [bool],
+    /// From which no way to what they hold is without an end.
+    pub finite: &'a [bool],
     pub rounds: usize,
 }
 
@@ -306,7 +354,7 @@ fn is_held_by(items: &Items, question: Question, room: &mut [bool], types: usize
 }
 
 /// The same, with room on the stack where the types are not too many for it; for more it goes along all that is held.
-pub fn is_held(items: &Items, question: Question, types: usize, ty: &Ty) -> bool
+fn is_held(items: &Items, question: Question, types: usize, ty: &Ty) -> bool
     requires { types ≡ length items.now.types }
     ensures { result ≡ list_any (by_rule items.now.types (rule_for items.now question)) (held_by items.now ty.now) }
 {
@@ -315,4 +363,38 @@ pub fn is_held(items: &Items, question: Question, types: usize, ty: &Ty) -> bool
     }
     let mut room = [false; MOST_TYPES];
     is_held_by(items, question, &mut room, types, ty)
+}
+
+/// Whether a struct or an enum holds itself. Where it holds finite types alone it does not.
+#[tactic(auto, using(crate::proofs::FiniteTypes::finite_adt))]
+pub fn adt_is_held(items: &Items, tests: &TypeTests, types: usize, n: u32) -> bool
+    requires tests { AreTests items.now tests.now }
+    requires types { types ≡ length items.now.types }
+    ensures { result ≡ adt_holds_itself items.now n }
+{
+    if holds_finite(items, tests, &Ty::Adt(n)) {
+        return false;
+    }
+    is_held(items, Question::HoldsAdt(n), types, &Ty::Adt(n))
+}
+
+/// Whether a closure holds itself. Where it holds finite types alone it does not.
+#[tactic(auto, using(crate::proofs::FiniteTypes::finite_closure))]
+pub fn closure_is_held(items: &Items, tests: &TypeTests, types: usize, n: u32) -> bool
+    requires tests { AreTests items.now tests.now }
+    requires types { types ≡ length items.now.types }
+    ensures { result ≡ closure_holds_itself items.now n }
+{
+    if holds_finite(items, tests, &Ty::Closure(n)) {
+        return false;
+    }
+    is_held(items, Question::HoldsClosure(n), types, &Ty::Closure(n))
+}
+
+#[tactic(auto, using(crate::proofs::AskedOfLists::all_told))]
+fn holds_finite(items: &Items, tests: &TypeTests, ty: &Ty) -> bool
+    requires { AreTests items.now tests.now }
+    ensures { result ≡ list_all (by_rule items.now.types (finite items.now)) (held_by items.now ty.now) }
+{
+    all_held(items, Question::IsFinite, tests.finite, tests.rounds, ty)
 }

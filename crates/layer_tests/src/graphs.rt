@@ -1,6 +1,7 @@
 //! Ranks of blocks, and lists of steps.
-use cfg_graph::{Block, Body, Kind, Step, Steps, Term, rank};
+use cfg_graph::{Block, Body, Graph, GraphFault, Kind, Step, Steps, Term, rank, well_formed};
 use mir_base::List;
+use mir_ty::Items;
 use std::test::Fail;
 
 #[test]
@@ -47,4 +48,19 @@ fn steps(rt: HostRuntime) -> Result<(), Fail> {
     assert!(rt; steps.as_slice() == rows.as_slice());
     assert!(rt; steps.copy(rt.alloc())?.as_slice() == rows.as_slice());
     Ok(())
+}
+
+#[test]
+fn a_graph_without_main(rt: HostRuntime) {
+    let graph = Graph {
+        items: Items::new(rt.alloc()),
+        bodies: List::new(rt.alloc()),
+    };
+    let missing = GraphFault {
+        number: 1,
+        body: 4294967295,
+        block: 4294967295,
+        line: 4294967295,
+    };
+    assert!(rt; well_formed(&graph) == Err(missing));
 }

@@ -8,6 +8,7 @@ use Rattle.mir_ty.specs.declared.ty.TyId.{TyId}
 use Rattle.mir_ty.specs.Facts.{Rule, by_rule}
 use Rattle.mir_ty.specs.Known.{known_by}
 use Rattle.mir_ty.specs.ItemTable.{ItemTable}
+use Rattle.mir_ty.specs.Parts.{held_by}
 use Rattle.store_model.specs.Places.TypeForms.{is_int, is_adt, is_closure}
 use Rattle.cfg_graph.specs.declared.type_faults.Question.{Question}
 use Rattle.cfg_graph.specs.declared.type_faults.TypeTests.{TypeTests}
@@ -22,9 +23,14 @@ use Rattle.cfg_graph.specs.declared.graph.Body.{Body}
 use Rattle.cfg_graph.specs.WellFormed.Typing.{is_typed_place}
 use Rattle.cfg_graph.specs.WellFormed.TypeFaults.{existing, misplacing, holding}
 
+-- all that a type holds is finite: no way to what it holds, and on, is without an end
+abbrev pub finite : ItemTable → Rule
+finite items known ty = list_all known (held_by items ty)
+
 abbrev pub rule_for : ItemTable → Question → Rule
 rule_for items Question.Exists = existing items
 rule_for items Question.MisplacesDyn = misplacing items
+rule_for items Question.IsFinite = finite items
 rule_for items (Question.HoldsAdt n) = holding items (is_adt n)
 rule_for items (Question.HoldsClosure n) = holding items (is_closure n)
 
@@ -45,6 +51,7 @@ Tells items question known rounds =
 pub record AreTests (items : ItemTable) (tests : TypeTests) : Type 0 where
   pub exists : Tells items Question.Exists tests.exists.now tests.rounds
   pub misplaced : Tells items Question.MisplacesDyn tests.misplaced.now tests.rounds
+  pub finite : Tells items Question.IsFinite tests.finite.now tests.rounds
 
 -- an element that is there or not
 abbrev pub listed : {X : Type 0} → Option X → List X

@@ -32,10 +32,24 @@ invariant-any_of-loop-id l =
     list_any (shown_from (known_by l.known) l.items.types (rule_for l.items l.question) l.rounds) l.ids
     ≡ list_any (shown_from (known_by l.known) l.items.types (rule_for l.items l.question) l.rounds) (drop l.id-index l.ids)
 
-abbrev pub invariant-all_in-loop-id : goal.invariant-all_in-loop-id
-invariant-all_in-loop-id l =
-    list_all (shown_from (known_by l.known) l.items.types (rule_for l.items l.question) l.rounds) l.id-items
-    ≡ list_all (shown_from (known_by l.known) l.items.types (rule_for l.items l.question) l.rounds) (drop l.id-index l.id-items)
+abbrev pub invariant-all_of-loop-id : goal.invariant-all_of-loop-id
+invariant-all_of-loop-id l =
+    list_all (shown_from (known_by l.known) l.items.types (rule_for l.items l.question) l.rounds) l.ids
+    ≡ list_all (shown_from (known_by l.known) l.items.types (rule_for l.items l.question) l.rounds) (drop l.id-index l.ids)
+
+abbrev pub invariant-all_fields-loop-variant : goal.invariant-all_fields-loop-variant
+invariant-all_fields-loop-variant l =
+    list_all (λ (variant : Variant). list_all (shown_from (known_by l.known) l.items.types (rule_for l.items l.question) l.rounds) variant.fields) l.variants
+    ≡ list_all (λ (variant : Variant). list_all (shown_from (known_by l.known) l.items.types (rule_for l.items l.question) l.rounds) variant.fields) (drop l.variant-index l.variants)
+
+abbrev pub decreases-all_of : goal.decreases-all_of
+decreases-all_of l = 8 * l.rounds + 1
+
+abbrev pub decreases-all_held : goal.decreases-all_held
+decreases-all_held l = 8 * l.rounds + 3
+
+abbrev pub decreases-all_fields : goal.decreases-all_fields
+decreases-all_fields l = 8 * l.rounds + 2
 
 abbrev pub invariant-any_field-loop-variant : goal.invariant-any_field-loop-variant
 invariant-any_field-loop-variant l =

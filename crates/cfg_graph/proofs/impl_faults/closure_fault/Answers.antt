@@ -1,7 +1,7 @@
 use Rattle.std.proofs.Common.{[], drop, refl}
 use Rattle.cfg_graph.proofs.FirstBroken.{unless_more}
 use Rattle.cfg_graph.specs.WellFormed.ItemFaults.{closure_tests}
-use Rattle.cfg_graph.proofs.item_faults.closure_fault.Goals as goal
+use Rattle.cfg_graph.proofs.impl_faults.closure_fault.Goals as goal
 
 pub returns : goal.returns
 returns c =
