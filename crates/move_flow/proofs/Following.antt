@@ -51,11 +51,11 @@ module _ (items : ItemTable) (body : Body) where
       by (Some t) = refl
       by None = refl
 
-map-same : {X Y : Type 0} (f g : X → Y) (xs : List X) → ((x : X) → Contains xs x → f x ≡ g x) → map f xs ≡ map g xs
+pub map-same : {X Y : Type 0} (f g : X → Y) (xs : List X) → ((x : X) → Contains xs x → f x ≡ g x) → map f xs ≡ map g xs
 map-same f g [] same = refl
 map-same f g (x ∷ xs) same = λ i. same x (0, omega arith, refl) i ∷ map-same f g xs (λ y has. same y (suc has.0, (let k = has.1 in omega (k, arith)), has.2)) i
 
-zip-map : {X : Type 0} (f : Bool → Bool → Bool) (g h : X → Bool) (xs : List X) → zip2 f (map g xs) (map h xs) ≡ map (λ x. f (g x) (h x)) xs
+pub zip-map : {X : Type 0} (f : Bool → Bool → Bool) (g h : X → Bool) (xs : List X) → zip2 f (map g xs) (map h xs) ≡ map (λ x. f (g x) (h x)) xs
 zip-map f g h [] = refl
 zip-map f g h (x ∷ xs) = ap (λ z. f (g x) (h x) ∷ z) (zip-map f g h xs)
 
@@ -83,7 +83,7 @@ all-append below [] ys row = refl
 all-append below (x ∷ xs) ys row = all-append below xs ys (switch_by below x row)
 
 module _ (items : ItemTable) (body : Body) (forest : PathForest) (is : IsForest items body forest) where
-  counted : (q : Place) → Contains forest.paths q → counts items body q ≡ true
+  pub counted : (q : Place) → Contains forest.paths q → counts items body q ≡ true
   counted q has =
       let path = (is.each q).0 has in
       elim (either (is_local q.steps) (list_any (is_above_change items body q) (flat_map block_uses body.blocks)) (second_so (nat_lt q.local (length body.locals)) (is_local q.steps || list_any (is_above_change items body q) (flat_map block_uses body.blocks)) path)) [

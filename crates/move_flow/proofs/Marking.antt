@@ -93,7 +93,7 @@ module _ (paths : List Place) (once : AreOnce paths) where
   one n m here there same = once n m (place_at paths n) (place-is n here) (place-is m there ∙ ap Some (sym same))
 
   -- past the path above
-  above-step : (n of p : ℕ) → n < length paths → of < length paths → n ≢ of → IsStepBelow paths p of → above n of ≡ above n p
+  pub above-step : (n of p : ℕ) → n < length paths → of < length paths → n ≢ of → IsStepBelow paths p of → above n of ≡ above n p
   above-step n of p here there other up = same_true (above n of) (above n p) forth back
     where
       lower : place_at paths of ≡ below up.place (up.step ∷ [])
@@ -111,7 +111,7 @@ module _ (paths : List Place) (once : AreOnce paths) where
       back : above n p ≡ true → above n of ≡ true
       back h = ap (is_at_or_above (place_at paths n)) lower ∙ above-stays (place_at paths n) up.place (up.step ∷ []) (ap (is_at_or_above (place_at paths n)) (sym upper) ∙ h)
 
-  above-root : (n of : ℕ) → n < length paths → of < length paths → n ≢ of → IsRoot paths of → above n of ≡ false
+  pub above-root : (n of : ℕ) → n < length paths → of < length paths → n ≢ of → IsRoot paths of → above n of ≡ false
   above-root n of here there other root = not_true (above n of) (λ h.
       let lower : place_at paths of ≡ whole_local of = get_or_from_slice_get paths of (whole_local of) (whole_local 0) root in
       other (one n of here there (above-local (place_at paths n) of (ap (is_at_or_above (place_at paths n)) (sym lower) ∙ h) ∙ sym lower)))
@@ -120,7 +120,7 @@ module _ (paths : List Place) (once : AreOnce paths) where
       not_true true h = absurd (h refl)
       not_true false h = refl
 
-  not-above-up : (of p : ℕ) → IsStepBelow paths p of → above of p ≡ false
+  pub not-above-up : (of p : ℕ) → IsStepBelow paths p of → above of p ≡ false
   not-above-up of p up = not_true (above of p) (λ h.
       let lower : place_at paths of ≡ below up.place (up.step ∷ []) = get_or_from_slice_get paths of (below up.place (up.step ∷ [])) (whole_local 0) up.here in
       let upper : place_at paths p ≡ up.place = get_or_from_slice_get paths p up.place (whole_local 0) up.above in

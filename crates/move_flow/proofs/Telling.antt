@@ -25,13 +25,13 @@ use Rattle.move_flow.proofs.Marking.{transitive, same_true}
 
 -- Prefixes.
 
-local-same : (p q : Place) → is_at_or_above p q ≡ true → p.local ≡ q.local
+pub local-same : (p q : Place) → is_at_or_above p q ≡ true → p.local ≡ q.local
 local-same p q h = eqb-true p.local q.local (first_so (p.local == q.local) (are_first p.steps q.steps) h)
 
-steps-first : (p q : Place) → is_at_or_above p q ≡ true → are_first p.steps q.steps ≡ true
+pub steps-first : (p q : Place) → is_at_or_above p q ≡ true → are_first p.steps q.steps ≡ true
 steps-first p q h = second_so (p.local == q.local) (are_first p.steps q.steps) h
 
-above-upto : (p q : Place) → is_at_or_above p q ≡ true → (p ≡ upto (length p.steps) q) × (length p.steps ≤ length q.steps)
+pub above-upto : (p q : Place) → is_at_or_above p q ≡ true → (p ≡ upto (length p.steps) q) × (length p.steps ≤ length q.steps)
 above-upto p q h =
     let is = first-is-take p.steps q.steps (steps-first p q h) in
     (same_places p (upto (length p.steps) q) (local-same p q h) is.0, is.1)
@@ -41,11 +41,11 @@ first-take zero ys = refl
 first-take (suc d) [] = refl
 first-take (suc d) (y ∷ ys) = both_true (same_step-refl y) (first-take d ys)
 
-upto-above : (d : ℕ) (q : Place) → is_at_or_above (upto d q) q ≡ true
+pub upto-above : (d : ℕ) (q : Place) → is_at_or_above (upto d q) q ≡ true
 upto-above d q = both_true (eq-eqb q.local q.local refl) (first-take d q.steps)
 
 -- a shorter prefix is above a longer one
-upto-upto : (d e : ℕ) (q : Place) → d ≤ e → is_at_or_above (upto d q) (upto e q) ≡ true
+pub upto-upto : (d e : ℕ) (q : Place) → d ≤ e → is_at_or_above (upto d q) (upto e q) ≡ true
 upto-upto d e q le =
     ap (λ (z : List Step). (q.local == q.local) && are_first z (take e q.steps)) (sym (take-take d e q.steps le))
     ∙ upto-above d (upto e q)
@@ -81,12 +81,12 @@ container-back f (step ∷ steps) (suc d) h k =
     right-or (f []) (list_any f (map (λ outer. step ∷ outer) (containers steps)))
     (any-map f (λ outer. step ∷ outer) (containers steps) ∙ container-back (λ outer. f (step ∷ outer)) steps d (omega (h, arith)) k)
 
-any-has : {X : Type 0} (f : X → Bool) (xs : List X) (x : X) → Contains xs x → f x ≡ true → list_any f xs ≡ true
+pub any-has : {X : Type 0} (f : X → Bool) (xs : List X) (x : X) → Contains xs x → f x ≡ true → list_any f xs ≡ true
 any-has f [] x has h = absurd (let k = has.1 in omega (k, arith))
 any-has f (y ∷ xs) x (zero, within, is) h = left-or (f y) (list_any f xs) (ap f is ∙ h)
 any-has f (y ∷ xs) x (suc k, within, is) h = right-or (f y) (list_any f xs) (any-has f xs x (k, omega (within, arith), is) h)
 
-any-some : {X : Type 0} (f : X → Bool) (xs : List X) → list_any f xs ≡ true → (x : X) × Contains xs x × (f x ≡ true)
+pub any-some : {X : Type 0} (f : X → Bool) (xs : List X) → list_any f xs ≡ true → (x : X) × Contains xs x × (f x ≡ true)
 any-some f [] h = absurd (false≢true h)
 any-some f (x ∷ xs) h = elim (either (f x) (list_any f xs) h) [
   | inl here ↦ (x, (0, omega arith, refl), here)
@@ -108,7 +108,7 @@ module _ (items : ItemTable) (body : Body) (forest : PathForest) (is : IsForest 
   abbrev In : Action → Type 0
   In a = is_some (leaves_gone a.how) ≡ true → counts items body a.place ≡ true → a.place.local < length body.locals → Contains paths a.place
 
-  of-body : (earlier : List Action) → AreOfBody body earlier → (a : Action) → Contains earlier a → In a
+  pub of-body : (earlier : List Action) → AreOfBody body earlier → (a : Action) → Contains earlier a → In a
   of-body earlier are a has changes watched within =
       let it = are a has in
       let made = it.0 in

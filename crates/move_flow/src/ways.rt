@@ -24,7 +24,7 @@ fn leaves(how: Use) -> Option<bool>
 }
 
 /// What a use of a place switches, where bits say what is gone or what is not.
-fn switch_of(forest: &Forest, how: Use, place: &Place, gone: bool) -> Option<Switch>
+pub fn switch_of(forest: &Forest, how: Use, place: &Place, gone: bool) -> Option<Switch>
     ensures { IsSwitch forest.now.paths gone (use_of how, place.now) result }
 {
     let takes = leaves(how)?;

@@ -1,0 +1,9 @@
+pub mod Acting
+pub mod OnRows
+pub mod Concerned
+pub mod Leaving
+pub mod Visiting
+pub mod Sorted
+pub mod Turning
+pub mod Owning
+pub mod Using

@@ -1,0 +1,270 @@
+//! The search for the least list of choices that reaches a bad use.
+//!
+//! Runs wait in the order of their lists of choices, shorter ones first, and of one length in order. The first of them
+//! is visited where its row has a path gone that no run before it brought to its point, or none was there; else what it
+//! could meet is met along a lesser list.
+ghost use Rattle.std.specs.Prelude.{◌≡◌, ◌≢◌, ◌⊎◌, ◌↔◌, ◌<◌, ◌≤◌, ◌+◌, ◌*◌, ◌∷◌, ◌++◌, ℕ, [], IsTrue, IsFalse, IfOk, OnOk, IfSome, IfNone, None, Some, length, replicate, slice_get, slice_index_or, slice_set, true, false};
+ghost use Rattle.bit_rows.specs.Words.{union};
+ghost use Rattle.move_errors.specs.Rows.{IsWatched, state};
+ghost use Rattle.move_errors.specs.Runs.{problem};
+ghost use Rattle.move_errors.specs.Stands.{Stands, IsFound, remaining, pushed_items, chosen_items};
+
+use crate::acts::{Act, acts};
+use crate::bad::{Watch, first_bad};
+use crate::point::{Onward, Point, Stage, goes_on};
+use bit_rows::BitRow;
+use mir_base::{List, NoMemory};
+use std::alloc::Global;
+use std::collections::VecDeque;
+
+/// A run as it comes to a point: from which visit, and the choice that it gave on the way.
+#[derive(Clone, Copy, Debug, PartialEq, Eq)]
+pub struct Visit {
+    pub at: Point,
+    pub from: Option<u32>,
+    pub choice: Option<bool>,
+}
+
+/// A run that waits, and what is gone there.
+#[derive(Debug, Drop)]
+pub struct Waiting {
+    pub visit: Visit,
+    pub row: BitRow,
+}
+
+/// What was brought to each point, whether it was reached, the visits, and the runs that wait.
+#[derive(Drop)]
+pub struct Search {
+    pub seen: List<BitRow>,
+    pub reached: List<bool>,
+    pub visits: List<Visit>,
+    pub queue: VecDeque<Waiting>,
+}
+
+/// A bad use, and the number of the visit of the run that meets it.
+#[derive(Clone, Copy, Debug)]
+pub struct Found<'a> {
+    pub visit: u32,
+    pub act: Act<'a>,
+}
+
+fn empty_rows(alloc: Global, bits: u32, count: usize) -> Result<List<BitRow>, NoMemory>
+    ensures { IfOk result (λ rows. rows ≡ replicate count (replicate bits false)) }
+{
+    let mut rows = List::new(alloc);
+    for _ in 0..count {
+        rows.push(BitRow::new(alloc, bits)?)?;
+    }
+    Ok(rows)
+}
+
+fn copy_of(alloc: Global, row: &BitRow) -> Result<BitRow, NoMemory>
+    ensures { IfOk result (λ copy. copy ≡ row.now) }
+{
+    let mut copy = BitRow::new(alloc, row.len())?;
+    row.or_into(&mut copy);
+    Ok(copy)
+}
+
+impl Search {
+    fn new(alloc: Global, bits: u32, points: usize) -> Result<Search, NoMemory>
+        ensures seen { IfOk result (λ search. search.seen ≡ replicate points (replicate bits false)) }
+        ensures reached { IfOk result (λ search. search.reached ≡ replicate points false) }
+        ensures visits { IfOk result (λ search. search.visits ≡ []) }
+        ensures queue { IfOk result (λ search. search.queue.items ≡ []) }
+    {
+        Ok(Search {
+            seen: empty_rows(alloc, bits, points)?,
+            reached: List::from_vec(vec![in alloc; false; points]?),
+            visits: List::new(alloc),
+            queue: VecDeque::new(alloc),
+        })
+    }
+
+    fn unite(&mut self, at: usize, row: &BitRow) -> bool
+        requires at { at < length self.old.seen }
+        requires row { length row.now ≡ length (slice_index_or self.old.seen at []) }
+        ensures seen { self.new.seen ≡ slice_set self.old.seen at (union row.now (slice_index_or self.old.seen at [])) }
+        ensures change { IsFalse result ↔ (union row.now (slice_index_or self.old.seen at []) ≡ slice_index_or self.old.seen at []) }
+        ensures reached { self.new.reached ≡ self.old.reached }
+        ensures visits { self.new.visits ≡ self.old.visits }
+        ensures queue { self.new.queue ≡ self.old.queue }
+    {
+        row.or_into(self.seen.element_mut(at))
+    }
+
+    fn was_reached(&self, at: usize) -> bool
+        requires { at < length self.now.reached }
+        ensures { result ≡ slice_index_or self.now.reached at false }
+    {
+        self.reached.as_slice()[at]
+    }
+
+    /// Brings a row to a point, and says whether it brought a path that is gone, or was the first.
+    fn bring(&mut self, at: usize, row: &BitRow) -> bool
+        requires seen { at < length self.old.seen }
+        requires reached { at < length self.old.reached }
+        requires row { length row.now ≡ length (slice_index_or self.old.seen at []) }
+        ensures seen { self.new.seen ≡ slice_set self.old.seen at (union row.now (slice_index_or self.old.seen at [])) }
+        ensures reached { self.new.reached ≡ slice_set self.old.reached at true }
+        ensures visits { self.new.visits ≡ self.old.visits }
+        ensures queue { self.new.queue ≡ self.old.queue }
+        ensures old { IsFalse result → (union row.now (slice_index_or self.old.seen at []) ≡ slice_index_or self.old.seen at []) × (slice_index_or self.old.reached at false ≡ true) }
+        ensures fresh { IsTrue result → (union row.now (slice_index_or self.old.seen at []) ≢ slice_index_or self.old.seen at []) ⊎ (slice_index_or self.old.reached at false ≡ false) }
+    {
+        let was_reached = self.was_reached(at);
+        let changed = self.unite(at, row);
+        self.reached.set(at, true);
+        changed || !was_reached
+    }
+
+    fn visit(&mut self, visit: Visit) -> Result<u32, NoMemory>
+        ensures number { IfOk result (λ number. number ≡ length self.old.visits) }
+        ensures visits { OnOk result (self.new.visits ≡ self.old.visits ++ visit ∷ []) }
+        ensures seen { self.new.seen ≡ self.old.seen }
+        ensures reached { self.new.reached ≡ self.old.reached }
+        ensures queue { self.new.queue ≡ self.old.queue }
+    {
+        let Ok(number) = u32::try_from(self.visits.len()) else {
+            return Err(NoMemory);
+        };
+        self.visits.push(visit)?;
+        Ok(number)
+    }
+
+    fn wait_first(&mut self, waiting: Waiting) -> Result<(), NoMemory>
+        ensures queue { OnOk result (self.new.queue.items ≡ waiting ∷ self.old.queue.items) }
+        ensures seen { self.new.seen ≡ self.old.seen }
+        ensures reached { self.new.reached ≡ self.old.reached }
+        ensures visits { self.new.visits ≡ self.old.visits }
+    {
+        match self.queue.push_front(waiting) {
+            Ok(()) => Ok(()),
+            Err(_) => Err(NoMemory),
+        }
+    }
+
+    fn wait_last(&mut self, waiting: Waiting) -> Result<(), NoMemory>
+        ensures queue { OnOk result (self.new.queue.items ≡ self.old.queue.items ++ waiting ∷ []) }
+        ensures seen { self.new.seen ≡ self.old.seen }
+        ensures reached { self.new.reached ≡ self.old.reached }
+        ensures visits { self.new.visits ≡ self.old.visits }
+    {
+        match self.queue.push_back(waiting) {
+            Ok(()) => Ok(()),
+            Err(_) => Err(NoMemory),
+        }
+    }
+
+    /// Lets a choice wait, if there is a way by it.
+    fn choose(
+        &mut self,
+        alloc: Global,
+        from: u32,
+        row: &BitRow,
+        to: Option<Point>,
+        choice: bool,
+    ) -> Result<(), NoMemory>
+        ensures queue { OnOk result (self.new.queue.items ≡ self.old.queue.items ++ chosen_items from row.now to choice) }
+        ensures seen { self.new.seen ≡ self.old.seen }
+        ensures reached { self.new.reached ≡ self.old.reached }
+        ensures visits { self.new.visits ≡ self.old.visits }
+    {
+        let Some(at) = to else {
+            return Ok(());
+        };
+        self.wait_last(Waiting {
+            visit: Visit {
+                at,
+                from: Some(from),
+                choice: Some(choice),
+            },
+            row: copy_of(alloc, row)?,
+        })
+    }
+
+    /// Goes on from a visit: without a choice at once, by choices after all that wait.
+    fn go_on(
+        &mut self,
+        alloc: Global,
+        from: u32,
+        row: BitRow,
+        onward: Onward,
+    ) -> Result<(), NoMemory>
+        ensures queue { OnOk result (self.new.queue.items ≡ pushed_items onward from row self.old.queue.items) }
+        ensures seen { self.new.seen ≡ self.old.seen }
+        ensures reached { self.new.reached ≡ self.old.reached }
+        ensures visits { self.new.visits ≡ self.old.visits }
+    {
+        match onward {
+            Onward::Nowhere => Ok(()),
+            Onward::Silent(at) => self.wait_first(Waiting {
+                visit: Visit {
+                    at,
+                    from: Some(from),
+                    choice: None,
+                },
+                row,
+            }),
+            Onward::Choices(none, one) => {
+                self.choose(alloc, from, &row, none, false)?;
+                self.choose(alloc, from, &row, one, true)
+            }
+        }
+    }
+}
+
+/// Takes up a run that waited.
+fn turn<'a>(
+    alloc: Global,
+    watch: &Watch<'a>,
+    search: &mut Search,
+    item: Waiting,
+) -> Result<Option<Found<'a>>, NoMemory>
+    requires watched { IsWatched watch.now.items.now watch.now.body.now watch.now.forest watch.now.below }
+    requires stands { Stands (problem watch.now.items.now watch.now.body.now watch.now.forest.paths) search.old (item ∷ search.old.queue.items) }
+    ensures stands { IfOk result (λ found. found ≡ None → Stands (problem watch.now.items.now watch.now.body.now watch.now.forest.paths) search.new search.new.queue.items) }
+    ensures found { IfOk result (λ found. IfSome found (λ bad. IsFound watch.now.items.now watch.now.body.now watch.now.forest.paths search.new.visits bad)) }
+    ensures less { OnOk result (remaining search.new ≤ remaining search.old) }
+{
+    if !search.bring(item.visit.at.index(), &item.row) {
+        return Ok(None);
+    }
+    let number = search.visit(item.visit)?;
+    let done = acts(alloc, watch.items, watch.body, item.visit.at)?;
+    let mut row = item.row;
+    if let Some(act) = first_bad(alloc, watch, done.as_slice(), &mut row)? {
+        return Ok(Some(Found { visit: number, act }));
+    }
+    let onward = goes_on(watch.items, watch.body, item.visit.at);
+    search.go_on(alloc, number, row, onward)?;
+    Ok(None)
+}
+
+/// The run that waits at the beginning.
+fn begin(
+    alloc: Global,
+    watch: &Watch<'_>,
+    search: &mut Search,
+    first: BitRow,
+) -> Result<(), NoMemory>
+    requires seen { search.old.seen ≡ replicate (length watch.now.body.now.blocks * 4) (replicate (length watch.now.forest.paths) false) }
+    requires reached { search.old.reached ≡ replicate (length watch.now.body.now.blocks * 4) false }
+    requires visits { search.old.visits ≡ [] }
+    requires queue { search.old.queue.items ≡ [] }
+    requires watched { IsWatched watch.now.items.now watch.now.body.now watch.now.forest watch.now.below }
+    requires row { first ≡ state watch.now.items.now watch.now.body.now watch.now.forest.paths [] }
+    ensures { OnOk result (Stands (problem watch.now.items.now watch.now.body.now watch.now.forest.paths) search.new search.new.queue.items) }
+{
+    search.wait_first(Waiting {
+        visit: Visit {
+            at: Point {
+                block: 0,
+                stage: Stage::Entry,
+            },
+            from: None,
+            choice: None,
+        },
+        row: first,
+    })
+}
