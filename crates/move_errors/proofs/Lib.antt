@@ -7,3 +7,8 @@ pub mod Sorted
 pub mod Turning
 pub mod Owning
 pub mod Using
+pub mod Pathways
+pub mod Rowing
+pub mod Meeting
+pub mod Running
+pub mod WellUsed

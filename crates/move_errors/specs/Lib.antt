@@ -1,4 +1,5 @@
 pub mod Reaches
+pub mod Refusal
 pub mod Rows
 pub mod Runs
 pub mod Searching

@@ -86,4 +86,3 @@ InOrder (true ∷ xs) (true ∷ ys) = InOrder xs ys
 -- a list is shorter than another, or as long and not after it in order
 abbrev pub IsLeast : List Bool → List Bool → Type 0
 IsLeast given other = (length given < length other) ⊎ InOrder given other
-

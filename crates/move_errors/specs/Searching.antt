@@ -77,4 +77,3 @@ module _ (f : Problem) where
         (t : Trip) (choice : Option Bool) (to : Point) → Contains done t → Leads (f.onward t.at) choice to →
         Settled done (step f t choice to) ⊎ Contains waiting (step f t choice to)
     pub began : Settled done (beginning f) ⊎ Contains waiting (beginning f)
-

@@ -97,6 +97,15 @@ pub record IsFound (items : ItemTable) (body : Body) (paths : List Place) (visit
       (u : Trip) → Run (problem items body paths) u → (problem items body paths).bad u.at u.row ≡ true →
       number trip ≤ number u
 
+-- a visit comes from an earlier one
+abbrev pub ComeEarlier : List Visit → Type 0
+ComeEarlier visits =
+    (n : ℕ) (visit : Visit) (from : ℕ) → slice_get visits n ≡ Some visit → visit.from ≡ Some from → from < n
+
+-- no run meets a bad use
+abbrev pub MeetsNoBad : Problem → Type 0
+MeetsNoBad f = (u : Trip) → Run f u → f.bad u.at u.row ≡ false
+
 -- the measure of what is left to do
 abbrev pub remaining : Search → ℕ
 remaining s = (sum_by off s.seen + sum_by is_off s.reached) * 3 + length s.queue.items

@@ -80,10 +80,7 @@ fn stored(term: &Term, next: u32) -> Option<&Place>
         | Term::Call { to, then, .. }
         | Term::Virtual { to, then, .. }
         | Term::Ask { to, then, .. }
-            if *then == next =>
-        {
-            Some(to)
-        }
+            if *then == next => { Some(to) }
         _ => None,
     }
 }
@@ -105,7 +102,11 @@ fn store_acts<'a>(alloc: Global, block: &'a Block, next: u32) -> Result<List<Act
     Ok(acts)
 }
 
-fn way_acts<'a>(alloc: Global, block: &'a Block, next: Option<u32>) -> Result<List<Act<'a>>, NoMemory>
+fn way_acts<'a>(
+    alloc: Global,
+    block: &'a Block,
+    next: Option<u32>,
+) -> Result<List<Act<'a>>, NoMemory>
     ensures { IfOk result (λ acts. (n : ℕ) → runs.actions_of n acts ≡ runs.stored_between block.now n next) }
 {
     match next {
@@ -129,8 +130,6 @@ pub fn acts<'a>(
     match at.stage {
         Stage::Entry => Ok(List::new(alloc)),
         Stage::Inside => block_acts(alloc, block),
-        Stage::Leaving(way) => {
-            way_acts(alloc, block, target(items, body, at.block, way as u32))
-        }
+        Stage::Leaving(way) => { way_acts(alloc, block, target(items, body, at.block, way as u32)) }
     }
 }

@@ -1,9 +1,12 @@
-//! The bad uses of a body: whether a path of it meets one, and a shortest way to one where there is.
+//! The bad uses of a body: whether a path of it meets one, and a shortest way to one where there is (The Rust
+//! Reference, "Moved and copied types"; rustc's error E0382).
 #![tactic(auto)]
 
 mod acts;
 mod bad;
+mod errors;
 mod point;
 mod search;
+mod trail;
 
-pub use acts::Act;
+pub use errors::{BadUse, UseError, check_uses};

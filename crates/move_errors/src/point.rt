@@ -140,8 +140,6 @@ pub fn goes_on(items: &Items, body: &Body, at: Point) -> Onward
     match at.stage {
         Stage::Entry => entered(body, at.block),
         Stage::Inside => left(items, body, at.block),
-        Stage::Leaving(way) => {
-            arrived(body, target(items, body, at.block, way as u32))
-        }
+        Stage::Leaving(way) => { arrived(body, target(items, body, at.block, way as u32)) }
     }
 }

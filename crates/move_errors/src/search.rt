@@ -7,7 +7,7 @@ ghost use Rattle.std.specs.Prelude.{◌≡◌, ◌≢◌, ◌⊎◌, ◌↔◌, 
 ghost use Rattle.bit_rows.specs.Words.{union};
 ghost use Rattle.move_errors.specs.Rows.{IsWatched, state};
 ghost use Rattle.move_errors.specs.Runs.{problem};
-ghost use Rattle.move_errors.specs.Stands.{Stands, IsFound, remaining, pushed_items, chosen_items};
+ghost use Rattle.move_errors.specs.Stands.{Stands, IsFound, MeetsNoBad, remaining, pushed_items, chosen_items};
 
 use crate::acts::{Act, acts};
 use crate::bad::{Watch, first_bad};
@@ -267,4 +267,44 @@ fn begin(
         },
         row: first,
     })
+}
+
+/// A bad use, and the visits by which a least run comes to it.
+#[derive(Debug, Drop)]
+pub struct Trace<'a> {
+    pub visits: List<Visit>,
+    pub found: Found<'a>,
+}
+
+/// How many points the blocks of a body have.
+fn point_count(blocks: usize) -> Result<usize, NoMemory>
+    ensures { IfOk result (λ count. count ≡ blocks * 4) }
+{
+    blocks.checked_mul(4).ok_or(NoMemory)
+}
+
+/// The first bad use that a body meets along the least of the shortest lists of choices that reach one; `None` where
+/// none does. Time is in proportion to the points times the paths of the body, each time with the words of a row.
+pub fn least_bad<'a>(
+    alloc: Global,
+    watch: &Watch<'a>,
+    first: BitRow,
+) -> Result<Option<Trace<'a>>, NoMemory>
+    requires watched { IsWatched watch.now.items.now watch.now.body.now watch.now.forest watch.now.below }
+    requires row { first ≡ state watch.now.items.now watch.now.body.now watch.now.forest.paths [] }
+    ensures found { IfOk result (λ trace. IfSome trace (λ way. IsFound watch.now.items.now watch.now.body.now watch.now.forest.paths way.visits way.found)) }
+    ensures none { IfOk result (λ trace. trace ≡ None → MeetsNoBad (problem watch.now.items.now watch.now.body.now watch.now.forest.paths)) }
+{
+    let count = point_count(watch.body.blocks.len())?;
+    let mut search = Search::new(alloc, watch.forest.len(), count)?;
+    begin(alloc, watch, &mut search, first)?;
+    while let Some(item) = search.queue.pop_front() {
+        if let Some(found) = turn(alloc, watch, &mut search, item)? {
+            return Ok(Some(Trace {
+                visits: search.visits,
+                found,
+            }));
+        }
+    }
+    Ok(None)
 }

@@ -1,0 +1,155 @@
+//! Bad uses, and the call that finds one.
+ghost use Rattle.std.specs.Prelude.{◌≡◌, ◌<◌, ◌∷◌, ℕ, [], IfOk, IfErr, OnOk, Some, None, length, map, slice_get};
+ghost use Rattle.cfg_graph.specs.declared.graph.Body.{Body as GraphBody};
+ghost use Rattle.cfg_graph.specs.WellFormed.Faults.{IsWellFormed};
+ghost use Rattle.move_paths.specs.Forest.{IsForest};
+ghost use Rattle.move_paths.specs.Uses.{use_of};
+ghost use Rattle.move_errors.specs.Reaches.{MeetsNone, rule_of};
+ghost use Rattle.move_errors.specs.Refusal.{IsRefusal, refused_by};
+ghost use Rattle.move_errors.specs.Rows.{IsWatched, state};
+ghost use Rattle.move_errors.specs.Stands.{IsFound, MeetsNoBad};
+
+use crate::acts::Act;
+use crate::bad::Watch;
+use crate::search::{Trace, least_bad};
+use crate::trail::trail;
+use bit_rows::BitRow;
+use cfg_graph::{Body, Graph, Place};
+use init_flow::Analysis;
+use mir_base::{List, NoMemory};
+use mir_ty::Items;
+use move_flow::{MaybeGone, masks_below};
+use move_paths::{Forest, Use, paths};
+use std::alloc::Global;
+
+/// A bad use of a body: what is used is gone there on a path.
+#[derive(Debug, Drop)]
+pub struct BadUse {
+    /// The body, by its number.
+    pub body: u32,
+    /// The block of the use, the last one of `path`.
+    pub block: u32,
+    /// The line of the use in its block: the number of its statement, or of the statements for the terminator.
+    pub line: u32,
+    /// The place that is used.
+    pub place: Place,
+    /// How it is used.
+    pub by: Use,
+    /// The choices by which the path comes to the use, each 0 or 1.
+    pub answers: List<u8>,
+    /// The blocks of the path, from block 0.
+    pub path: List<u32>,
+}
+
+/// Why the uses of a body are refused, or were not looked at.
+#[derive(Debug, Drop)]
+pub enum UseError {
+    /// A place is copied, moved, borrowed, touched or tested that is gone there, or a container or a part of it.
+    U1(BadUse),
+    /// A place is stored into or dropped of which a container is gone there.
+    U2(BadUse),
+    /// There was no memory.
+    Memory,
+}
+
+impl From<NoMemory> for UseError {
+    ghost use Rattle.move_errors.specs.declared.errors.UseError.TheVariants.{Memory};
+
+    ghost from_gives = { λ want error. error ≡ Memory };
+
+    fn from(_want: NoMemory) -> UseError {
+        UseError::Memory
+    }
+}
+
+/// The body of a graph as the search watches it.
+fn watched<'a>(alloc: Global, graph: &'a Graph, body: u32) -> Result<Watch<'a>, NoMemory>
+    requires well_formed { IsWellFormed graph.now }
+    requires body { body < length graph.now.bodies }
+    ensures items { IfOk result (λ watch. watch.items.now ≡ graph.now.items) }
+    ensures body { IfOk result (λ watch. slice_get graph.now.bodies body ≡ Some watch.body.now) }
+    ensures watched { IfOk result (λ watch. IsWatched watch.items.now watch.body.now watch.forest watch.below) }
+{
+    let forest = paths(alloc, graph, body)?;
+    let below = masks_below(alloc, &forest)?;
+    Ok(Watch {
+        items: &graph.items,
+        body: &graph.bodies.as_slice()[body as usize],
+        forest,
+        below,
+    })
+}
+
+/// What is gone before a body does anything.
+fn first_row(alloc: Global, graph: &Graph, body: u32, forest: &Forest) -> Result<BitRow, NoMemory>
+    requires body { body < length graph.now.bodies }
+    requires forest { (found : GraphBody) → slice_get graph.now.bodies body ≡ Some found → IsForest graph.now.items found forest.now }
+    ensures { IfOk result (λ row. (found : GraphBody) → slice_get graph.now.bodies body ≡ Some found → row ≡ state graph.now.items found forest.now.paths []) }
+{
+    let gone = MaybeGone::new(alloc, graph, body, forest)?;
+    let mut row = BitRow::new(alloc, gone.bits())?;
+    gone.start(&mut row);
+    Ok(row)
+}
+
+fn copy_of(alloc: Global, place: &Place) -> Result<Place, NoMemory>
+    ensures { IfOk result (λ copy. copy ≡ place.now) }
+{
+    Ok(Place {
+        local: place.local,
+        steps: place.steps.copy(alloc)?,
+    })
+}
+
+fn by_rule(bad: BadUse) -> UseError
+    ensures { result ≡ refused_by (rule_of (use_of bad.by)) bad }
+{
+    match bad.by {
+        Use::Stores | Use::Drops => UseError::U2(bad),
+        _ => UseError::U1(bad),
+    }
+}
+
+/// The refusal of a bad use that was found.
+fn refusal(
+    alloc: Global,
+    watch: &Watch<'_>,
+    body: u32,
+    trace: &Trace<'_>,
+) -> Result<UseError, NoMemory>
+    requires watched { IsWatched watch.now.items.now watch.now.body.now watch.now.forest watch.now.below }
+    requires found { IsFound watch.now.items.now watch.now.body.now watch.now.forest.paths trace.now.visits trace.now.found }
+    ensures { IfOk result (λ error. IsRefusal watch.now.items.now watch.now.body.now body error) }
+{
+    let way = trail(alloc, trace.visits.as_slice(), trace.found.visit)?;
+    let act = trace.found.act;
+    let bad = BadUse {
+        body,
+        block: trace.visits.as_slice()[trace.found.visit as usize].at.block,
+        line: act.line,
+        place: copy_of(alloc, act.place)?,
+        by: act.how,
+        answers: way.answers,
+        path: way.path,
+    };
+    Ok(by_rule(bad))
+}
+
+/// Whether no path of a body meets a bad use. The refusal names the use that the least of the shortest lists of choices
+/// reaches, 0 before 1, with that list and its path. The graph is well formed and has the body.
+///
+/// Errors: [`UseError::U1`] and [`UseError::U2`] exactly where a path of the body meets a bad use, by the rule by which
+/// this one is bad; [`UseError::Memory`] where there is no memory.
+pub fn check_uses(alloc: Global, graph: &Graph, body: u32) -> Result<(), UseError>
+    requires well_formed { IsWellFormed graph.now }
+    requires body { body < length graph.now.bodies }
+    ensures accepted { OnOk result ((found : GraphBody) → slice_get graph.now.bodies body ≡ Some found → MeetsNone graph.now.items found) }
+    ensures refused { IfErr result (λ error. (found : GraphBody) → slice_get graph.now.bodies body ≡ Some found → IsRefusal graph.now.items found body error) }
+{
+    let watch = watched(alloc, graph, body)?;
+    let first = first_row(alloc, graph, body, &watch.forest)?;
+    match least_bad(alloc, &watch, first)? {
+        None => Ok(()),
+        Some(trace) => Err(refusal(alloc, &watch, body, &trace)?),
+    }
+}
