@@ -12,3 +12,4 @@ pub mod Rowing
 pub mod Meeting
 pub mod Running
 pub mod WellUsed
+pub mod Showing

@@ -93,7 +93,7 @@ module _ (items : ItemTable) (body : Body) (forest : PathForest) (below : List R
       by (some a plain rows) =
           absurd (false≢true (sym clean ∙ ap (λ (r : Row). is_some (first_by items body forest.paths (acts_at items body t.at.block t.at.stage) r)) told.row ∙ ap is_some rows))
 
-  enter : (n : ℕ) (choice : Option Bool) (to : Point) → Leads (onward_from items body n Stage.Entry) choice to → (to ≡ point n Stage.Inside) × (optional choice ≡ entry_choices items body n)
+  pub enter : (n : ℕ) (choice : Option Bool) (to : Point) → Leads (onward_from items body n Stage.Entry) choice to → (to ≡ point n Stage.Inside) × (optional choice ≡ entry_choices items body n)
   enter n choice to leads = by (slice_get body.blocks n) leads
     where
       zero_if : Bool → List Bool
@@ -111,7 +111,7 @@ module _ (items : ItemTable) (body : Body) (forest : PathForest) (below : List R
       by None leads = absurd leads
       by (Some block) leads = go (is_turn block) leads
 
-  arrive : (n : ℕ) (k : Bool) (choice : Option Bool) (to : Point) → Leads (onward_from items body n (Stage.Leaving k)) choice to
+  pub arrive : (n : ℕ) (k : Bool) (choice : Option Bool) (to : Point) → Leads (onward_from items body n (Stage.Leaving k)) choice to
       → (m : ℕ) × (to ≡ point m Stage.Entry) × (choice ≡ None) × (target items body n (number_of k) ≡ Some m)
   arrive n k choice to leads = by (target items body n (number_of k)) refl leads
     where

@@ -92,7 +92,7 @@ module _ (items : ItemTable) (body : Body) (forest : PathForest) (below : List R
       subst (λ (z : Option ℕ). Leads (arrived (length body.blocks) z) None (point m Stage.Entry)) (sym to)
       (subst (λ (z : Bool). Leads (if z then Onward.Silent (point m Stage.Entry) else Onward.Nowhere) None (point m Stage.Entry)) (sym (lt-ltb m (length body.blocks) within)) (refl, refl))
 
-  none-inside : (m : ℕ) → slice_get body.blocks m ≡ None → actions_on body (m ∷ []) ≡ []
+  pub none-inside : (m : ℕ) → slice_get body.blocks m ≡ None → actions_on body (m ∷ []) ≡ []
   none-inside m e = inside-are body m ∙ ap (λ (z : Option Block). option_map_or (λ block. stmt_actions m 0 block.stmts ++ at_line m (length block.stmts) (term_uses block.term)) z []) e
 
   module _ (t : Trip) (n m : ℕ) (k : Bool) (choice : Option Bool) (run : Run f t) (at : t.at ≡ point n Stage.Inside) (clean : f.bad t.at t.row ≡ false)

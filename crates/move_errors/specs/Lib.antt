@@ -3,4 +3,5 @@ pub mod Refusal
 pub mod Rows
 pub mod Runs
 pub mod Searching
+pub mod Shown
 pub mod Stands

@@ -1,5 +1,5 @@
 //! Bad uses, and the call that finds one.
-ghost use Rattle.std.specs.Prelude.{◌≡◌, ◌<◌, ◌∷◌, ℕ, [], IfOk, IfErr, OnOk, Some, None, length, map, slice_get};
+ghost use Rattle.std.specs.Prelude.{◌≡◌, ◌<◌, ◌∷◌, ℕ, [], IfOk, IfErr, OnOk, Some, None, length, map, slice_get, true};
 ghost use Rattle.cfg_graph.specs.declared.graph.Body.{Body as GraphBody};
 ghost use Rattle.cfg_graph.specs.WellFormed.Faults.{IsWellFormed};
 ghost use Rattle.move_paths.specs.Forest.{IsForest};
@@ -7,15 +7,17 @@ ghost use Rattle.move_paths.specs.Uses.{use_of};
 ghost use Rattle.move_errors.specs.Reaches.{MeetsNone, rule_of};
 ghost use Rattle.move_errors.specs.Refusal.{IsRefusal, refused_by};
 ghost use Rattle.move_errors.specs.Rows.{IsWatched, state};
+ghost use Rattle.move_errors.specs.Runs.{problem};
 ghost use Rattle.move_errors.specs.Stands.{IsFound, MeetsNoBad};
 
 use crate::acts::Act;
 use crate::bad::Watch;
+use crate::decide::rows_show;
 use crate::search::{Trace, least_bad};
 use crate::trail::trail;
 use bit_rows::BitRow;
 use cfg_graph::{Body, Graph, Place};
-use init_flow::Analysis;
+use init_flow::{Analysis, solve};
 use mir_base::{List, NoMemory};
 use mir_ty::Items;
 use move_flow::{MaybeGone, masks_below};
@@ -80,6 +82,23 @@ fn watched<'a>(alloc: Global, graph: &'a Graph, body: u32) -> Result<Watch<'a>, 
     })
 }
 
+/// Whether the rows of a body show no bad use, so that no path meets one.
+fn is_plain(
+    alloc: Global,
+    graph: &Graph,
+    body: u32,
+    watch: &Watch<'_>,
+) -> Result<bool, NoMemory>
+    requires body { slice_get graph.now.bodies body ≡ Some watch.now.body.now }
+    requires items { watch.now.items.now ≡ graph.now.items }
+    requires watched { IsWatched watch.now.items.now watch.now.body.now watch.now.forest watch.now.below }
+    ensures { IfOk result (λ plain. plain ≡ true → MeetsNoBad (problem watch.now.items.now watch.now.body.now watch.now.forest.paths)) }
+{
+    let gone = MaybeGone::new(alloc, graph, body, &watch.forest)?;
+    let rows = solve(alloc, &gone, watch.items, watch.body)?;
+    Ok(!rows_show(alloc, watch, &rows)?)
+}
+
 /// What is gone before a body does anything.
 fn first_row(alloc: Global, graph: &Graph, body: u32, forest: &Forest) -> Result<BitRow, NoMemory>
     requires body { body < length graph.now.bodies }
@@ -138,6 +157,8 @@ fn refusal(
 /// Whether no path of a body meets a bad use. The refusal names the use that the least of the shortest lists of choices
 /// reaches, 0 before 1, with that list and its path. The graph is well formed and has the body.
 ///
+/// A body whose rows show no bad use is decided by the solver alone; only another one is searched.
+///
 /// Errors: [`UseError::U1`] and [`UseError::U2`] exactly where a path of the body meets a bad use, by the rule by which
 /// this one is bad; [`UseError::Memory`] where there is no memory.
 pub fn check_uses(alloc: Global, graph: &Graph, body: u32) -> Result<(), UseError>
@@ -147,6 +168,9 @@ pub fn check_uses(alloc: Global, graph: &Graph, body: u32) -> Result<(), UseErro
     ensures refused { IfErr result (λ error. (found : GraphBody) → slice_get graph.now.bodies body ≡ Some found → IsRefusal graph.now.items found body error) }
 {
     let watch = watched(alloc, graph, body)?;
+    if is_plain(alloc, graph, body, &watch)? {
+        return Ok(());
+    }
     let first = first_row(alloc, graph, body, &watch.forest)?;
     match least_bad(alloc, &watch, first)? {
         None => Ok(()),

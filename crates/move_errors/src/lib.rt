@@ -4,6 +4,7 @@
 
 mod acts;
 mod bad;
+mod decide;
 mod errors;
 mod point;
 mod search;

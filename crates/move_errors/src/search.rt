@@ -58,7 +58,7 @@ fn empty_rows(alloc: Global, bits: u32, count: usize) -> Result<List<BitRow>, No
     Ok(rows)
 }
 
-fn copy_of(alloc: Global, row: &BitRow) -> Result<BitRow, NoMemory>
+pub fn copy_of(alloc: Global, row: &BitRow) -> Result<BitRow, NoMemory>
     ensures { IfOk result (λ copy. copy ≡ row.now) }
 {
     let mut copy = BitRow::new(alloc, row.len())?;
