@@ -48,6 +48,7 @@ fn clear(
     dynamic: Dynamic,
 ) -> Result<bool, NoMemory>
     ensures run { run_setting world.new ≡ run_setting world.old }
+    ensures ticks { OnOk result (world.new.ticks ≡ world.old.ticks) }
     ensures cleared { IfOk result (λ went. (before : Trace) (run : Bodies) →
         Clears (run_setting world.old) run address.now dynamic (state_of before world.old) went
         (state_of before world.new)) }
@@ -65,6 +66,7 @@ fn clear(
 /// Leaves an address gone.
 fn take_away(alloc: Global, world: &mut World<'_>, address: &Addr) -> Result<(), NoMemory>
     ensures run { run_setting world.new ≡ run_setting world.old }
+    ensures ticks { OnOk result (world.new.ticks ≡ world.old.ticks) }
     ensures gone { OnOk result ((before : Trace) →
         state_of before world.new ≡ stored_at address.now Gone (state_of before world.old)) }
 {
@@ -84,6 +86,7 @@ fn free(
     dynamic: Dynamic,
 ) -> Result<bool, NoMemory>
     ensures run { run_setting world.new ≡ run_setting world.old }
+    ensures ticks { OnOk result (world.new.ticks ≡ world.old.ticks) }
     ensures freed { IfOk result (λ went. (before : Trace) (run : Bodies) →
         Frees (run_setting world.old) run address.now dynamic (state_of before world.old) went
         (state_of before world.new)) }
@@ -116,6 +119,7 @@ pub fn step(
     turn: Turn,
 ) -> Result<Turn, NoMemory>
     ensures run { run_setting world.new ≡ run_setting world.old }
+    ensures ticks { OnOk result (world.new.ticks ≡ world.old.ticks) }
     ensures left { IfOk result (λ next. (before : Trace) (run : Bodies) (out : Out State) →
         TurnLeft (run_setting world.old) run (state_of before world.old) out drops.old turn →
         TurnLeft (run_setting world.old) run (state_of before world.new) out drops.new next) }

@@ -2,12 +2,20 @@
 #![tactic(auto)]
 
 mod actions;
+mod arithmetic;
+mod boxes;
 mod choices;
+mod forgetting;
 mod making;
+mod statements;
 mod told;
+mod typed;
 mod world;
 
 pub use actions::Outcome;
+pub use arithmetic::Computation;
+pub use forgetting::{Forgets, tell_forgotten};
 pub use making::drop_body_of;
+pub use statements::stop_if;
 pub use told::Told;
 pub use world::World;

@@ -1,4 +1,4 @@
-use Rattle.std.proofs.Common.{true, ap, sym, subst, ◌∙◌}
+use Rattle.std.proofs.Common.{true, [], ap, sym, subst, ◌∙◌}
 use Rattle.cfg_meaning.specs.Programs.{setting_of}
 use Rattle.drop_glue.specs.Reading.{IsFound}
 use Rattle.mir_store.specs.Activations.{activations_of}
@@ -9,7 +9,7 @@ use Rattle.drop_glue.specs.Left.{is_still}
 use Rattle.drop_glue.specs.Reading.{ShowsValue}
 use Rattle.drop_glue.proofs.TurnsLeft.{freed_box, something_found}
 use Rattle.mir_base.specs.declared.trace.Event.{Event}
-use Rattle.store_model.specs.Concrete.State.{with_event}
+use Rattle.store_model.specs.Concrete.State.{State, with_event}
 use Rattle.drop_glue.proofs.turns.free.Goals as goal
 
 pub returns-clause-freed : goal.returns-clause-freed
@@ -22,3 +22,6 @@ returns-clause-freed c = λ before run.
     (ap (is_still world.graph.now.items (dynamic_of c.args.dynamic)) finds.dynamic_is ∙ sym c.is_still.ensures ∙ c.if-not-is_still.false)
     shows.is (state_of before c.tell.new.self)
     (c.in_ok-tell.ensures.told before ∙ ap (with_event (Event.Freed c.in-Boxed.serial)) (c.in_ok-take_away.ensures.gone before))
+
+pub returns-clause-ticks : goal.returns-clause-ticks
+returns-clause-ticks c = ap (λ (w : State). w.ticks) (c.in_ok-tell.ensures.told []) ∙ c.in_ok-take_away.ensures.ticks
