@@ -59,7 +59,7 @@ pub(crate) fn if_of(pieces: &[Piece]) -> ExpressionForm<'_>
     }
 }
 
-fn while_let<'a>(label: Option<&'a [u8]>, nodes: Nodes<'a>) -> ExpressionForm<'a>
+fn while_let<'a>(label: Option<&'a str>, nodes: Nodes<'a>) -> ExpressionForm<'a>
     ensures { expression_of result ≡ expression_part (while_row true (word_of label.entry) (nodes_of nodes.entry)) }
 {
     let Some(one) = nodes.split_first() else {
@@ -79,7 +79,7 @@ fn while_let<'a>(label: Option<&'a [u8]>, nodes: Nodes<'a>) -> ExpressionForm<'a
     }
 }
 
-fn while_plain<'a>(label: Option<&'a [u8]>, nodes: Nodes<'a>) -> ExpressionForm<'a>
+fn while_plain<'a>(label: Option<&'a str>, nodes: Nodes<'a>) -> ExpressionForm<'a>
     ensures { expression_of result ≡ expression_part (while_row false (word_of label.entry) (nodes_of nodes.entry)) }
 {
     let Some(one) = nodes.split_first() else {
@@ -156,13 +156,13 @@ pub fn arm_form(node: &Node) -> Option<ArmForm<'_>>
 
 /// The label that a node is, if it is one.
 #[tactic(auto, using(crate::proofs::Named::no_label_seen, crate::proofs::Named::seen_as))]
-fn label_if(node: &Node) -> Option<&[u8]>
+fn label_if(node: &Node) -> Option<&str>
     ensures { word_of result ≡ label_name (shape_of (syn_of node.now)) }
 {
     match node.row {
         Row::LabelName => Some(match a_label(node.parts.as_slice()) {
             Some(label) => label,
-            None => &[],
+            None => "",
         }),
         _ => None,
     }

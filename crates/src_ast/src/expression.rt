@@ -63,12 +63,12 @@ pub enum ExpressionForm<'a> {
     },
     MethodCall {
         receiver: &'a Node,
-        name: &'a [u8],
+        name: &'a str,
         args: Nodes<'a>,
     },
     Field {
         base: &'a Node,
-        name: &'a [u8],
+        name: &'a str,
     },
     /// A part of a tuple.
     Part {
@@ -107,26 +107,26 @@ pub enum ExpressionForm<'a> {
         arms: Nodes<'a>,
     },
     Loop {
-        label: Option<&'a [u8]>,
+        label: Option<&'a str>,
         body: &'a Node,
     },
     While {
-        label: Option<&'a [u8]>,
+        label: Option<&'a str>,
         condition: &'a Node,
         body: &'a Node,
     },
     WhileLet {
-        label: Option<&'a [u8]>,
+        label: Option<&'a str>,
         pattern: &'a Node,
         scrutinee: &'a Node,
         body: &'a Node,
     },
     Break {
-        label: Option<&'a [u8]>,
+        label: Option<&'a str>,
         value: Option<&'a Node>,
     },
     Continue {
-        label: Option<&'a [u8]>,
+        label: Option<&'a str>,
     },
     Return(Option<&'a Node>),
     Closure {
@@ -145,7 +145,7 @@ pub enum ExpressionForm<'a> {
 /// An initialiser of a field; without a value it is the variable of that name.
 #[derive(Clone, Copy)]
 pub struct InitForm<'a> {
-    pub name: &'a [u8],
+    pub name: &'a str,
     pub value: Option<&'a Node>,
 }
 

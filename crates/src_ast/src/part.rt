@@ -36,14 +36,14 @@ pub enum ParamForm<'a> {
 /// A field with its name.
 #[derive(Clone, Copy)]
 pub struct FieldForm<'a> {
-    pub name: &'a [u8],
+    pub name: &'a str,
     pub ty: &'a Node,
 }
 
 /// A variant of an enum.
 #[derive(Clone, Copy)]
 pub struct VariantForm<'a> {
-    pub name: &'a [u8],
+    pub name: &'a str,
     pub kind: FieldKind,
     /// Types, or fields with names.
     pub fields: Nodes<'a>,

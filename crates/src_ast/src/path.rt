@@ -13,18 +13,18 @@ use src_tree::{Kind, Node, Piece, Row};
 /// A path: a name, or `Self` where `first` is `None`; and the name behind `::`.
 #[derive(Clone, Copy)]
 pub struct PathForm<'a> {
-    pub first: Option<&'a [u8]>,
-    pub second: Option<&'a [u8]>,
+    pub first: Option<&'a str>,
+    pub second: Option<&'a str>,
 }
 
 /// The name with which some parts begin; `None` where they begin with another token.
-fn head(pieces: &[Piece]) -> Option<&[u8]>
+fn head(pieces: &[Piece]) -> Option<&str>
     ensures { word_of result ≡ seen.path_head (tokens_in (parts_in pieces.now)) }
 {
     for piece in pieces {
         if let Piece::Token(token) = piece {
             return match token {
-                Token::Name(name) => Some(name.as_bytes()),
+                Token::Name(name) => Some(name.as_str()),
                 _ => None,
             };
         }
@@ -34,7 +34,7 @@ fn head(pieces: &[Piece]) -> Option<&[u8]>
 
 /// The name that a node is, if it is one.
 #[tactic(auto, using(crate::proofs::Named::no_word_seen, crate::proofs::Named::seen_as))]
-fn name_if(node: &Node) -> Option<&[u8]>
+fn name_if(node: &Node) -> Option<&str>
     ensures { word_of result ≡ seen.ident_in (shape_of (syn_of node.now)) }
 {
     match node.row {
@@ -43,7 +43,7 @@ fn name_if(node: &Node) -> Option<&[u8]>
     }
 }
 
-fn ident_name(node: Option<&Node>) -> Option<&[u8]>
+fn ident_name(node: Option<&Node>) -> Option<&str>
     ensures { word_of result ≡ seen.ident_name (maybe_of node.entry) }
 {
     match node {
@@ -52,7 +52,7 @@ fn ident_name(node: Option<&Node>) -> Option<&[u8]>
     }
 }
 
-fn tail(pieces: &[Piece]) -> Option<&[u8]>
+fn tail(pieces: &[Piece]) -> Option<&str>
     ensures { word_of result ≡ seen.path_tail (tokens_in (parts_in pieces.now)) (views (parts_in pieces.now)) }
 {
     if has(Kind::Mark(Mark::PathSep), pieces) {

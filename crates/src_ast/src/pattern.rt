@@ -21,7 +21,7 @@ pub enum PatternForm<'a> {
     /// `_`.
     Wild,
     /// A name, with `mut` or without.
-    Bind(&'a [u8]),
+    Bind(&'a str),
     /// A number.
     Literal {
         is_negative: bool,
@@ -63,7 +63,7 @@ pub enum PatternForm<'a> {
 /// A field in a pattern; without a pattern it binds its own name.
 #[derive(Clone, Copy)]
 pub struct FieldPatternForm<'a> {
-    pub name: &'a [u8],
+    pub name: &'a str,
     pub pattern: Option<&'a Node>,
 }
 

@@ -24,15 +24,15 @@ pub fn has(kind: Kind, pieces: &[Piece]) -> bool
 }
 
 /// The first name among some parts; where there is none, an empty one.
-pub fn a_name(pieces: &[Piece]) -> &[u8]
+pub fn a_name(pieces: &[Piece]) -> &str
     ensures { result.now ≡ seen.a_name (tokens_in (parts_in pieces.now)) }
 {
     for piece in pieces {
         if let Piece::Token(Token::Name(name)) = piece {
-            return name.as_bytes();
+            return name.as_str();
         }
     }
-    &[]
+    ""
 }
 
 /// The first number among some parts, with its suffix; where there is none, 0.
@@ -48,12 +48,12 @@ pub fn a_number(pieces: &[Piece]) -> (u64, Option<IntKind>)
 }
 
 /// The first label among some parts.
-pub fn a_label(pieces: &[Piece]) -> Option<&[u8]>
+pub fn a_label(pieces: &[Piece]) -> Option<&str>
     ensures { word_of result ≡ seen.a_label (tokens_in (parts_in pieces.now)) }
 {
     for piece in pieces {
         if let Piece::Token(Token::Label(name)) = piece {
-            return Some(name.as_bytes());
+            return Some(name.as_str());
         }
     }
     None

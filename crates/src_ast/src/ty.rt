@@ -17,17 +17,17 @@ use src_tree::{Kind, Node, Piece, Row};
 #[derive(Clone, Copy)]
 pub enum TypeForm<'a> {
     /// A name by itself.
-    Name(&'a [u8]),
+    Name(&'a str),
     /// `Box<T>`, whatever the name.
     Generic {
-        name: &'a [u8],
+        name: &'a str,
         content: &'a Node,
     },
     /// `Box<dyn Trait>`, whatever the name; the trait's name has its place.
     Dyn {
-        name: &'a [u8],
+        name: &'a str,
         trait_at: Pos,
-        trait_name: &'a [u8],
+        trait_name: &'a str,
     },
     /// `Self`.
     SelfType,
@@ -144,11 +144,11 @@ fn object(pieces: &[Piece]) -> TypeForm<'_>
 
 /// The name that a node is; an empty one where it is none.
 #[tactic(auto, using(crate::proofs::Named::unnamed_seen, crate::proofs::Named::seen_as))]
-pub fn name_of(node: &Node) -> &[u8]
+pub fn name_of(node: &Node) -> &str
     ensures { (node.now.at, result.now) ≡ named (syn_of node.now) }
 {
     match node.row {
         Row::Ident => a_name(node.parts.as_slice()),
-        _ => &[],
+        _ => "",
     }
 }
