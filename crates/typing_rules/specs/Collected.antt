@@ -1,8 +1,7 @@
 -- The items of a text, or the first broken rule on items: names first (T02), then the names in heads (T01), then types
 -- that hold themselves (T09), then what is derived (T10), then `main`.
-use Rattle.std.specs.Prelude.{ℕ, suc, Bool, true, false, ◌&&◌, ◌||◌, not, List, [], ◌∷◌, Option, Some, None, Result, Ok, Err, is_some, if◌then◌else◌, codes, option_and_then, slice_get}
+use Rattle.std.specs.Prelude.{ℕ, suc, Bool, true, false, ◌&&◌, ◌||◌, not, List, [], ◌∷◌, ◌++◌, length, Option, Some, None, Result, Ok, Err, is_some, if◌then◌else◌, codes, option_and_then, slice_get}
 use Rattle.std.specs.List.{list_any, list_all, filter_map}
-use Rattle.std.specs.Option.{option_map_or}
 use Rattle.std.specs.Str.{bytes_eq}
 use Rattle.mir_base.specs.declared.place_in_text.Pos.{Pos}
 use Rattle.mir_base.specs.declared.rule.Rule.{Rule}
@@ -19,25 +18,25 @@ use Rattle.src_tree.specs.Layout.{Parts}
 use Rattle.well_typed.specs.Names.{is_among, built_in}
 use Rattle.well_typed.specs.Types.{is_same}
 use Rattle.typing_rules.specs.Check.{Check, State, Broken, ◌>>=◌, ◌>>◌, pure, breaks, obeys, known, the_items, interned, each_checked}
-use Rattle.typing_rules.specs.Items.{ItemSyn, items_of, item_syns, adt_names, trait_names, BodyHead, body_heads, method_body, drop_body, full_name, closure_name, impl_owner}
+use Rattle.typing_rules.specs.Items.{ItemSyn, items_of, item_syns, adt_names, trait_names, body_paths, method_body, drop_body, full_name, closure_name, impl_owner}
 use Rattle.typing_rules.specs.Places.{scalars, unit}
 use Rattle.src_ast.specs.Syntax.{number_word, Word, Named, Receiver, ByValue, ByShared, ByUnique, Syn, syn, MoveOf, StructItem, EnumItem, FieldDecl, VariantDecl, TraitItem, ImplItem, FnItem, ParamOf, SelfParam, Syns, no_syn, a_syn, list_of, MaybeSyn, nothing, just}
 use Rattle.typing_rules.specs.Written.{Around, written, written_param, or_unit, number_of}
 
 -- ---- names of items
 
-abbrev item_name : Syn → Option Named
+abbrev pub item_name : Syn → Option Named
 item_name (syn at (StructItem derives name kind fields)) = Some name
 item_name (syn at (EnumItem derives name variants)) = Some name
 item_name (syn at (TraitItem name heads)) = Some name
 item_name (syn at (FnItem name params answer block)) = Some name
 item_name _ = None
 
-abbrev names_differ : List Named → List Word → Check (Unit {0})
+abbrev pub names_differ : List Named → List Word → Check (Unit {0})
 names_differ [] earlier = pure tt
 names_differ (n ∷ ns) earlier = do
   obeys Rule.T02 n.0 (not (is_among n.1 earlier || is_among n.1 built_in))
-  names_differ ns (n.1 ∷ earlier)
+  names_differ ns (earlier ++ n.1 ∷ [])
 
 -- ---- heads
 
@@ -45,15 +44,15 @@ names_differ (n ∷ ns) earlier = do
 pub record Known : Type 0 where
   pub adts : List Word
   pub traits : List Word
-  pub heads : List BodyHead
+  pub paths : List Word
 
-abbrev names_alone : Known → Option ℕ → Around
+abbrev pub names_alone : Known → Option ℕ → Around
 names_alone k self_adt = record { has_limits = false; self_adt = self_adt; adts = k.adts; traits = k.traits }
 
-abbrev is_derivable : Word → Bool
+abbrev pub is_derivable : Word → Bool
 is_derivable name = is_among name (codes "Copy" ∷ codes "Clone" ∷ codes "Debug" ∷ [])
 
-abbrev derives_known : List Named → Check (Unit {0})
+abbrev pub derives_known : List Named → Check (Unit {0})
 derives_known [] = pure tt
 derives_known (d ∷ ds) = obeys Rule.T01 d.0 (is_derivable d.1) >> derives_known ds
 
@@ -61,85 +60,85 @@ abbrev pub derives : Word → List Named → Bool
 derives word ds = list_any (λ d. bytes_eq word d.1) ds
 
 -- fields by their order or by their names
-abbrev field_name : ℕ → Syn → Word
+abbrev pub field_name : ℕ → Syn → Word
 field_name k (syn at (FieldDecl name ty)) = name
 field_name k _ = number_word k
 
-abbrev field_type : Syn → Syn
+abbrev pub field_type : Syn → Syn
 field_type (syn at (FieldDecl name ty)) = ty
 field_type ty = ty
 
-abbrev names_from : ℕ → List Syn → List Word
+abbrev pub names_from : ℕ → List Syn → List Word
 names_from k [] = []
 names_from k (f ∷ fs) = field_name k f ∷ names_from (suc k) fs
 
-abbrev variant_of : Around → Word → Syns → Check Variant
+abbrev pub variant_of : Around → Word → Syns → Check Variant
 variant_of around name fields = do
   tys ← each_checked (λ f. written around (field_type f)) (list_of fields)
   pure (record { name = name; fields = tys; field_names = names_from 0 (list_of fields) })
 
-abbrev declared_variant : Around → Syn → Check Variant
+abbrev pub declared_variant : Around → Syn → Check Variant
 declared_variant around (syn at (VariantDecl name kind fields)) = variant_of around name fields
 declared_variant around (syn at _) = breaks Rule.T20 at
 
-abbrev adt_of : Known → List Named → Word → Bool → List Variant → Adt
+abbrev pub adt_of : Known → List Named → Word → Bool → List Variant → Adt
 adt_of k ds name is_enum variants =
     record {
       name = name;
       is_enum = is_enum;
       variants = variants;
       copy = derives (codes "Copy") ds;
-      drop_body = drop_body k.heads name;
+      drop_body = drop_body k.paths name;
     }
 
-abbrev added : (ItemTable → ItemTable) → Check (Unit {0})
+abbrev pub added : (ItemTable → ItemTable) → Check (Unit {0})
 added f = λ s. Ok (tt, record s { items = f s.items })
 
 -- a receiver: of a struct or an enum in an impl, of `dyn` in a trait
-abbrev receiver_ty : TyId → Receiver → Check TyId
+abbrev pub receiver_ty : TyId → Receiver → Check TyId
 receiver_ty own ByValue = pure own
 receiver_ty own ByShared = interned (Ty.Shared own)
 receiver_ty own ByUnique = interned (Ty.Unique own)
 
-abbrev param_ty : Around → Check TyId → Syn → Check TyId
+abbrev pub param_ty : Around → Check TyId → Syn → Check TyId
 param_ty around self (syn at (ParamOf p ty)) = written_param around ty
 param_ty around self (syn at (SelfParam receiver)) = self >>= (λ own. receiver_ty own receiver)
 param_ty around self (syn at _) = breaks Rule.T20 at
 
-abbrev answer_ty : Around → MaybeSyn → Check TyId
+abbrev pub answer_ty : Around → MaybeSyn → Check TyId
 answer_ty around nothing = pure unit
 answer_ty around (just ty) = written around ty
 
-abbrev own_ty : Pos → Option ℕ → Check TyId
+abbrev pub own_ty : Pos → Option ℕ → Check TyId
 own_ty at self_adt = do
   n ← known Rule.T01 at self_adt
   interned (Ty.Adt n)
 
-abbrev sig_of : Around → Check TyId → Word → Syns → MaybeSyn → Check Sig
+abbrev pub sig_of : Around → Check TyId → Word → Syns → MaybeSyn → Check Sig
 sig_of around self name params answer = do
   tys ← each_checked (param_ty around self) (list_of params)
   ty ← answer_ty around answer
   pure (record { name = name; params = tys; result = ty })
 
 -- the head of a trait's method; without `&self` or `&mut self`, which is refused later, it gets `&dyn`
-abbrev is_by_reference : Syn → Bool
+abbrev pub is_by_reference : Syn → Bool
 is_by_reference (syn at (SelfParam ByShared)) = true
 is_by_reference (syn at (SelfParam ByUnique)) = true
 is_by_reference _ = false
 
-abbrev has_receiver : Syns → Bool
+abbrev pub has_receiver : Syns → Bool
 has_receiver no_syn = false
 has_receiver (a_syn first rest) = is_by_reference first
 
-abbrev behind_self : Syns → Syns
+abbrev pub behind_self : Syns → Syns
 behind_self no_syn = no_syn
 behind_self (a_syn (syn at (SelfParam receiver)) rest) = rest
 behind_self (a_syn (syn at form) rest) = a_syn (syn at form) rest
 
-abbrev with_receiver : TyId → Sig → Sig
+abbrev pub with_receiver : TyId → Sig → Sig
 with_receiver ty sig = record sig { params = ty ∷ sig.params }
 
-abbrev trait_head : Around → TyId → Syn → Check Sig
+abbrev pub trait_head : Around → TyId → Syn → Check Sig
 trait_head around own (syn at (FnItem name params answer block)) =
     if has_receiver params then sig_of around (pure own) name.1 params answer
     else (interned (Ty.Shared own) >>= (λ self. sig_of around (pure own) name.1 (behind_self params) answer >>= (λ
@@ -154,14 +153,14 @@ pub record Count : Type 0 where
   pub in_outer : ℕ
   pub closures : ℕ
 
-abbrev body_added : Sig → Check (Unit {0})
+abbrev pub body_added : Sig → Check (Unit {0})
 body_added sig = added (λ items. with_body items sig)
 
-abbrev closure_param : Around → Syn → Check TyId
+abbrev pub closure_param : Around → Syn → Check TyId
 closure_param around (syn at (ParamOf p ty)) = or_unit (written around ty)
 closure_param around (syn at _) = pure unit
 
-abbrev body_sig : Known → Option Word → Count → Syn → Check Count
+abbrev pub body_sig : Known → Option Word → Count → Syn → Check Count
 body_sig k owner c (syn at (FnItem name params answer block)) = do
   let self_adt = option_and_then (number_of k.adts) owner
   sig ← sig_of (names_alone k self_adt) (own_ty at self_adt) (full_name owner name.1) params answer
@@ -176,7 +175,7 @@ body_sig k owner c (syn at (MoveOf captures params answer body)) = do
   pure (record c { in_outer = suc c.in_outer; closures = suc c.closures })
 body_sig k owner c (syn at _) = breaks Rule.T20 at
 
-abbrev body_sigs : Known → Option Word → Count → List Syn → Check Count
+abbrev pub body_sigs : Known → Option Word → Count → List Syn → Check Count
 body_sigs k owner c [] = pure c
 body_sigs k owner c (body ∷ bodies) = do
   d ← body_sig k owner c body
@@ -185,30 +184,30 @@ body_sigs k owner c (body ∷ bodies) = do
 -- ---- items
 
 -- the bodies of an impl in the order of the trait's methods
-abbrev impl_bodies : List BodyHead → Word → Word → List Sig → List ℕ
-impl_bodies heads owner trait_ methods = filter_map (λ m. method_body heads owner trait_ m.name) methods
+abbrev pub impl_bodies : List Word → Word → Word → List Sig → List ℕ
+impl_bodies paths owner trait_ methods = filter_map (λ m. method_body paths owner trait_ m.name) methods
 
-abbrev methods_of : Option TraitDef → List Sig
+abbrev pub methods_of : Option TraitDef → List Sig
 methods_of None = []
 methods_of (Some def) = def.methods
 
-abbrev impl_added : Known → ℕ → ℕ → Word → Word → Check (Unit {0})
+abbrev pub impl_added : Known → ℕ → ℕ → Word → Word → Check (Unit {0})
 impl_added k trait_no adt trait_ owner = added (λ items. with_impl items (record {
   trait_no = trait_no;
   adt = adt;
-  bodies = impl_bodies k.heads owner trait_ (methods_of (slice_get items.traits trait_no));
+  bodies = impl_bodies k.paths owner trait_ (methods_of (slice_get items.traits trait_no));
 }))
 
-abbrev is_drop : Word → Bool
+abbrev pub is_drop : Word → Bool
 is_drop name = bytes_eq name (codes "Drop")
 
-abbrev impl_head : Known → Option Named → Named → Check (Unit {0})
+abbrev pub impl_head : Known → Option Named → Named → Check (Unit {0})
 impl_head k None name = obeys Rule.T01 name.0 (is_some (number_of k.adts name.1))
 impl_head k (Some trait_) name = do
   obeys Rule.T01 trait_.0 (is_drop trait_.1 || is_some (number_of k.traits trait_.1))
   obeys Rule.T01 name.0 (is_some (number_of k.adts name.1))
 
-abbrev item_head : Known → Syn → Check (Unit {0})
+abbrev pub item_head : Known → Syn → Check (Unit {0})
 item_head k (syn at (StructItem ds name kind fields)) = do
   derives_known ds
   v ← variant_of (names_alone k (number_of k.adts name.1)) name.1 fields
@@ -218,14 +217,14 @@ item_head k (syn at (EnumItem ds name variants)) = do
   vs ← each_checked (declared_variant (names_alone k (number_of k.adts name.1))) (list_of variants)
   added (λ items. with_adt items (adt_of k ds name.1 true vs))
 item_head k (syn at (TraitItem name heads)) = do
-  n ← known Rule.T01 at (number_of k.traits name.1)
-  own ← interned (Ty.Dyn n)
+  items ← the_items
+  own ← interned (Ty.Dyn (length items.traits))
   sigs ← each_checked (trait_head (names_alone k None) own) (list_of heads)
   added (λ items. with_trait items (record { name = name.1; methods = sigs }))
 item_head k (syn at (ImplItem trait_ name methods)) = impl_head k trait_ name
 item_head k (syn at _) = pure tt
 
-abbrev heads_collected : Known → Count → List ItemSyn → Check (Unit {0})
+abbrev pub heads_collected : Known → Count → List ItemSyn → Check (Unit {0})
 heads_collected k c [] = pure tt
 heads_collected k c (i ∷ is) = do
   item_head k i.item
@@ -233,7 +232,7 @@ heads_collected k c (i ∷ is) = do
   heads_collected k d is
 
 -- impls come once all traits have their methods
-abbrev impl_of : Known → Syn → Check (Unit {0})
+abbrev pub impl_of : Known → Syn → Check (Unit {0})
 impl_of k (syn at (ImplItem (Some trait_) name methods)) =
     if is_drop trait_.1 then pure tt else (do
       n ← known Rule.T01 trait_.0 (number_of k.traits trait_.1)
@@ -244,63 +243,60 @@ impl_of k _ = pure tt
 -- ---- what structs and enums hold, and what they derive
 
 -- a type is held, at any depth but not through a box
-abbrev holds : ItemTable → TyId → TyId → Bool
+abbrev pub holds : ItemTable → TyId → TyId → Bool
 holds items part = by_rule items.types (λ known ty. list_any (λ h. is_same h part || known h) (held_by items ty))
 
-abbrev is_finite : ℕ → Pos → Check (Unit {0})
+abbrev pub is_finite : ℕ → Pos → Check (Unit {0})
 is_finite n at = do
   ty ← interned (Ty.Adt n)
   items ← the_items
   obeys Rule.T09 at (not (holds items ty ty))
 
-abbrev may_derive : ItemTable → List Named → Option Adt → Bool
+abbrev pub may_derive : ItemTable → List Named → Option Adt → Bool
 may_derive items ds None = true
 may_derive items ds (Some adt) =
     not (derives (codes "Copy") ds) || (derives (codes "Clone") ds && (not (is_some adt.drop_body) &&
     list_all (λ v. list_all (is_copy items) v.fields) adt.variants))
 
 -- the structs and enums in their order, each with its place and what it derives
-abbrev adt_item : Syn → Option (Pos × List Named)
+abbrev pub adt_item : Syn → Option (Pos × List Named)
 adt_item (syn at (StructItem ds name kind fields)) = Some (at, ds)
 adt_item (syn at (EnumItem ds name variants)) = Some (at, ds)
 adt_item _ = None
 
-abbrev all_finite : ℕ → List (Pos × List Named) → Check (Unit {0})
+abbrev pub all_finite : ℕ → List (Pos × List Named) → Check (Unit {0})
 all_finite n [] = pure tt
 all_finite n (a ∷ as_) = is_finite n a.0 >> all_finite (suc n) as_
 
-abbrev all_derive : ℕ → List (Pos × List Named) → Check (Unit {0})
+abbrev pub all_derive : ℕ → List (Pos × List Named) → Check (Unit {0})
 all_derive n [] = pure tt
 all_derive n (a ∷ as_) = do
   items ← the_items
   obeys Rule.T10 a.0 (may_derive items a.1 (slice_get items.adts n))
   all_derive (suc n) as_
 
-abbrev is_main : BodyHead → Bool
-is_main head = option_map_or (bytes_eq (codes "main")) head.name false && not (is_some head.owner)
-
 -- ---- the whole
 
-abbrev known_of : List ItemSyn → Known
+abbrev pub known_of : List ItemSyn → Known
 known_of items =
-    record { adts = adt_names (item_syns items); traits = trait_names (item_syns items); heads = body_heads items }
+    record { adts = adt_names (item_syns items); traits = trait_names (item_syns items); paths = body_paths items }
 
-abbrev collecting : List ItemSyn → Pos → Check (Unit {0})
+abbrev pub collecting : List ItemSyn → Pos → Check (Unit {0})
 collecting items end = do
   names_differ (filter_map item_name (item_syns items)) []
   heads_collected (known_of items) (record { outer = []; in_outer = 0; closures = 0 }) items
   _ ← each_checked (impl_of (known_of items)) (item_syns items)
   all_finite 0 (filter_map adt_item (item_syns items))
   all_derive 0 (filter_map adt_item (item_syns items))
-  obeys Rule.T01 end (list_any is_main (body_heads items))
+  obeys Rule.T01 end (is_some (number_of (body_paths items) (codes "main")))
 
-abbrev no_items : ItemTable
+abbrev pub no_items : ItemTable
 no_items = record { types = scalars; adts = []; traits = []; impls = []; closures = []; bodies = [] }
 
 abbrev pub starting_with : ItemTable → State
 starting_with items = record { items = items; next_node = 0; next_body = 0; breaks = []; bodies = [] }
 
-abbrev items_in : {A : Type 0} → Result (A × State) Broken → Result ItemTable Broken
+abbrev pub items_in : {A : Type 0} → Result (A × State) Broken → Result ItemTable Broken
 items_in (Ok a) = Ok a.1.items
 items_in (Err e) = Err e
 

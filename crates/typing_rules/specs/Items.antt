@@ -1,6 +1,6 @@
 -- What a text's items are by their names: which structs and enums, traits and bodies there are, in the order of their
 -- numbers, before any type is looked at.
-use Rattle.std.specs.Prelude.{ℕ, Bool, true, false, ◌&&◌, List, [], ◌∷◌, ◌++◌, map, Option, Some, None, codes}
+use Rattle.std.specs.Prelude.{ℕ, Bool, true, false, List, [], ◌∷◌, ◌++◌, map, Option, Some, None, codes}
 use Rattle.std.specs.List.{position as position_of, filter_map, flat_map}
 use Rattle.std.specs.Str.{bytes_eq}
 use Rattle.mir_base.specs.declared.place_in_text.Pos.{Pos}
@@ -78,43 +78,40 @@ items_of (sub g rest) = record { item = view g; bodies = bodies_in g } ∷ items
 abbrev pub item_syns : List ItemSyn → List Syn
 item_syns items = map (λ i. i.item) items
 
--- whose method a body is, by which impl, and its own name; none for a closure
-pub record BodyHead : Type 0 where
-  pub owner : Option Word
-  pub trait_ : Option Word
-  pub name : Option Word
-
-abbrev impl_trait : Syn → Option Word
-impl_trait (syn at (ImplItem (Some trait_) name methods)) = Some trait_.1
-impl_trait _ = None
-
 abbrev pub impl_owner : Syn → Option Word
 impl_owner (syn at (ImplItem trait_ name methods)) = Some name.1
 impl_owner _ = None
 
-abbrev own_name : Syn → Option Word
+abbrev pub own_name : Syn → Option Word
 own_name (syn at (FnItem name params answer block)) = Some name.1
 own_name _ = None
 
-abbrev body_head : Syn → Syn → BodyHead
-body_head item body = record { owner = impl_owner item; trait_ = impl_trait item; name = own_name body }
+-- a body by its path (The Rust Reference, "Paths"): `<S as T>::m` of the method of an impl of a trait, `<S>::m` of
+-- another method, and a function's own name; a closure has none
+abbrev pub method_path : Word → Word → Word → Word
+method_path owner trait_ name = codes "<" ++ owner ++ codes " as " ++ trait_ ++ codes ">::" ++ name
 
-abbrev pub body_heads : List ItemSyn → List BodyHead
-body_heads items = flat_map (λ i. map (body_head i.item) i.bodies) items
+abbrev pub path_in : Syn → Word → Word
+path_in (syn at (ImplItem (Some trait_) owner methods)) name = method_path owner.1 trait_.1 name
+path_in (syn at (ImplItem None owner methods)) name = codes "<" ++ owner.1 ++ codes ">::" ++ name
+path_in _ name = name
 
-abbrev is_word : Word → Option Word → Bool
-is_word word None = false
-is_word word (Some other) = bytes_eq word other
+abbrev pub path_or_none : Syn → Option Word → Word
+path_or_none item None = []
+path_or_none item (Some name) = path_in item name
 
--- the body of a method of an impl
-abbrev is_method : Word → Word → Word → BodyHead → Bool
-is_method owner trait_ name head = is_word owner head.owner && (is_word trait_ head.trait_ && is_word name head.name)
+abbrev pub body_path : Syn → Syn → Word
+body_path item body = path_or_none item (own_name body)
 
-abbrev pub method_body : List BodyHead → Word → Word → Word → Option ℕ
-method_body heads owner trait_ name = position_of (is_method owner trait_ name) heads
+abbrev pub body_paths : List ItemSyn → List Word
+body_paths items = flat_map (λ i. map (body_path i.item) i.bodies) items
 
-abbrev pub drop_body : List BodyHead → Word → Option ℕ
-drop_body heads owner = method_body heads owner (codes "Drop") (codes "drop")
+-- the body of a method of an impl of a trait
+abbrev pub method_body : List Word → Word → Word → Word → Option ℕ
+method_body paths owner trait_ name = position_of (bytes_eq (method_path owner trait_ name)) paths
+
+abbrev pub drop_body : List Word → Word → Option ℕ
+drop_body paths owner = method_body paths owner (codes "Drop") (codes "drop")
 
 -- the name of a body: a function's own, `S::m` of a method, `f::closure#1` of a closure in f
 abbrev pub full_name : Option Word → Word → Word

@@ -1,5 +1,5 @@
 -- Types as they are written (The Rust Reference, "Types").
-use Rattle.std.specs.Prelude.{ℕ, Bool, true, false, ◌||◌, not, List, [], ◌∷◌, length, nat_le, Option, Some, None, if◌then◌else◌, codes, Result, Ok, Err}
+use Rattle.std.specs.Prelude.{ℕ, Bool, true, false, ◌||◌, not, List, [], ◌∷◌, length, min, nat_le, Option, Some, None, if◌then◌else◌, codes, Result, Ok, Err}
 use Rattle.std.specs.List.{position as position_of}
 use Rattle.std.specs.Str.{bytes_eq}
 use Rattle.mir_base.specs.declared.int_kind.IntKind.{IntKind}
@@ -37,6 +37,10 @@ abbrev pub is_usize : Option IntKind → Bool
 is_usize None = true
 is_usize (Some IntKind.Usize) = true
 is_usize (Some _) = false
+
+-- a length that no number of 32 bits can have stands as the greatest of them, where it is not refused
+abbrev pub length_shown : ℕ → ℕ
+length_shown count = min count 4294967295
 
 abbrev pub reference_to : Bool → TyId → Ty
 reference_to unique to = if unique then Ty.Unique to else Ty.Shared to
@@ -80,7 +84,7 @@ module _ (around : Around) where
       ty ← written element
       obeys Rule.T03 at (not around.has_limits || is_usize suffix)
       obeys Rule.T19 at (not around.has_limits || nat_le count 32)
-      interned (Ty.Array ty count)
+      interned (Ty.Array ty (length_shown count))
     written_form at NeverType = pure never
     written_form at (RefType unique to) = do
       ty ← written to

@@ -64,7 +64,7 @@ equal_is _ _ = λ h. absurd (let no_ : IsTrue false = h in cc)
 
 -- ---- where a type stands in the table
 
-found_at : (ty : Ty) (tys : List Ty) (n : ℕ) → position_of (is_equal ty) tys ≡ Some n → slice_get tys n ≡ Some ty
+pub found_at : (ty : Ty) (tys : List Ty) (n : ℕ) → position_of (is_equal ty) tys ≡ Some n → slice_get tys n ≡ Some ty
 found_at ty tys n h =
     let at = position-Some (is_equal ty) tys n ty h in
     slice_get-get_or tys n ty at.0 ∙ ap Some (sym (equal_is ty _ at.1))
@@ -91,7 +91,7 @@ some_below p tys h is = by (nat_lt (position_or_len p tys) (length tys)) (lt-ltb
     by true e is = none-some _ (sym is)
     by false e is = false≢true e
 
-not_there : (ty : Ty) (tys : List Ty) → position_of (is_equal ty) tys ≡ None → (k : ℕ) → slice_get tys k ≡ Some ty → ⊥
+pub not_there : (ty : Ty) (tys : List Ty) → position_of (is_equal ty) tys ≡ None → (k : ℕ) → slice_get tys k ≡ Some ty → ⊥
 not_there ty tys h k is = some_below (is_equal ty) tys (below_if (is_equal ty) tys k ty is (equal_self ty)) h
 
 -- ---- one more type

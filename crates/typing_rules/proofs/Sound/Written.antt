@@ -160,9 +160,9 @@ module _ (around : Around) (limits : around.has_limits ≡ true) where
         bind (written_sound element s) λ ty t g d.
         obeyed Rule.T03 at (not around.has_limits || rules.is_usize suffix) _ λ usize.
         obeyed Rule.T19 at (not around.has_limits || nat_le count 32) _ λ few.
-        weaker (λ w x. IsAlone w.items x) (interned_sound (Ty.Array ty count) t (array_made t.items ty count (d t
+        weaker (λ w x. IsAlone w.items x) (interned_sound (Ty.Array ty (rules.length_shown count)) t (array_made t.items ty (rules.length_shown count) (d t
         (grows_refl
-        t)))) λ x w ready l is. (Ty.Array ty count, is, tt)
+        t)))) λ x w ready l is. (Ty.Array ty (rules.length_shown count), is, tt)
     written_form_sound at NeverType s = with_ready λ all. given _ λ r w g. never_ready w.items (g.ready all)
     written_form_sound at (RefType unique to) s =
         bind (written_sound to s) λ ty t g d.

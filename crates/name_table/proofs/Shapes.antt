@@ -1,0 +1,189 @@
+-- Nodes by the forms that are borrowed from them: what a definition says of a node is what it says of its form.
+use Rattle.std.proofs.Common.{◌≡◌, ℕ, zero, suc, ◌<◌, ◌≤◌, Bool, true, false, Option, Some, None, refl, ap, sym, subst, ◌∙◌, arith}
+use Rattle.std.specs.Prelude.{◌==◌}
+use Rattle.mir_base.specs.declared.place_in_text.Pos.{Pos}
+use Rattle.src_tree.specs.declared.node.Node.{Node}
+use Rattle.src_ast.specs.Seen.{syn_of}
+use Rattle.src_ast.specs.Sorts.{sort_of, some_if, type_part}
+use Rattle.src_ast.specs.Syntax.{Syn, syn, Shape, at_of, shape_of, Ident, LabelOf, Literal, TruthLiteral, Path, Minus, Bang, Star, Ampersand, Calculate, Compare, Both, Either, Store, CallOf, MethodOf, FieldOf, PartOf, ElementOf, StructOf, FieldInit, Parens, TupleOf, ArrayOf, Braces, IfElse, IfLetElse, MatchOn, ArmOf, LoopOf, WhileOf, WhileLetOf, BreakOf, ContinueOf, ReturnOf, MoveOf, PanicOf, LetOf, Empty, Semi, AnyPattern, BindPattern, LiteralPattern, TruthPattern, PathPattern, PartsPattern, FieldsPattern, FieldPattern, ParensPattern, TuplePattern, ArrayPattern, Alternatives, NamedType, GenericType, DynType, SelfType, ParensType, TupleType, ArrayType, NeverType, RefType, StructItem, EnumItem, FieldDecl, VariantDecl, TraitItem, ImplItem, FnItem, ParamOf, SelfParam, Odd}
+use Rattle.src_ast.proofs.Named.{seen_as}
+use Rattle.typing_rules.specs.Check.{State, Broken, breaks}
+use Rattle.typing_rules.specs.Written.{Around, written, written_form, written_param, written_param_form}
+use Rattle.name_table.specs.Forms.{written_as, param_as}
+use Rattle.name_table.specs.Sizes.{size, form_size, seen_size}
+
+-- ---- types
+
+type_form_seen : (a : Around) (at : Pos) (form : Shape) (s : State) →
+    written_form a at form s ≡ written_as a at (type_part form) s
+type_form_seen w at (Ident a) s = refl
+type_form_seen w at (LabelOf a) s = refl
+type_form_seen w at (Literal a b) s = refl
+type_form_seen w at (TruthLiteral a) s = refl
+type_form_seen w at (Path a b) s = refl
+type_form_seen w at (Minus a) s = refl
+type_form_seen w at (Bang a) s = refl
+type_form_seen w at (Star a) s = refl
+type_form_seen w at (Ampersand a b) s = refl
+type_form_seen w at (Calculate a b c) s = refl
+type_form_seen w at (Compare a b c) s = refl
+type_form_seen w at (Both a b) s = refl
+type_form_seen w at (Either a b) s = refl
+type_form_seen w at (Store a b) s = refl
+type_form_seen w at (CallOf a b) s = refl
+type_form_seen w at (MethodOf a b c) s = refl
+type_form_seen w at (FieldOf a b) s = refl
+type_form_seen w at (PartOf a b) s = refl
+type_form_seen w at (ElementOf a b) s = refl
+type_form_seen w at (StructOf a b c) s = refl
+type_form_seen w at (FieldInit a b) s = refl
+type_form_seen w at (Parens a) s = refl
+type_form_seen w at (TupleOf a) s = refl
+type_form_seen w at (ArrayOf a) s = refl
+type_form_seen w at (Braces a b) s = refl
+type_form_seen w at (IfElse a b c) s = refl
+type_form_seen w at (IfLetElse a b c d) s = refl
+type_form_seen w at (MatchOn a b) s = refl
+type_form_seen w at (ArmOf a b c) s = refl
+type_form_seen w at (LoopOf a b) s = refl
+type_form_seen w at (WhileOf a b c) s = refl
+type_form_seen w at (WhileLetOf a b c d) s = refl
+type_form_seen w at (BreakOf a b) s = refl
+type_form_seen w at (ContinueOf a) s = refl
+type_form_seen w at (ReturnOf a) s = refl
+type_form_seen w at (MoveOf a b c d) s = refl
+type_form_seen w at PanicOf s = refl
+type_form_seen w at (LetOf a b c) s = refl
+type_form_seen w at Empty s = refl
+type_form_seen w at (Semi a) s = refl
+type_form_seen w at AnyPattern s = refl
+type_form_seen w at (BindPattern a) s = refl
+type_form_seen w at (LiteralPattern a b c) s = refl
+type_form_seen w at (TruthPattern a) s = refl
+type_form_seen w at (PathPattern a b) s = refl
+type_form_seen w at (PartsPattern a b c d) s = refl
+type_form_seen w at (FieldsPattern a b c d) s = refl
+type_form_seen w at (FieldPattern a b) s = refl
+type_form_seen w at (ParensPattern a) s = refl
+type_form_seen w at (TuplePattern a b) s = refl
+type_form_seen w at (ArrayPattern a b) s = refl
+type_form_seen w at (Alternatives a) s = refl
+type_form_seen w at (NamedType a) s = refl
+type_form_seen w at (GenericType a b) s = refl
+type_form_seen w at (DynType a b) s = refl
+type_form_seen w at SelfType s = refl
+type_form_seen w at (ParensType a) s = refl
+type_form_seen w at (TupleType a) s = refl
+type_form_seen w at (ArrayType a b c) s = refl
+type_form_seen w at NeverType s = refl
+type_form_seen w at (RefType a b) s = refl
+type_form_seen w at (StructItem a b c d) s = refl
+type_form_seen w at (EnumItem a b c) s = refl
+type_form_seen w at (FieldDecl a b) s = refl
+type_form_seen w at (VariantDecl a b c) s = refl
+type_form_seen w at (TraitItem a b) s = refl
+type_form_seen w at (ImplItem a b c) s = refl
+type_form_seen w at (FnItem a b c d) s = refl
+type_form_seen w at (ParamOf a b) s = refl
+type_form_seen w at (SelfParam a) s = refl
+type_form_seen w at Odd s = refl
+
+type_as : (a : Around) (x : Syn) (s : State) → written a x s ≡ written_as a (at_of x) (type_part (shape_of x)) s
+type_as w (syn at form) s = type_form_seen w at form s
+
+pub type_seen : (a : Around) (n : Node) (s : State) →
+    written a (syn_of n) s ≡ written_as a n.at (type_part (shape_of (syn_of n))) s
+type_seen a n s =
+    type_as a (syn_of n) s ∙ ap (λ (x : Syn). written_as a (at_of x) (type_part (shape_of (syn_of n))) s) (seen_as n)
+
+part_size : (b : Bool) (form : Shape) → seen_size (some_if b form) < suc (form_size form)
+part_size true form = omega arith
+part_size false form = omega arith
+
+syn_size : (x : Syn) → seen_size (type_part (shape_of x)) < size x
+syn_size (syn at form) = part_size (sort_of form == 4) form
+
+pub type_size : (n : Node) → seen_size (type_part (shape_of (syn_of n))) < size (syn_of n)
+type_size n = syn_size (syn_of n)
+
+param_form_seen : (a : Around) (at : Pos) (form : Shape) (s : State) →
+    written_param_form a at form s ≡ param_as a at (type_part form) s
+param_form_seen w at (Ident a) s = refl
+param_form_seen w at (LabelOf a) s = refl
+param_form_seen w at (Literal a b) s = refl
+param_form_seen w at (TruthLiteral a) s = refl
+param_form_seen w at (Path a b) s = refl
+param_form_seen w at (Minus a) s = refl
+param_form_seen w at (Bang a) s = refl
+param_form_seen w at (Star a) s = refl
+param_form_seen w at (Ampersand a b) s = refl
+param_form_seen w at (Calculate a b c) s = refl
+param_form_seen w at (Compare a b c) s = refl
+param_form_seen w at (Both a b) s = refl
+param_form_seen w at (Either a b) s = refl
+param_form_seen w at (Store a b) s = refl
+param_form_seen w at (CallOf a b) s = refl
+param_form_seen w at (MethodOf a b c) s = refl
+param_form_seen w at (FieldOf a b) s = refl
+param_form_seen w at (PartOf a b) s = refl
+param_form_seen w at (ElementOf a b) s = refl
+param_form_seen w at (StructOf a b c) s = refl
+param_form_seen w at (FieldInit a b) s = refl
+param_form_seen w at (Parens a) s = refl
+param_form_seen w at (TupleOf a) s = refl
+param_form_seen w at (ArrayOf a) s = refl
+param_form_seen w at (Braces a b) s = refl
+param_form_seen w at (IfElse a b c) s = refl
+param_form_seen w at (IfLetElse a b c d) s = refl
+param_form_seen w at (MatchOn a b) s = refl
+param_form_seen w at (ArmOf a b c) s = refl
+param_form_seen w at (LoopOf a b) s = refl
+param_form_seen w at (WhileOf a b c) s = refl
+param_form_seen w at (WhileLetOf a b c d) s = refl
+param_form_seen w at (BreakOf a b) s = refl
+param_form_seen w at (ContinueOf a) s = refl
+param_form_seen w at (ReturnOf a) s = refl
+param_form_seen w at (MoveOf a b c d) s = refl
+param_form_seen w at PanicOf s = refl
+param_form_seen w at (LetOf a b c) s = refl
+param_form_seen w at Empty s = refl
+param_form_seen w at (Semi a) s = refl
+param_form_seen w at AnyPattern s = refl
+param_form_seen w at (BindPattern a) s = refl
+param_form_seen w at (LiteralPattern a b c) s = refl
+param_form_seen w at (TruthPattern a) s = refl
+param_form_seen w at (PathPattern a b) s = refl
+param_form_seen w at (PartsPattern a b c d) s = refl
+param_form_seen w at (FieldsPattern a b c d) s = refl
+param_form_seen w at (FieldPattern a b) s = refl
+param_form_seen w at (ParensPattern a) s = refl
+param_form_seen w at (TuplePattern a b) s = refl
+param_form_seen w at (ArrayPattern a b) s = refl
+param_form_seen w at (Alternatives a) s = refl
+param_form_seen w at (NamedType a) s = refl
+param_form_seen w at (GenericType a b) s = refl
+param_form_seen w at (DynType a b) s = refl
+param_form_seen w at SelfType s = refl
+param_form_seen w at (ParensType a) s = refl
+param_form_seen w at (TupleType a) s = refl
+param_form_seen w at (ArrayType a b c) s = refl
+param_form_seen w at NeverType s = refl
+param_form_seen w at (RefType a b) s = refl
+param_form_seen w at (StructItem a b c d) s = refl
+param_form_seen w at (EnumItem a b c) s = refl
+param_form_seen w at (FieldDecl a b) s = refl
+param_form_seen w at (VariantDecl a b c) s = refl
+param_form_seen w at (TraitItem a b) s = refl
+param_form_seen w at (ImplItem a b c) s = refl
+param_form_seen w at (FnItem a b c d) s = refl
+param_form_seen w at (ParamOf a b) s = refl
+param_form_seen w at (SelfParam a) s = refl
+param_form_seen w at Odd s = refl
+
+param_plain : (a : Around) (x : Syn) (s : State) → written_param a x s ≡ param_as a (at_of x) (type_part (shape_of x)) s
+param_plain w (syn at form) s = param_form_seen w at form s
+
+pub param_seen : (a : Around) (n : Node) (s : State) →
+    written_param a (syn_of n) s ≡ param_as a n.at (type_part (shape_of (syn_of n))) s
+param_seen a n s =
+    param_plain a (syn_of n) s ∙ ap (λ (x : Syn). param_as a (at_of x) (type_part (shape_of (syn_of n))) s) (seen_as n)
