@@ -3,3 +3,7 @@ pub mod Interning
 pub mod Numbering
 pub mod Shapes
 pub mod Types
+pub mod Decimal
+pub mod Kept
+pub mod Fields
+pub mod Variants

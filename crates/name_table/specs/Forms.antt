@@ -1,14 +1,20 @@
 -- The definitions over forms that are borrowed from a tree: `None` is a node that is none of the sort.
-use Rattle.std.specs.Prelude.{ℕ, ◌||◌, not, nat_le, Option, Some, None}
+use Rattle.std.specs.Prelude.{◌≡◌, ℕ, ◌<◌, ⊤, true, false, List, [], ◌∷◌, length, ◌||◌, not, nat_le, Option, Some, None}
 use Rattle.mir_base.specs.declared.int_kind.IntKind.{IntKind}
 use Rattle.mir_ty.specs.declared.ty.Ty.{Ty}
 use Rattle.mir_base.specs.declared.place_in_text.Pos.{Pos}
 use Rattle.mir_base.specs.declared.rule.Rule.{Rule}
+use Rattle.mir_ty.specs.declared.adt.Variant.{Variant}
+use Rattle.mir_ty.specs.ItemTable.{with_adt}
 use Rattle.mir_ty.specs.declared.ty.TyId.{TyId}
 use Rattle.name_table.specs.declared.written.Scope.{Scope}
-use Rattle.src_ast.specs.Syntax.{Shape}
-use Rattle.typing_rules.specs.Check.{Check, breaks, obeys, interned, ◌>>=◌, ◌>>◌}
-use Rattle.typing_rules.specs.Written.{Around, written_form, written_param_form, is_usize, length_shown}
+use Rattle.name_table.specs.declared.known.Known.{Known}
+use Rattle.name_table.specs.declared.heads.Own.{Own}
+use Rattle.typing_rules.specs.Collected as walk
+use Rattle.typing_rules.specs.Collected.{own_ty, receiver_ty, param_ty, derives_known, variant_of, declared_variant, adt_of, added, names_alone}
+use Rattle.src_ast.specs.Syntax.{Word, Named, Syns, list_of, number_word, Receiver, Syn, syn, FieldDecl, Shape}
+use Rattle.typing_rules.specs.Check.{Check, each_checked, pure, breaks, obeys, interned, ◌>>=◌, ◌>>◌}
+use Rattle.typing_rules.specs.Written.{Around, written_form, written_param_form, is_usize, length_shown, number_of}
 
 abbrev pub around_of : Scope → Around
 around_of scope =
@@ -37,3 +43,60 @@ abbrev pub array_by : Around → Pos → ℕ → Option IntKind → TyId → Che
 array_by around at count suffix ty = do
   obeys Rule.T03 at (not around.has_limits || is_usize suffix)
   array_short around at count ty
+
+-- ---- heads
+
+abbrev pub known_of : Known → walk.Known
+known_of k = record { adts = k.adts; traits = k.traits; paths = k.paths }
+
+-- the type of `self`
+abbrev pub own_by : Around → Own → Check TyId
+own_by around (Own.Around at) = own_ty at around.self_adt
+own_by around (Own.Given ty) = pure ty
+
+abbrev pub IsOwn : List Ty → Own → Type 0
+IsOwn types (Own.Around at) = ⊤
+IsOwn types (Own.Given ty) = ty.0 < length types
+
+abbrev pub own_receiver : Around → Own → Receiver → Check TyId
+own_receiver around own receiver = own_by around own >>= (λ ty. receiver_ty ty receiver)
+
+abbrev pub head_param : Around → Check TyId → Pos → Option Shape → Check TyId
+head_param around self at None = breaks Rule.T20 at
+head_param around self at (Some form) = param_ty around self (syn at form)
+
+-- ---- fields
+
+abbrev pub field_type_by : Syn → Option Shape → Syn
+field_type_by x (Some (FieldDecl name ty)) = ty
+field_type_by x _ = x
+
+abbrev pub field_name_by : ℕ → Option Shape → Word
+field_name_by k (Some (FieldDecl name ty)) = name
+field_name_by k _ = number_word k
+
+-- ---- structs and enums
+
+abbrev pub variant_by : Around → Pos → Option Shape → Check Variant
+variant_by around at None = breaks Rule.T20 at
+variant_by around at (Some form) = declared_variant around (syn at form)
+
+-- one variant, of this name
+abbrev pub is_one : Word → List Variant → Type 0
+is_one name variants = (variant : Variant) × (variants ≡ variant ∷ []) × (variant.name ≡ name)
+
+abbrev pub struct_by : walk.Known → List Named → Word → Syns → Check (Unit {0})
+struct_by k ds name fields = do
+  derives_known ds
+  v ← variant_of (names_alone k (number_of k.adts name)) name fields
+  added (λ items. with_adt items (adt_of k ds name false (v ∷ [])))
+
+abbrev pub variants_in : walk.Known → Word → Syns → Check (List Variant)
+variants_in k name variants =
+    each_checked (declared_variant (names_alone k (number_of k.adts name))) (list_of variants)
+
+abbrev pub enum_by : walk.Known → List Named → Word → Syns → Check (Unit {0})
+enum_by k ds name variants = do
+  derives_known ds
+  vs ← variants_in k name variants
+  added (λ items. with_adt items (adt_of k ds name true vs))

@@ -1,9 +1,15 @@
 //! The items of a text by their names, or the first broken rule on items.
 #![tactic(auto)]
 
+mod adts;
+mod declared;
+mod heads;
+mod known;
 mod names;
 mod steps;
 mod written;
 
+pub use heads::{Own, head};
+pub use known::Known;
 pub use names::NameTable;
 pub use written::Scope;

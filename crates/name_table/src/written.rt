@@ -19,6 +19,7 @@ use src_tree::Node;
 use std::alloc::Global;
 
 /// Which names a written type may have, and which rules are asked of it.
+#[derive(Drop)]
 pub struct Scope<'a> {
     pub alloc: Global,
     /// All rules, or those on names alone.
@@ -308,5 +309,23 @@ pub fn written(items: &mut Items, scope: &Scope, node: &Node) -> Result<TyId, Ru
         TypeForm::Never => Ok(TyId(2)),
         TypeForm::Reference { unique, to } => reference(items, scope, at, unique, to),
         TypeForm::Other => Err(broken(Rule::T20, at)),
+    }
+}
+
+/// The type of a parameter as it is written, which may be a reference.
+#[tactic(auto, using(crate::proofs::Shapes::type_seen, crate::proofs::Shapes::param_seen))]
+pub fn written_param(items: &mut Items, scope: &Scope, node: &Node) -> Result<TyId, RuleError>
+    requires { 8 ≤ length items.old.types }
+    ensures answers { Answers (types.written_param (around_of scope.now) (syn_of node.now) (starting_with items.old)) result items.new }
+    ensures grows { length items.old.types ≤ length items.new.types }
+    ensures known { IfOk result (λ id. id.0 < length items.new.types) }
+{
+    match type_form(node) {
+        TypeForm::Parens(inside) => written_param(items, scope, inside),
+        TypeForm::Reference { unique, to } => {
+            let id = written(items, scope, to)?;
+            reference_of(items, unique, id)
+        }
+        _ => written(items, scope, node),
     }
 }

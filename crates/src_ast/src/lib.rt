@@ -22,4 +22,4 @@ pub use part::{FieldForm, ParamForm, Receiver, VariantForm, field_form, param_fo
 pub use path::PathForm;
 pub use pattern::{FieldPatternForm, PatternForm, field_pattern_form, pattern_form};
 pub use statement::{StatementForm, is_statement, statement_form};
-pub use ty::{TypeForm, type_form};
+pub use ty::{TypeForm, name_of, type_form};
