@@ -1,10 +1,10 @@
 -- Fields by the forms that are borrowed from them.
-use Rattle.std.proofs.Common.{◌≡◌, ℕ, zero, suc, ◌+◌, List, [], ◌∷◌, ◌++◌, length, append_assoc, Option, Some, None, Result, Ok, Err, refl, ap, sym, ◌∙◌, arith, add-one, length-append}
+use Rattle.std.proofs.Common.{◌≡◌, ℕ, suc, List, [], ◌∷◌, ◌++◌, length, append_assoc, Result, Ok, Err, refl, ap, sym, ◌∙◌, add-one, length-append}
 use Rattle.mir_base.specs.declared.place_in_text.Pos.{Pos}
 use Rattle.src_tree.specs.declared.node.Node.{Node}
 use Rattle.src_ast.specs.Seen.{syn_of}
 use Rattle.src_ast.specs.Sorts.{field_part}
-use Rattle.src_ast.specs.Syntax.{Word, Syn, syn, Syns, a_syn, Shape, at_of, shape_of, list_of, Ident, LabelOf, Literal, TruthLiteral, Path, Minus, Bang, Star, Ampersand, Calculate, Compare, Both, Either, Store, CallOf, MethodOf, FieldOf, PartOf, ElementOf, StructOf, FieldInit, Parens, TupleOf, ArrayOf, Braces, IfElse, IfLetElse, MatchOn, ArmOf, LoopOf, WhileOf, WhileLetOf, BreakOf, ContinueOf, ReturnOf, MoveOf, PanicOf, LetOf, Empty, Semi, AnyPattern, BindPattern, LiteralPattern, TruthPattern, PathPattern, PartsPattern, FieldsPattern, FieldPattern, ParensPattern, TuplePattern, ArrayPattern, Alternatives, NamedType, GenericType, DynType, SelfType, ParensType, TupleType, ArrayType, NeverType, RefType, StructItem, EnumItem, FieldDecl, VariantDecl, TraitItem, ImplItem, FnItem, ParamOf, SelfParam, Odd}
+use Rattle.src_ast.specs.Syntax.{Word, Syn, syn, Syns, a_syn, Shape, shape_of, list_of, Ident, LabelOf, Literal, TruthLiteral, Path, Minus, Bang, Star, Ampersand, Calculate, Compare, Both, Either, Store, CallOf, MethodOf, FieldOf, PartOf, ElementOf, StructOf, FieldInit, Parens, TupleOf, ArrayOf, Braces, IfElse, IfLetElse, MatchOn, ArmOf, LoopOf, WhileOf, WhileLetOf, BreakOf, ContinueOf, ReturnOf, MoveOf, PanicOf, LetOf, Empty, Semi, AnyPattern, BindPattern, LiteralPattern, TruthPattern, PathPattern, PartsPattern, FieldsPattern, FieldPattern, ParensPattern, TuplePattern, ArrayPattern, Alternatives, NamedType, GenericType, DynType, SelfType, ParensType, TupleType, ArrayType, NeverType, RefType, StructItem, EnumItem, FieldDecl, VariantDecl, TraitItem, ImplItem, FnItem, ParamOf, SelfParam, Odd}
 use Rattle.typing_rules.specs.Check.{Check, State, Broken, and_then, pure, each_checked}
 use Rattle.typing_rules.specs.Collected.{field_type, field_name, names_from}
 use Rattle.name_table.proofs.Kept.{state_in}
@@ -199,6 +199,7 @@ each_length {A} f (x ∷ xs) s t ys h = by (f x s) (λ u zs i. each_length f xs 
         let state : p.1 ≡ t = ap (state_in t) h in
         ap (λ o. length (given_in o)) (sym h) ∙ ap suc (rest p.0 (ap (λ z. Ok (p.0, z)) state))
     on y (Err e) rest h = absurd (cc)
+
     by : (o : Result (A × State) Broken) → ((u : State) (zs : List A) → each_checked f xs u ≡ Ok (zs, t) → length zs ≡ length xs) →
         and_then o (λ y. λ u. and_then (each_checked f xs u) (λ zs. pure (y ∷ zs))) ≡ Ok (ys, t) → length ys ≡ suc (length xs)
     by (Ok p) rest h = on p.0 (each_checked f xs p.1) (rest p.1) h

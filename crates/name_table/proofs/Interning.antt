@@ -1,5 +1,5 @@
 -- The number that items give a type is the one of the definitions.
-use Rattle.std.proofs.Common.{◌≡◌, ℕ, List, length, slice_get, Option, Some, None, Ok, Contains, ◌⊎◌, inl, inr, refl, ap, sym, ◌∙◌}
+use Rattle.std.proofs.Common.{◌≡◌, ℕ, length, slice_get, Option, Some, None, Ok, Contains, ◌⊎◌, inl, inr, refl, ap, sym, ◌∙◌}
 use Rattle.std.specs.List.{position as position_of}
 use Rattle.mir_ty.specs.declared.ty.Ty.{Ty}
 use Rattle.mir_ty.specs.declared.ty.TyId.{TyId}
@@ -7,7 +7,7 @@ use Rattle.mir_ty.specs.AreItems.{AreDistinct}
 use Rattle.mir_ty.specs.ItemTable.{ItemTable, Interns, with_type, type_at}
 use Rattle.mir_ty.proofs.ListLemmas.{Contains-slice_get}
 use Rattle.well_typed.specs.Items.{is_equal}
-use Rattle.typing_rules.specs.Check.{State, interned, interned_at, ty_no}
+use Rattle.typing_rules.specs.Check.{interned, interned_at}
 use Rattle.typing_rules.specs.Collected.{starting_with}
 use Rattle.typing_rules.proofs.Sound.Interned.{found_at, not_there}
 
@@ -17,6 +17,7 @@ interned_as old new ty id distinct interns (Some n) at = by interns.1
   where
     there : slice_get old.types n ≡ Some ty
     there = found_at ty old.types n at
+
     by : (new ≡ old) ⊎ ((¬ Contains old.types ty) × (id.0 ≡ length old.types) × (new ≡ with_type old ty)) →
         interned_at ty (Some n) (starting_with old) ≡ Ok (id, starting_with new)
     by (inl same) =

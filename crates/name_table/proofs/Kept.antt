@@ -1,5 +1,5 @@
 -- What a walk keeps: the types that are there, by their numbers, and the traits.
-use Rattle.std.proofs.Common.{◌≡◌, ℕ, Bool, true, false, not, ◌||◌, nat_le, if◌then◌else◌, List, [], ◌∷◌, ◌++◌, length, slice_get, Option, Some, None, Result, Ok, Err, refl, ap, sym, subst, ◌∙◌}
+use Rattle.std.proofs.Common.{◌≡◌, ℕ, Bool, true, false, not, ◌||◌, nat_le, List, [], ◌∷◌, ◌++◌, length, slice_get, Option, Some, None, Result, Ok, Err, refl, ap, subst, ◌∙◌}
 use Rattle.std.specs.List.{position as position_of}
 use Rattle.mir_base.specs.declared.place_in_text.Pos.{Pos}
 use Rattle.mir_base.specs.declared.rule.Rule.{Rule}
@@ -7,9 +7,9 @@ use Rattle.mir_ty.specs.declared.ty.Ty.{Ty}
 use Rattle.mir_ty.specs.declared.ty.TyId.{TyId}
 use Rattle.mir_ty.proofs.ListLemmas.{slice_get-append_left}
 use Rattle.well_typed.specs.Items.{is_equal}
-use Rattle.src_ast.specs.Syntax.{Word, Syn, syn, Shape, NamedType, GenericType, DynType, SelfType, ParensType, TupleType, ArrayType, NeverType, RefType, Syns, no_syn, a_syn, MaybeSyn, nothing, just, Receiver, ByValue, ByShared, ByUnique, ParamOf, SelfParam}
+use Rattle.src_ast.specs.Syntax.{Syn, syn, Shape, NamedType, GenericType, DynType, SelfType, ParensType, TupleType, ArrayType, NeverType, RefType, Syns, no_syn, a_syn, Receiver, ByValue, ByShared, ByUnique, ParamOf, SelfParam}
 use Rattle.typing_rules.specs.Check.{Check, State, Broken, and_then, ◌>>=◌, pure, breaks, obeys, known, interned, interned_at, each_checked}
-use Rattle.typing_rules.specs.Collected.{receiver_ty, param_ty, answer_ty, own_ty, sig_of}
+use Rattle.typing_rules.specs.Collected.{receiver_ty, param_ty}
 use Rattle.typing_rules.specs.Places.{unit, never}
 use Rattle.typing_rules.specs.Written.{Around, written, written_form, all_written, named_by, number_of, scalar_named, tuple_by, is_box, is_usize, length_shown, reference_to, written_param, written_param_form}
 

@@ -1,7 +1,7 @@
 -- Names by their numbers.
 use Rattle.std.proofs.Common.{◌≡◌, ℕ, suc, ◌+◌, ◌≤◌, Bool, true, false, cond, eqb, if◌then◌else◌, List, [], ◌∷◌, ◌++◌, length, Option, Some, None, refl, ap, sym, ◌∙◌, arith, rules, Decides, nat_lt, length-append}
 use Rattle.std.specs.Prelude.{is_some, not}
-use Rattle.std.specs.List.{position as position_of, position_or_len, prefix_len}
+use Rattle.std.specs.List.{position as position_of, position_or_len}
 use Rattle.std.specs.Option.{option_or}
 use Rattle.std.specs.HashMap as hash
 use Rattle.std.specs.HashMap.{HashMap, get_by_text}
@@ -30,7 +30,7 @@ pub position_push : {X : Type 0} (p : X → Bool) (xs : List X) (y : X) →
     position_of p (xs ++ y ∷ []) ≡ option_or (position_of p xs) (if p y then Some (length xs) else None)
 position_push p xs y =
     pick (position_or_len p xs) (length xs) (position_or_len p (xs ++ y ∷ [])) (length (xs ++ y ∷ [])) (p y) (within p xs)
-        (length-append xs (y ∷ [])) (position_or_len_push p xs y)
+    (length-append xs (y ∷ [])) (position_or_len_push p xs y)
 
 none_or : (o : Option ℕ) → o ≡ option_or o None
 none_or None = refl
@@ -47,6 +47,7 @@ noted bs name m n number h e absent q =
     empty : (o : Option ℕ) → is_some o ≡ false → (other : Option ℕ) → other ≡ option_or o other
     empty None h other = refl
     empty (Some k) h other = absurd (cc)
+
     by : (a b : Bool) → Decides a (name ≡ q) → Decides b (q ≡ name) → cond a (Some number) (get_by_text m q)
         ≡ option_or (get_by_text m q) (if b then Some number else None)
     by true true h i =

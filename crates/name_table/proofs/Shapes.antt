@@ -1,5 +1,5 @@
 -- Nodes by the forms that are borrowed from them: what a definition says of a node is what it says of its form.
-use Rattle.std.proofs.Common.{◌≡◌, ℕ, zero, suc, ◌<◌, ◌≤◌, Bool, true, false, Option, Some, None, refl, ap, sym, subst, ◌∙◌, arith}
+use Rattle.std.proofs.Common.{◌≡◌, suc, ◌<◌, Bool, true, false, refl, ap, ◌∙◌, arith}
 use Rattle.std.specs.Prelude.{◌==◌}
 use Rattle.mir_base.specs.declared.place_in_text.Pos.{Pos}
 use Rattle.src_tree.specs.declared.node.Node.{Node}
@@ -7,7 +7,7 @@ use Rattle.src_ast.specs.Seen.{syn_of}
 use Rattle.src_ast.specs.Sorts.{sort_of, some_if, type_part, param_part}
 use Rattle.src_ast.specs.Syntax.{Syn, syn, Shape, at_of, shape_of, Ident, LabelOf, Literal, TruthLiteral, Path, Minus, Bang, Star, Ampersand, Calculate, Compare, Both, Either, Store, CallOf, MethodOf, FieldOf, PartOf, ElementOf, StructOf, FieldInit, Parens, TupleOf, ArrayOf, Braces, IfElse, IfLetElse, MatchOn, ArmOf, LoopOf, WhileOf, WhileLetOf, BreakOf, ContinueOf, ReturnOf, MoveOf, PanicOf, LetOf, Empty, Semi, AnyPattern, BindPattern, LiteralPattern, TruthPattern, PathPattern, PartsPattern, FieldsPattern, FieldPattern, ParensPattern, TuplePattern, ArrayPattern, Alternatives, NamedType, GenericType, DynType, SelfType, ParensType, TupleType, ArrayType, NeverType, RefType, StructItem, EnumItem, FieldDecl, VariantDecl, TraitItem, ImplItem, FnItem, ParamOf, SelfParam, Odd}
 use Rattle.src_ast.proofs.Named.{seen_as}
-use Rattle.typing_rules.specs.Check.{Check, State, Broken, breaks}
+use Rattle.typing_rules.specs.Check.{Check, State}
 use Rattle.mir_ty.specs.declared.ty.TyId.{TyId}
 use Rattle.typing_rules.specs.Collected.{param_ty}
 use Rattle.typing_rules.specs.Written.{Around, written, written_form, written_param, written_param_form}

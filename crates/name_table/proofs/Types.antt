@@ -1,5 +1,5 @@
 -- Types as they are written, one behind another.
-use Rattle.std.proofs.Common.{◌≡◌, ℕ, Bool, true, not, ◌||◌, nat_le, ◌<◌, ◌≤◌, ◌+◌, List, [], ◌∷◌, ◌++◌, length, Option, Result, Ok, refl, ap, sym, subst, ◌∙◌, arith}
+use Rattle.std.proofs.Common.{◌≡◌, ℕ, Bool, true, not, ◌||◌, nat_le, ◌<◌, ◌≤◌, List, [], ◌∷◌, ◌++◌, length, Option, Result, Ok, refl, ap, sym, subst, ◌∙◌, arith}
 use Rattle.mir_base.specs.declared.place_in_text.Pos.{Pos}
 use Rattle.mir_base.specs.declared.rule.Rule.{Rule}
 use Rattle.mir_base.specs.declared.rule.RuleError.{RuleError}
@@ -57,7 +57,7 @@ pub plain_answers : (w : Around) (n : Node) (s : State) (r : Result TyId RuleErr
     Answers (written w (syn_of n) s) r after → Answers (written_param w (syn_of n) s) r after
 plain_answers w n s r after form is same h =
     let equal : written w (syn_of n) s ≡ written_param w (syn_of n) s =
-        type_seen w n s ∙ ap (λ f. written_as w n.at f s) (sym is) ∙ sym same ∙ ap (λ f. param_as w n.at f s) is ∙ sym (param_seen w n s) in
+    type_seen w n s ∙ ap (λ f. written_as w n.at f s) (sym is) ∙ sym same ∙ ap (λ f. param_as w n.at f s) is ∙ sym (param_seen w n s) in
     subst (λ o. Answers o r after) equal h
 
 pub plain_form : (w : Around) (at : Pos) (s : State) (f : TypeForm) → ((x : Bor Node) → f ≡ TypeForm.Parens x → ⊥) →

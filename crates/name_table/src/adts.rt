@@ -76,7 +76,11 @@ fn declared(items: &mut Items, scope: &Scope, node: &Node) -> Result<Variant, Ru
 }
 
 /// The variants of an enum, in their order.
-fn all_declared(items: &mut Items, scope: &Scope, variants: Nodes) -> Result<List<Variant>, RuleError>
+fn all_declared(
+    items: &mut Items,
+    scope: &Scope,
+    variants: Nodes,
+) -> Result<List<Variant>, RuleError>
     requires { 8 ≤ length items.old.types }
     ensures answers { Answers (each_checked (walk.declared_variant (around_of scope.now)) (list_of (nodes_of variants.entry)) (starting_with items.old)) result items.new }
     ensures grows { length items.old.types ≤ length items.new.types }

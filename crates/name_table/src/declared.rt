@@ -13,7 +13,6 @@ ghost use Rattle.typing_rules.specs.Collected as walk;
 ghost use Rattle.typing_rules.specs.Collected.{starting_with};
 ghost use Rattle.typing_rules.specs.Written as types;
 
-
 use crate::steps::pushed;
 use crate::written::{Scope, written};
 use mir_base::{List, Name, NoMemory, RuleError};
@@ -104,7 +103,12 @@ fn field_names(alloc: Global, fields: Nodes) -> Result<List<Name>, RuleError>
 
 /// A variant with its fields.
 #[tactic(auto, using(crate::proofs::Fields::as_many_names))]
-pub fn variant(items: &mut Items, scope: &Scope, name: &str, fields: Nodes) -> Result<Variant, RuleError>
+pub fn variant(
+    items: &mut Items,
+    scope: &Scope,
+    name: &str,
+    fields: Nodes,
+) -> Result<Variant, RuleError>
     requires { 8 ≤ length items.old.types }
     ensures answers { Answers (walk.variant_of (around_of scope.now) name.now (nodes_of fields.entry) (starting_with items.old)) result items.new }
     ensures grows { length items.old.types ≤ length items.new.types }

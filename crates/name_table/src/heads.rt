@@ -41,11 +41,7 @@ fn own_type(items: &mut Items, scope: &Scope, own: Own) -> Result<TyId, RuleErro
 }
 
 /// The type of `self`.
-pub fn receiver_type(
-    items: &mut Items,
-    own: TyId,
-    receiver: Receiver,
-) -> Result<TyId, RuleError>
+pub fn receiver_type(items: &mut Items, own: TyId, receiver: Receiver) -> Result<TyId, RuleError>
     requires { own.0 < length items.old.types }
     ensures answers { Answers (receiver_ty own (receiver_seen receiver) (starting_with items.old)) result items.new }
     ensures grows { length items.old.types ≤ length items.new.types }

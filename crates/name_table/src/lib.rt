@@ -9,6 +9,7 @@ mod names;
 mod steps;
 mod written;
 
+pub use adts::{enum_item, struct_item};
 pub use heads::{Own, head};
 pub use known::Known;
 pub use names::NameTable;

@@ -13,7 +13,7 @@ use Rattle.typed_tree.specs.Tree.{Node, Nodes, no_node, a_node, Fields, MaybeNod
 use Rattle.well_typed.specs.Places.{ty_of}
 use Rattle.well_typed.specs.Types.{is_reference, is_enum, variant_at}
 use Rattle.typing_rules.specs.Bodies.{all_rules, closure}
-use Rattle.typing_rules.specs.Check.{Check, ◌>>=◌, ◌>>◌, ◌<$>◌, pure, breaks, known, the_items, interned}
+use Rattle.typing_rules.specs.Check.{Check, ◌>>=◌, ◌>>◌, ◌<$>◌, pure, breaks, obeys, known, the_items, interned}
 use Rattle.typing_rules.specs.Named.{PathValue, Makes, IsBroken, path_value, Callee, Function, Constructor, Prints, Asks, Drops, Forgets, Boxes, AValue, Unnamed, NoCallee, callee_of, method_named}
 use Rattle.typing_rules.specs.Patterns.{pattern, count_of, Target, target_of}
 use Rattle.typing_rules.specs.Places.{unit, bool, never, int, variable_place, struct_field, numbered_part}
@@ -22,6 +22,10 @@ use Rattle.typing_rules.specs.Rows.{Typer, Referrer, Expected, Given, taken, no_
 use Rattle.typing_rules.specs.Scope.{Env, Entry, variable, with_variables, within_loop, jumps_to, in_guard, adt_named, field_named}
 use Rattle.src_ast.specs.Syntax.{Word, Syn, syn, Shape, Literal, TruthLiteral, Path, Minus, Bang, Star, Ampersand, Calculate, Compare, Both, Either, Store, CallOf, MethodOf, FieldOf, PartOf, ElementOf, StructOf, FieldInit, Parens, TupleOf, ArrayOf, Braces, IfElse, IfLetElse, MatchOn, ArmOf, LoopOf, WhileOf, WhileLetOf, BreakOf, ContinueOf, ReturnOf, MoveOf, PanicOf, LetOf, Empty, Semi, BindPattern, ParensPattern, Syns, no_syn, a_syn, MaybeSyn, nothing, just}
 use Rattle.typing_rules.specs.Written.{written}
+
+abbrev has_one : Syns → Bool
+has_one no_syn = false
+has_one (a_syn first rest) = true
 
 -- ---- paths
 
@@ -252,7 +256,8 @@ abbrev mutual
       rows.if_let_else env at (base_of env scrutinee) (matcher env p) (λ xs. typed (with_variables xs env) body)
       (typed env otherwise)
   value env at (MatchOn scrutinee arms) =
-      rows.match_row env at (base_of env scrutinee) (λ e ty want. typed_arms env e ty want arms)
+      λ want. obeys Rule.T20 at (has_one arms) >>
+      rows.match_row env at (base_of env scrutinee) (λ e ty want. typed_arms env e ty want arms) want
   value env at (LoopOf label body) = rows.loop_row at label (λ around. typed (within_loop around env) body)
   value env at (WhileOf label c body) =
       rows.while_row at label (λ around. typed (within_loop around env) c) (λ around. typed (within_loop around env)

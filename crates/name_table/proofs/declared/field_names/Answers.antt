@@ -7,5 +7,5 @@ use Rattle.name_table.proofs.declared.field_names.Goals as goal
 pub loop-split-preserved : goal.loop-split-preserved
 loop-split-preserved c =
     names_behind _ _ _ _ _ _ _ c.loop-split.invariant c.in-Some.ensures
-        (c.in_ok-name.ensures.name ∙ ap (λ k. field_name k (syn_of c.in-Some.split.first.now)) c.len.ensures)
-        c.in_ok-pushed.ensures.pushed
+    (c.in_ok-name.ensures.name ∙ ap (λ k. field_name k (syn_of c.in-Some.split.first.now)) c.len.ensures)
+    c.in_ok-pushed.ensures.pushed

@@ -1,4 +1,4 @@
-use Rattle.std.proofs.Common.{◌≡◌, arith, ap, sym, ◌∙◌, subst}
+use Rattle.std.proofs.Common.{arith, ap, sym, ◌∙◌}
 use Rattle.typing_rules.specs.Collected.{field_type, starting_with}
 use Rattle.typing_rules.specs.Written as types
 use Rattle.name_table.specs.Forms.{around_of}
@@ -11,9 +11,9 @@ loop-split-preserved c =
     record {
       answers =
           each_behind (λ f. types.written (around_of c.args.scope.now) (field_type f)) _ _ _ _ _ _ _ _ _ c.loop-split.invariant.answers
-              c.in-Some.ensures
-              (ap (λ x. types.written (around_of c.args.scope.now) x (starting_with c.loop-split.items)) (sym c.field_type.ensures) ∙ c.in_ok-id.ensures.answers)
-              c.in_ok-pushed.ensures.pushed;
+          c.in-Some.ensures
+          (ap (λ x. types.written (around_of c.args.scope.now) x (starting_with c.loop-split.items)) (sym c.field_type.ensures) ∙ c.in_ok-id.ensures.answers)
+          c.in_ok-pushed.ensures.pushed;
       grows = omega arith;
       known = ids_behind _ _ _ _ _ c.loop-split.invariant.known c.written.ensures.grows c.in_ok-id.ensures.known c.in_ok-pushed.ensures.pushed;
     }

@@ -9,9 +9,9 @@ returns-in_default t c =
     record {
       answers =
           plain_answers (around_of c.args.scope.now) c.args.node.now (starting_with c.args.items.now) c.written-in_default.result
-              c.written-in_default.new.items (type_of c.type_form.result) c.type_form.ensures
-              (plain_form (around_of c.args.scope.now) c.args.node.now.at (starting_with c.args.items.now) c.type_form.result c.in_default.not-Parens c.in_default.not-Reference)
-              c.written-in_default.ensures.answers;
+          c.written-in_default.new.items (type_of c.type_form.result) c.type_form.ensures
+          (plain_form (around_of c.args.scope.now) c.args.node.now.at (starting_with c.args.items.now) c.type_form.result c.in_default.not-Parens c.in_default.not-Reference)
+          c.written-in_default.ensures.answers;
       grows = c.written-in_default.ensures.grows;
       known = c.written-in_default.ensures.known;
     }

@@ -1,4 +1,3 @@
-use Rattle.std.proofs.Common.{ℕ}
 use Rattle.src_ast.specs.Seen.{syn_of}
 use Rattle.name_table.specs.Sizes.{size}
 use Rattle.name_table.proofs.written.+written_param.Given as goal

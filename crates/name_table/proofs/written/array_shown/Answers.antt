@@ -6,4 +6,4 @@ use Rattle.name_table.proofs.written.array_shown.Goals as goal
 pub returns-clause-answers : goal.returns-clause-answers
 returns-clause-answers c =
     array_answers (around_of c.args.scope.now) c.args.at c.args.count c.args.element (starting_with c.args.items.now) _ _
-        c.interned.result c.interned.new.items c.in_ok-obeys.ensures.holds c.free_or.ensures c.shown.ensures c.interned.ensures.answers
+    c.interned.result c.interned.new.items c.in_ok-obeys.ensures.holds c.free_or.ensures c.shown.ensures c.interned.ensures.answers

@@ -1,6 +1,4 @@
-use Rattle.std.proofs.Common.{arith, ◌≡◌, ap, sym, ◌∙◌, rules, ℕ, List, Option}
-use Rattle.std.specs.List.{position as position_of}
-use Rattle.std.specs.Str.{bytes_eq}
+use Rattle.std.proofs.Common.{arith}
 use Rattle.name_table.proofs.Numbering.{position_push}
 use Rattle.name_table.proofs.names.NameTable.with.Goals as goal
 
