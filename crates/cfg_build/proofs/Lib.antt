@@ -1,4 +1,5 @@
 pub mod Bodies
+pub mod Codes
 mod Examples
 pub mod Forms
 pub mod FormSites

@@ -15,7 +15,11 @@ use Rattle.typed_tree.specs.Tree.{Node, BodyTree, ProgramTree}
 use Rattle.src_meaning.specs.Programs.{source, free_run, reached_by, refused_of}
 use Rattle.well_typed.specs.Program.{WellTyped}
 use Rattle.cfg_code.specs.Laws.{without_place, outcome_without_place}
+use Rattle.scope_code.specs.Forms as code
+use Rattle.cfg_build.specs.Build.{Frame}
+use Rattle.cfg_build.specs.Codes.{lowers}
 use Rattle.cfg_build.specs.Loops.{names_its_loops}
+use Rattle.cfg_build.specs.Lower as low
 use Rattle.cfg_build.specs.Lower.{body_of, node_of, graph_of}
 use Rattle.cfg_build.specs.Sites.{site_at, stmt_site, term_site, used_by_term}
 
@@ -86,3 +90,7 @@ LoweredHasSites =
     × (used_by_term block.term ≢ [] →
     (found : Node) × (first_with (node_of items tree n (length block.stmts)) (body_nodes tree) ≡ Some found)
     × (site_at items tree n (length block.stmts) ≡ Some (term_site items tree block.term found)))
+
+-- what is made of the code of a body is what the body lowers to
+abbrev pub CodeIsLowered : Type 0
+CodeIsLowered = (f : Frame) (tree : BodyTree) → lowers f (code.entire_function f.items tree) ≡ low.entire_function f tree

@@ -1,4 +1,5 @@
 pub mod Build
+pub mod Codes
 pub mod Laws
 pub mod Loops
 pub mod Lower

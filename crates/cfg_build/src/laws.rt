@@ -1,5 +1,5 @@
 //! The laws of the lowering. Each is a clause of a function without parameters.
-ghost use Rattle.cfg_build.specs.Laws.{LoweredHasSites, LoweredIsPrepared, LoweredIsRanked, LoweredIsSmall};
+ghost use Rattle.cfg_build.specs.Laws.{CodeIsLowered, LoweredHasSites, LoweredIsPrepared, LoweredIsRanked, LoweredIsSmall};
 ghost use Rattle.cfg_build.specs.Laws.{LoweredKeepsToCleanup, LoweredRunsAsItsSource};
 ghost use Rattle.cfg_build.specs.Laws.{LoweredWalksAsItRunsFreely, WellTypedNamesItsLoops};
 
@@ -10,7 +10,8 @@ ghost use Rattle.cfg_build.specs.Laws.{LoweredWalksAsItRunsFreely, WellTypedName
 /// From other blocks exactly unwinding leads to cleanup blocks, which keep to themselves. No statement frees a box, and
 /// a place that may not be left gone gets a value again as soon as it is dropped. A body of `k` nodes has at most
 /// `32 * k * (k + 2)` blocks. Each line that uses a place has a site, with the position, the use and the place in words
-/// of the node whose number the line has. All that is asked is that each jump names a loop around it, as in every well
+/// of the node whose number the line has. What is made of the code of a body, in which its scopes, branches and loops
+/// stand as a tree, is what the body lowers to. All that is asked is that each jump names a loop around it, as in every well
 /// typed program.
 pub fn law_of_lowering()
     ensures values { LoweredRunsAsItsSource }
@@ -21,4 +22,5 @@ pub fn law_of_lowering()
     ensures small { LoweredIsSmall }
     ensures sites { LoweredHasSites }
     ensures typed { WellTypedNamesItsLoops }
+    ensures codes { CodeIsLowered }
 {}
