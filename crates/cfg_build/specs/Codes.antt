@@ -1,4 +1,5 @@
--- The blocks that are made of the code of a body: what each of its parts lowers to, by the rules of `Build` and `Lower`.
+-- The blocks that are made of the code of a body: what each of its parts lowers to, by the rules of `Build` and
+-- `Lower`.
 use Rattle.std.specs.Prelude.{ℕ, Bool, true, false, ◌&&◌, ◌||◌, List, [], ◌∷◌, ◌++◌}
 use Rattle.cfg_graph.specs.declared.terminator.Term.{Term}
 use Rattle.mir_base.specs.declared.trace.Why.{Why}

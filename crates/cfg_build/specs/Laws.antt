@@ -93,4 +93,5 @@ LoweredHasSites =
 
 -- what is made of the code of a body is what the body lowers to
 abbrev pub CodeIsLowered : Type 0
-CodeIsLowered = (f : Frame) (tree : BodyTree) → lowers f (code.entire_function f.items tree) ≡ low.entire_function f tree
+CodeIsLowered =
+    (f : Frame) (tree : BodyTree) → lowers f (code.entire_function f.items tree) ≡ low.entire_function f tree

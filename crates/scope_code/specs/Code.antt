@@ -1,6 +1,6 @@
 -- The code of a body before blocks are made of it: a tree of effects, scopes, branches, loops and exits, in which
--- places stand by their keys. The rustc development guide, "MIR construction", has the scopes of a body as a stack; here
--- the tree says where each begins and ends.
+-- places stand by their keys. In the rustc development guide, "MIR construction", the scopes of a body are a stack;
+-- here the tree says where each begins and ends.
 use Rattle.std.specs.Prelude.{ℕ, Bool, List}
 use Rattle.mir_base.specs.declared.trace.Why.{Why}
 use Rattle.store_model.specs.Effects.{Site, Action}
