@@ -4,7 +4,10 @@ use Rattle.std.specs.Prelude.{is_some, ◌==◌}
 use Rattle.std.specs.List.{list_all}
 use Rattle.std.specs.Option.{option_map_or}
 use Rattle.std.specs.Cmp.{first_so, second_so}
-use Rattle.std.proofs.lemmas.Bool.{ltb-true}
+use Rattle.std.specs.Cmp.Derive.{both_true}
+use Rattle.std.proofs.lemmas.Bool.{ltb-true, lt-ltb}
+use Rattle.move_errors.specs.Locals.{is_local, has_locals, WellFormedHasLocals}
+use Rattle.move_errors.proofs.Sorted.{here, there}
 use Rattle.std.proofs.lemmas.List.Elements.{Contains-append_left, Contains-append_right, Contains-append_cases, All-contains}
 use Rattle.std.proofs.lemmas.List.Sums.{AllPass-from_list_all}
 use Rattle.mir_ty.specs.declared.ty.TyId.{TyId}
@@ -134,3 +137,21 @@ module _ (graph : Graph) (well : IsWellFormed graph) (number : ℕ) (body : Body
               Contains-append_right (map (λ (made : Use × Place). made.1) (term_uses it.0.term)) (stored_by_term it.0.term) made.1 (subst (Contains (stored_by_term it.0.term)) (ap (λ (m : Use × Place). m.1) s.2) s.1))
         ])
       ]
+
+all-pass : {X : Type 0} (test : X → Bool) (xs : List X) → ((x : X) → Contains xs x → test x ≡ true) → list_all test xs ≡ true
+all-pass test [] each = refl
+all-pass test (x ∷ xs) each = both_true (each x (here x xs)) (all-pass test xs (λ y has. each y (there y x xs has)))
+
+pub has-its-locals : WellFormedHasLocals
+has-its-locals graph n body well found =
+    both_true (lt-ltb 0 (length body.blocks) (has-block graph well n body found))
+    (all-pass (is_local (length body.locals)) (flat_map block_uses body.blocks) (λ made has. lt-ltb made.1.local (length body.locals) (uses-locals graph well n body found made has)))
+
+pub locals-below : (body : Body) → has_locals body ≡ true → (made : Use × Place) → Contains (flat_map block_uses body.blocks) made → made.1.local < length body.locals
+locals-below body h made has =
+    ltb-true made.1.local (length body.locals)
+    (All-contains (λ m. is_local (length body.locals) m ≡ true) (flat_map block_uses body.blocks) made
+    (AllPass-from_list_all (is_local (length body.locals)) (flat_map block_uses body.blocks) (second_so (nat_lt 0 (length body.blocks)) (list_all (is_local (length body.locals)) (flat_map block_uses body.blocks)) h)) has)
+
+pub block-there : (body : Body) → has_locals body ≡ true → 0 < length body.blocks
+block-there body h = ltb-true 0 (length body.blocks) (first_so (nat_lt 0 (length body.blocks)) (list_all (is_local (length body.locals)) (flat_map block_uses body.blocks)) h)

@@ -1,3 +1,4 @@
+pub mod Locals
 pub mod Reaches
 pub mod Refusal
 pub mod Rows

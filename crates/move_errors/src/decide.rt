@@ -40,12 +40,7 @@ fn point(block: u32, stage: Stage) -> Point
 }
 
 /// Whether a use within a block, or the store of its result, is bad by a row at its start.
-fn block_shows(
-    alloc: Global,
-    watch: &Watch<'_>,
-    row: &BitRow,
-    block: u32,
-) -> Result<bool, NoMemory>
+fn block_shows(alloc: Global, watch: &Watch<'_>, row: &BitRow, block: u32) -> Result<bool, NoMemory>
     requires watched { IsWatched watch.now.items.now watch.now.body.now watch.now.forest watch.now.below }
     requires row { length row.now ≡ length watch.now.forest.paths }
     ensures { IfOk result (λ shown. shown ≡ false → ShowsNone (problem watch.now.items.now watch.now.body.now watch.now.forest.paths) block row.now) }
@@ -58,16 +53,17 @@ fn block_shows(
     if point_shows(alloc, watch, point(block, Stage::Leaving(false)), &mut none)? {
         return Ok(true);
     }
-    point_shows(alloc, watch, point(block, Stage::Leaving(true)), &mut inside)
+    point_shows(
+        alloc,
+        watch,
+        point(block, Stage::Leaving(true)),
+        &mut inside,
+    )
 }
 
 /// Whether a use in some block is bad by the row at its start. Where none is, no path meets a bad use; a block that no
 /// path reaches may show one all the same.
-pub fn rows_show(
-    alloc: Global,
-    watch: &Watch<'_>,
-    rows: &Solution,
-) -> Result<bool, NoMemory>
+pub fn rows_show(alloc: Global, watch: &Watch<'_>, rows: &Solution) -> Result<bool, NoMemory>
     requires watched { IsWatched watch.now.items.now watch.now.body.now watch.now.forest watch.now.below }
     requires rows { length rows.now ≡ length watch.now.body.now.blocks }
     requires widths { (block : ℕ) → block < length watch.now.body.now.blocks → length (slice_index_or rows.now block []) ≡ length watch.now.forest.paths }

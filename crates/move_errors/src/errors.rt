@@ -4,6 +4,7 @@ ghost use Rattle.cfg_graph.specs.declared.graph.Body.{Body as GraphBody};
 ghost use Rattle.cfg_graph.specs.WellFormed.Faults.{IsWellFormed};
 ghost use Rattle.move_paths.specs.Forest.{IsForest};
 ghost use Rattle.move_paths.specs.Uses.{use_of};
+ghost use Rattle.move_errors.specs.Locals.{has_locals};
 ghost use Rattle.move_errors.specs.Reaches.{MeetsNone, rule_of};
 ghost use Rattle.move_errors.specs.Refusal.{IsRefusal, refused_by};
 ghost use Rattle.move_errors.specs.Rows.{IsWatched, state};
@@ -66,7 +67,7 @@ impl From<NoMemory> for UseError {
 
 /// The body of a graph as the search watches it.
 fn watched<'a>(alloc: Global, graph: &'a Graph, body: u32) -> Result<Watch<'a>, NoMemory>
-    requires well_formed { IsWellFormed graph.now }
+    requires locals { (found : GraphBody) → slice_get graph.now.bodies body ≡ Some found → has_locals found ≡ true }
     requires body { body < length graph.now.bodies }
     ensures items { IfOk result (λ watch. watch.items.now ≡ graph.now.items) }
     ensures body { IfOk result (λ watch. slice_get graph.now.bodies body ≡ Some watch.body.now) }
@@ -83,12 +84,7 @@ fn watched<'a>(alloc: Global, graph: &'a Graph, body: u32) -> Result<Watch<'a>, 
 }
 
 /// Whether the rows of a body show no bad use, so that no path meets one.
-fn is_plain(
-    alloc: Global,
-    graph: &Graph,
-    body: u32,
-    watch: &Watch<'_>,
-) -> Result<bool, NoMemory>
+fn is_plain(alloc: Global, graph: &Graph, body: u32, watch: &Watch<'_>) -> Result<bool, NoMemory>
     requires body { slice_get graph.now.bodies body ≡ Some watch.now.body.now }
     requires items { watch.now.items.now ≡ graph.now.items }
     requires watched { IsWatched watch.now.items.now watch.now.body.now watch.now.forest watch.now.below }
@@ -154,15 +150,10 @@ fn refusal(
     Ok(by_rule(bad))
 }
 
-/// Whether no path of a body meets a bad use. The refusal names the use that the least of the shortest lists of choices
-/// reaches, 0 before 1, with that list and its path. The graph is well formed and has the body.
-///
-/// A body whose rows show no bad use is decided by the solver alone; only another one is searched.
-///
-/// Errors: [`UseError::U1`] and [`UseError::U2`] exactly where a path of the body meets a bad use, by the rule by which
-/// this one is bad; [`UseError::Memory`] where there is no memory.
-pub fn check_uses(alloc: Global, graph: &Graph, body: u32) -> Result<(), UseError>
-    requires well_formed { IsWellFormed graph.now }
+/// The same as [`check_uses`], of a body of which only this is known: it has a block, and the locals that its uses name
+/// ([`crate::has_locals`]).
+pub fn check_body(alloc: Global, graph: &Graph, body: u32) -> Result<(), UseError>
+    requires locals { (found : GraphBody) → slice_get graph.now.bodies body ≡ Some found → has_locals found ≡ true }
     requires body { body < length graph.now.bodies }
     ensures accepted { OnOk result ((found : GraphBody) → slice_get graph.now.bodies body ≡ Some found → MeetsNone graph.now.items found) }
     ensures refused { IfErr result (λ error. (found : GraphBody) → slice_get graph.now.bodies body ≡ Some found → IsRefusal graph.now.items found body error) }
@@ -176,4 +167,20 @@ pub fn check_uses(alloc: Global, graph: &Graph, body: u32) -> Result<(), UseErro
         None => Ok(()),
         Some(trace) => Err(refusal(alloc, &watch, body, &trace)?),
     }
+}
+
+/// Whether no path of a body meets a bad use. The refusal names the use that the least of the shortest lists of choices
+/// reaches, 0 before 1, with that list and its path. The graph is well formed and has the body.
+///
+/// A body whose rows show no bad use is decided by the solver alone; only another one is searched.
+///
+/// Errors: [`UseError::U1`] and [`UseError::U2`] exactly where a path of the body meets a bad use, by the rule by which
+/// this one is bad; [`UseError::Memory`] where there is no memory.
+pub fn check_uses(alloc: Global, graph: &Graph, body: u32) -> Result<(), UseError>
+    requires well_formed { IsWellFormed graph.now }
+    requires body { body < length graph.now.bodies }
+    ensures accepted { OnOk result ((found : GraphBody) → slice_get graph.now.bodies body ≡ Some found → MeetsNone graph.now.items found) }
+    ensures refused { IfErr result (λ error. (found : GraphBody) → slice_get graph.now.bodies body ≡ Some found → IsRefusal graph.now.items found body error) }
+{
+    check_body(alloc, graph, body)
 }
