@@ -64,7 +64,8 @@ module _ (items : ItemTable) (body : Body) where
     pub way : Contains (ways items body block.term) (record { choices = choices; exit = ToBlock next })
     pub given_is : given ≡ before ++ choices
     pub stored : List Action
-    pub stores : actions_on body (last ∷ next ∷ []) ≡ (actions_on body (last ∷ []) ++ stored) ++ actions_on body (next ∷ [])
+    pub stores :
+        actions_on body (last ∷ next ∷ []) ≡ (actions_on body (last ∷ []) ++ stored) ++ actions_on body (next ∷ [])
     pub first : first_bad (actions_on body path) stored ≡ Some bad
 
   abbrev pub Reaches : List ℕ → List Bool → BadUse → Type 0

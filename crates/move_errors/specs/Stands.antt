@@ -84,7 +84,8 @@ module _ (f : Problem) where
     pub within : (item : Waiting) → Contains items item → index_of item.visit.at < f.points
 
 -- a bad use that a least run meets
-pub record IsFound (items : ItemTable) (body : Body) (paths : List Place) (visits : List Visit) (bad : Found) : Type 0 where
+pub record IsFound
+    (items : ItemTable) (body : Body) (paths : List Place) (visits : List Visit) (bad : Found) : Type 0 where
   pub done : List Trip
   pub logged : Logged (problem items body paths) visits done
   pub trip : Trip
