@@ -1,10 +1,8 @@
 //! What is done at a point of a body.
-ghost use Rattle.std.specs.Prelude.{◌≡◌, ℕ, ◌+◌, ◌++◌, [], ◌∷◌, map, length, slice_get, IfOk, OnOk};
-ghost use Rattle.std.specs.Option.{option_copied, option_map_or};
-ghost use Rattle.cfg_graph.specs.Moves.Actions.{actions_on};
+ghost use Rattle.std.specs.Prelude.{◌≡◌, ℕ, ◌+◌, ◌++◌, map, length, IfOk, OnOk};
+ghost use Rattle.std.specs.Option.{option_copied};
 ghost use Rattle.cfg_graph.specs.Uses as graph;
-ghost use Rattle.init_flow.specs.Ways.{target as target_of};
-ghost use Rattle.move_paths.specs.Uses.{listed, optional, use_of};
+ghost use Rattle.move_paths.specs.Uses.{listed, optional};
 ghost use Rattle.move_errors.specs.Runs as runs;
 
 use crate::point::{Point, Stage};

@@ -1,10 +1,10 @@
 //! Which uses are bad by a row that says of each path whether it is gone, and what they make of the row.
-ghost use Rattle.std.specs.Prelude.{◌≡◌, ◌<◌, ◌&&◌, ◌||◌, ℕ, Contains, IfOk, OnOk, None, length};
+ghost use Rattle.std.specs.Prelude.{◌≡◌, ◌<◌, ◌&&◌, ℕ, IfOk, None, length};
 ghost use Rattle.std.specs.Option.{option_map};
 ghost use Rattle.cfg_graph.specs.Places.{named, named_step};
-ghost use Rattle.cfg_graph.specs.Moves.Gone.{Action, is_at_or_above};
+ghost use Rattle.cfg_graph.specs.Moves.Gone.{is_at_or_above};
 ghost use Rattle.std.specs.Prelude.{map};
-ghost use Rattle.move_paths.specs.Trie.{Reaches, AreOnce};
+ghost use Rattle.move_paths.specs.Trie.{AreOnce};
 ghost use Rattle.move_paths.specs.Uses.{use_of};
 ghost use Rattle.move_flow.specs.Concerns.{AreOfBody, concerns_read, concerns_test, concerns_store};
 ghost use Rattle.move_flow.specs.Moved.{masks_of};

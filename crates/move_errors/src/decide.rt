@@ -1,6 +1,5 @@
 //! Whether the rows of a solution show a bad use.
 ghost use Rattle.std.specs.Prelude.{◌≡◌, ◌<◌, ℕ, [], false, IfOk, length, slice_index_or};
-ghost use Rattle.std.specs.Option.{is_some};
 ghost use Rattle.move_errors.specs.Rows.{IsWatched};
 ghost use Rattle.move_errors.specs.Runs.{problem};
 ghost use Rattle.move_errors.specs.Shown.{ShowsNone};

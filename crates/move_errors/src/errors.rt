@@ -1,5 +1,5 @@
 //! Bad uses, and the call that finds one.
-ghost use Rattle.std.specs.Prelude.{◌≡◌, ◌<◌, ◌∷◌, ℕ, [], IfOk, IfErr, OnOk, Some, None, length, map, slice_get, true};
+ghost use Rattle.std.specs.Prelude.{◌≡◌, ◌<◌, [], IfOk, IfErr, OnOk, Some, None, length, slice_get, true};
 ghost use Rattle.cfg_graph.specs.declared.graph.Body.{Body as GraphBody};
 ghost use Rattle.cfg_graph.specs.WellFormed.Faults.{IsWellFormed};
 ghost use Rattle.move_paths.specs.Forest.{IsForest};

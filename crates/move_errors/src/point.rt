@@ -3,9 +3,7 @@ ghost use Rattle.std.specs.Prelude.{◌≡◌, false, slice_get, length};
 ghost use Rattle.std.specs.Option.{option_map_or};
 ghost use Rattle.mir_ty.specs.Facts.{needs_drop as needs_drop_by};
 ghost use Rattle.cfg_graph.specs.Places.{place_id};
-ghost use Rattle.init_flow.specs.Ways.{target as target_of};
 ghost use Rattle.move_errors.specs.Runs as runs;
-ghost use Rattle.move_errors.specs.Runs.{number_of};
 
 use cfg_graph::{Body, Kind, Place, Term};
 use init_flow::target;

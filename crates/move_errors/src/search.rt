@@ -3,7 +3,7 @@
 //! Runs wait in the order of their lists of choices, shorter ones first, and of one length in order. The first of them
 //! is visited where its row has a path gone that no run before it brought to its point, or none was there; else what it
 //! could meet is met along a lesser list.
-ghost use Rattle.std.specs.Prelude.{◌≡◌, ◌≢◌, ◌⊎◌, ◌↔◌, ◌<◌, ◌≤◌, ◌+◌, ◌*◌, ◌∷◌, ◌++◌, ℕ, [], IsTrue, IsFalse, IfOk, OnOk, IfSome, IfNone, None, Some, length, replicate, slice_get, slice_index_or, slice_set, true, false};
+ghost use Rattle.std.specs.Prelude.{◌≡◌, ◌≢◌, ◌⊎◌, ◌↔◌, ◌<◌, ◌≤◌, ◌+◌, ◌*◌, ◌∷◌, ◌++◌, [], IsTrue, IsFalse, IfOk, OnOk, IfSome, None, Some, length, replicate, slice_index_or, slice_set, true, false};
 ghost use Rattle.bit_rows.specs.Words.{union};
 ghost use Rattle.move_errors.specs.Rows.{IsWatched, state};
 ghost use Rattle.move_errors.specs.Runs.{problem};

@@ -1,5 +1,5 @@
 //! The way by which a visit was reached.
-ghost use Rattle.std.specs.Prelude.{◌≡◌, ◌<◌, ◌++◌, ℕ, IfOk, OnOk, Some, length, map, slice_get, slice_index_or};
+ghost use Rattle.std.specs.Prelude.{◌≡◌, ◌<◌, ◌++◌, IfOk, OnOk, Some, length, map, slice_index_or};
 ghost use Rattle.move_errors.specs.Runs.{Problem, Trip, met, number_of, optional, beginning};
 ghost use Rattle.move_errors.specs.Stands.{Logged, ComeEarlier};
 
