@@ -1,4 +1,5 @@
 -- Graphs and paths that were worked out by hand, closed by computation.
+mod Damaged
 pub mod Graphs
 mod PathRows
 mod Ranks
