@@ -1,1 +1,9 @@
+pub mod BlocksLeft
+pub mod BodiesLeft
+pub mod CallsLeft
+pub mod DropsBegin
+pub mod ResumesLeft
 pub mod RunsLeft
+pub mod TasksLeft
+pub mod TermsLeft
+pub mod RunsTold

@@ -1,2 +1,4 @@
 pub mod Laws
 pub mod Left
+pub mod Runs
+pub mod Tasks

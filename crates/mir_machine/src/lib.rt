@@ -1,7 +1,16 @@
-//! The machine that runs graphs. What stands today is what is left of a run while bodies wait, as the machine is to
-//! keep it: a list, and laws by which each step of the run is one equation on it.
+//! The machine that runs graphs.
 #![tactic(auto)]
 
+mod dropping;
+mod entering;
+mod going;
 mod laws;
+mod running;
+mod tasks;
+mod text;
+mod turns;
+mod walking;
+mod whole;
 
 pub use laws::law_of_runs;
+pub use running::{RunError, run, run_raw};

@@ -1,0 +1,52 @@
+-- What the calls `run` and `run_raw` answer.
+use Rattle.std.specs.Prelude.{◌≡◌, ℕ, suc, ℤ, Bool, true, false, List, [], ◌++◌, map, take, Some}
+use Rattle.cfg_graph.specs.declared.graph.Graph.{Graph}
+use Rattle.cfg_meaning.specs.Programs.{graph_run, raw_graph_run}
+use Rattle.mir_base.specs.declared.trace.End.{End}
+use Rattle.mir_base.specs.Trace.{Trace}
+use Rattle.mir_edge.specs.Told.{WhereTold}
+use Rattle.mir_machine.specs.declared.running.RunError.{RunError}
+use Rattle.mir_steps.specs.declared.told.Told.{Told}
+use Rattle.mir_base.specs.declared.trace.Event.{Event}
+use Rattle.mir_machine.specs.declared.tasks.Doing.{Doing}
+use Rattle.mir_machine.specs.Tasks.{AreRanked, AtEntry, RunsGraph}
+use Rattle.mir_steps.specs.declared.world.World.{World}
+use Rattle.mir_steps.specs.Worlds.{event_of, state_of}
+use Rattle.store_model.specs.Concrete.Bodies.{main_of}
+use Rattle.mir_ty.specs.Named.{text_of}
+use Rattle.std.specs.Prelude.{Option, None}
+
+-- a strict run, or one of a raw graph
+abbrev pub run_by : Bool → Graph → List ℤ → ℕ → Trace × End
+run_by true = graph_run
+run_by false = raw_graph_run
+
+-- the text of a run
+abbrev pub run_text : Graph → Trace × End → List ℕ
+run_text graph run = text_of graph.items run.0 run.1
+
+-- what a machine told, as events
+abbrev pub events_of : List Told → Trace
+events_of told = map event_of told
+
+-- so much of a text was taken after a refusal: as many bytes as it names, or some first bytes where memory was wanted
+abbrev pub TookPart : List ℕ → Option (List ℕ) → Option (List ℕ) → RunError → Type 0
+TookPart text old new (RunError.WriteFault written) = WhereTold old (λ taken. new ≡ Some (taken ++ take written text))
+TookPart text old new RunError.Memory = WhereTold old (λ taken. (count : ℕ) × (new ≡ Some (taken ++ take count text)))
+
+-- a write has failed
+abbrev pub IsWriteFault : RunError → Type 0
+IsWriteFault (RunError.WriteFault written) = Unit {0}
+IsWriteFault RunError.Memory = ⊥
+
+-- how a run has ended, where it has
+abbrev pub ended_by : Doing → Option End
+ended_by (Doing.Ended end) = Some end
+ended_by doing = None
+
+-- whatever was handed on before: a run that enters `main` so is what was told and this end
+abbrev pub TellsRun : Graph → World → List Told → End → Type 0
+TellsRun graph world told end =
+    (strict : Bool) (ticks : ℕ) (run : Trace × End) → AreRanked graph → RunsGraph strict graph world →
+    AtEntry graph [] (Event.Call (main_of graph.items)) (main_of graph.items) [] strict ticks run (state_of [] world) →
+    run ≡ (events_of told, end)

@@ -1,0 +1,102 @@
+//! The lines of what a run told.
+ghost use Rattle.std.specs.Prelude.{◌≡◌, ◌++◌, OnOk, IfOk, codes, map, string_bytes};
+ghost use Rattle.mir_base.specs.Lines.{event_line, end_line};
+ghost use Rattle.mir_steps.specs.Worlds.{event_of};
+ghost use Rattle.mir_ty.specs.Named.{adt_name, body_name, text_of};
+
+use mir_base::{End, Event, NoMemory};
+use mir_steps::Told;
+use mir_ty::Items;
+use std::alloc::Global;
+
+/// The name of a body by its number, and nothing past the end.
+fn name_of_body(items: &Items, body: u32) -> &str
+    ensures { result.now ≡ body_name items.now body }
+{
+    match items.body_sig(body) {
+        Some(sig) => sig.name.as_str(),
+        None => "",
+    }
+}
+
+/// The name of a struct or an enum by its number, and nothing past the end.
+fn name_of_adt(items: &Items, adt: u32) -> &str
+    ensures { result.now ≡ adt_name items.now adt }
+{
+    match items.adt(adt) {
+        Some(adt) => adt.name.as_str(),
+        None => "",
+    }
+}
+
+fn write_event(out: &mut String, items: &Items, event: &Event) -> Result<(), NoMemory>
+    ensures { OnOk result (string_bytes out.new ≡ string_bytes out.old
+        ++ event_line (body_name items.now) (adt_name items.now) event.now) }
+{
+    match event {
+        Event::Call(body) => write!(out, "call {}\n", name_of_body(items, *body))?,
+        Event::Return(body) => write!(out, "return {}\n", name_of_body(items, *body))?,
+        Event::Unwind(body) => write!(out, "unwind {}\n", name_of_body(items, *body))?,
+        Event::Make { adt, serial } => write!(out, "make {}#{serial}\n", name_of_adt(items, *adt))?,
+        Event::Boxed(serial) => write!(out, "box #{serial}\n")?,
+        Event::Dropped { adt, serial } => write!(
+            out,
+            "drop {}#{serial}\n",
+            name_of_adt(items, *adt)
+        )?,
+        Event::Freed(serial) => write!(out, "free #{serial}\n")?,
+        Event::ForgotMade { adt, serial } => write!(
+            out,
+            "forget {}#{serial}\n",
+            name_of_adt(items, *adt)
+        )?,
+        Event::ForgotBox(serial) => write!(out, "forget #{serial}\n")?,
+        Event::Printed(number) => write!(out, "print {number}\n")?,
+        Event::Asked(number) => write!(out, "ask {number}\n")?,
+        Event::Panicked(why) => write!(out, "panic {}\n", why.word())?,
+    }
+    Ok(())
+}
+
+fn write_told(out: &mut String, items: &Items, told: &Told) -> Result<(), NoMemory>
+    ensures { OnOk result (string_bytes out.new ≡ string_bytes out.old
+        ++ event_line (body_name items.now) (adt_name items.now) (event_of told.now)) }
+{
+    match told {
+        Told::Event(event) => write_event(out, items, event),
+        Told::Printed(number) => {
+            write!(out, "print {number}\n")?;
+            Ok(())
+        }
+    }
+}
+
+fn write_end(out: &mut String, end: &End) -> Result<(), NoMemory>
+    ensures { OnOk result (string_bytes out.new ≡ string_bytes out.old ++ end_line end.now) }
+{
+    match end {
+        End::Returned => out.push_str("end: returned\n")?,
+        End::Panicked => out.push_str("end: panicked\n")?,
+        End::Aborted => out.push_str("end: aborted\n")?,
+        End::OutOfTicks => out.push_str("end: out of ticks\n")?,
+        End::Stuck { body, block } => write!(out, "end: stuck in body {body} block {block}\n")?,
+    }
+    Ok(())
+}
+
+/// The text of what a run told, with its last line.
+pub fn text_of_run(
+    alloc: Global,
+    items: &Items,
+    told: &[Told],
+    end: &End,
+) -> Result<String, NoMemory>
+    ensures { IfOk result (λ text. string_bytes text ≡ text_of items.now (map event_of told.now) end.now) }
+{
+    let mut out = String::new(alloc);
+    for one in told {
+        write_told(&mut out, items, one)?;
+    }
+    write_end(&mut out, end)?;
+    Ok(out)
+}
