@@ -7,3 +7,4 @@ pub mod Decimal
 pub mod Kept
 pub mod Fields
 pub mod Variants
+pub mod Receivers

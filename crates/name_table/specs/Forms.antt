@@ -1,18 +1,19 @@
 -- The definitions over forms that are borrowed from a tree: `None` is a node that is none of the sort.
-use Rattle.std.specs.Prelude.{◌≡◌, ℕ, ◌<◌, ⊤, true, false, List, [], ◌∷◌, length, ◌||◌, not, nat_le, Option, Some, None}
+use Rattle.std.specs.Prelude.{◌≡◌, ℕ, ◌<◌, ⊤, Bool, true, false, if◌then◌else◌, List, [], ◌∷◌, length, ◌||◌, not, nat_le, Option, Some, None}
 use Rattle.mir_base.specs.declared.int_kind.IntKind.{IntKind}
 use Rattle.mir_ty.specs.declared.ty.Ty.{Ty}
 use Rattle.mir_base.specs.declared.place_in_text.Pos.{Pos}
 use Rattle.mir_base.specs.declared.rule.Rule.{Rule}
 use Rattle.mir_ty.specs.declared.adt.Variant.{Variant}
 use Rattle.mir_ty.specs.ItemTable.{with_adt}
+use Rattle.mir_ty.specs.declared.def.Sig.{Sig}
 use Rattle.mir_ty.specs.declared.ty.TyId.{TyId}
 use Rattle.name_table.specs.declared.written.Scope.{Scope}
 use Rattle.name_table.specs.declared.known.Known.{Known}
 use Rattle.name_table.specs.declared.heads.Own.{Own}
 use Rattle.typing_rules.specs.Collected as walk
-use Rattle.typing_rules.specs.Collected.{own_ty, receiver_ty, param_ty, derives_known, variant_of, declared_variant, adt_of, added, names_alone}
-use Rattle.src_ast.specs.Syntax.{Word, Named, Syns, list_of, number_word, Receiver, Syn, syn, FieldDecl, Shape}
+use Rattle.typing_rules.specs.Collected.{own_ty, receiver_ty, param_ty, derives_known, variant_of, declared_variant, adt_of, added, names_alone, sig_of, behind_self, with_receiver, has_receiver, trait_head}
+use Rattle.src_ast.specs.Syntax.{MaybeSyn, SelfParam, ByShared, ByUnique, Word, Named, Syns, list_of, number_word, Receiver, Syn, syn, FieldDecl, Shape}
 use Rattle.typing_rules.specs.Check.{Check, each_checked, pure, breaks, obeys, interned, ◌>>=◌, ◌>>◌}
 use Rattle.typing_rules.specs.Written.{Around, written_form, written_param_form, is_usize, length_shown, number_of}
 
@@ -100,3 +101,29 @@ enum_by k ds name variants = do
   derives_known ds
   vs ← variants_in k name variants
   added (λ items. with_adt items (adt_of k ds name true vs))
+
+-- ---- traits
+
+abbrev pub is_self_by : Option Shape → Bool
+is_self_by (Some (SelfParam receiver)) = true
+is_self_by _ = false
+
+abbrev pub reference_by : Option Shape → Bool
+reference_by (Some (SelfParam ByShared)) = true
+reference_by (Some (SelfParam ByUnique)) = true
+reference_by _ = false
+
+-- a method without `&self` or `&mut self` gets `&dyn`
+abbrev pub other_method : Around → TyId → Word → Syns → MaybeSyn → Check Sig
+other_method around own name params answer =
+    interned (Ty.Shared own) >>= (λ self. sig_of around (pure own) name (behind_self params) answer >>= (λ sig. pure (
+    with_receiver self sig)))
+
+abbrev pub own_method : Around → TyId → Word → Syns → MaybeSyn → Check Sig
+own_method around own name params answer =
+    if has_receiver params then sig_of around (pure own) name params answer
+    else other_method around own name params answer
+
+abbrev pub trait_head_by : Around → TyId → Pos → Option Shape → Check Sig
+trait_head_by around own at None = breaks Rule.T20 at
+trait_head_by around own at (Some form) = trait_head around own (syn at form)

@@ -7,6 +7,7 @@ mod heads;
 mod known;
 mod names;
 mod steps;
+mod traits;
 mod written;
 
 pub use adts::{enum_item, struct_item};
