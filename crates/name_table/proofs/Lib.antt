@@ -8,3 +8,5 @@ pub mod Kept
 pub mod Fields
 pub mod Variants
 pub mod Receivers
+pub mod Told
+pub mod Closures

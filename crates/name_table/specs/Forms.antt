@@ -13,9 +13,10 @@ use Rattle.name_table.specs.declared.known.Known.{Known}
 use Rattle.name_table.specs.declared.heads.Own.{Own}
 use Rattle.typing_rules.specs.Collected as walk
 use Rattle.typing_rules.specs.Collected.{own_ty, receiver_ty, param_ty, derives_known, variant_of, declared_variant, adt_of, added, names_alone, sig_of, behind_self, with_receiver, has_receiver, trait_head}
-use Rattle.src_ast.specs.Syntax.{MaybeSyn, SelfParam, ByShared, ByUnique, Word, Named, Syns, list_of, number_word, Receiver, Syn, syn, FieldDecl, Shape}
+use Rattle.src_ast.specs.Syntax.{ParamOf, MaybeSyn, SelfParam, ByShared, ByUnique, Word, Named, Syns, list_of, number_word, Receiver, Syn, syn, FieldDecl, Shape}
 use Rattle.typing_rules.specs.Check.{Check, each_checked, pure, breaks, obeys, interned, ◌>>=◌, ◌>>◌}
-use Rattle.typing_rules.specs.Written.{Around, written_form, written_param_form, is_usize, length_shown, number_of}
+use Rattle.typing_rules.specs.Places.{unit}
+use Rattle.typing_rules.specs.Written.{Around, or_unit, written, written_form, written_param_form, is_usize, length_shown, number_of}
 
 abbrev pub around_of : Scope → Around
 around_of scope =
@@ -127,3 +128,9 @@ own_method around own name params answer =
 abbrev pub trait_head_by : Around → TyId → Pos → Option Shape → Check Sig
 trait_head_by around own at None = breaks Rule.T20 at
 trait_head_by around own at (Some form) = trait_head around own (syn at form)
+
+-- ---- closures
+
+abbrev pub closure_param_by : Around → Option Shape → Check TyId
+closure_param_by around (Some (ParamOf p ty)) = or_unit (written around ty)
+closure_param_by around _ = pure unit

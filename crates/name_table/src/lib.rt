@@ -2,10 +2,12 @@
 #![tactic(auto)]
 
 mod adts;
+mod bodies;
 mod declared;
 mod heads;
 mod known;
 mod names;
+mod standing;
 mod steps;
 mod traits;
 mod written;

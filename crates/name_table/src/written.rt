@@ -33,7 +33,7 @@ pub struct Scope<'a> {
 }
 
 /// The type that a name of the language is.
-fn scalar(name: &str) -> Option<TyId>
+pub fn scalar(name: &str) -> Option<TyId>
     ensures value { result ≡ scalar_named name.now }
     ensures small { IfSome result (λ id. id.0 < 8) }
 {
