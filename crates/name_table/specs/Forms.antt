@@ -1,5 +1,5 @@
 -- The definitions over forms that are borrowed from a tree: `None` is a node that is none of the sort.
-use Rattle.std.specs.Prelude.{◌≡◌, ℕ, ◌<◌, ⊤, Bool, true, false, if◌then◌else◌, List, [], ◌∷◌, length, ◌||◌, not, nat_le, Option, Some, None}
+use Rattle.std.specs.Prelude.{◌≡◌, ℕ, ◌<◌, ⊤, Result, Ok, Err, option_and_then, Bool, true, false, if◌then◌else◌, List, [], ◌∷◌, length, ◌||◌, not, nat_le, Option, Some, None}
 use Rattle.mir_base.specs.declared.int_kind.IntKind.{IntKind}
 use Rattle.mir_ty.specs.declared.ty.Ty.{Ty}
 use Rattle.mir_base.specs.declared.place_in_text.Pos.{Pos}
@@ -12,7 +12,9 @@ use Rattle.name_table.specs.declared.written.Scope.{Scope}
 use Rattle.name_table.specs.declared.known.Known.{Known}
 use Rattle.name_table.specs.declared.heads.Own.{Own}
 use Rattle.typing_rules.specs.Collected as walk
-use Rattle.typing_rules.specs.Collected.{own_ty, receiver_ty, param_ty, derives_known, variant_of, declared_variant, adt_of, added, names_alone, sig_of, behind_self, with_receiver, has_receiver, trait_head}
+use Rattle.typing_rules.specs.Collected.{own_ty, receiver_ty, param_ty, derives_known, variant_of, declared_variant, adt_of, added, names_alone, sig_of, behind_self, with_receiver, has_receiver, trait_head, closure_param, answer_ty, body_added}
+use Rattle.typing_rules.specs.Items.{full_name}
+use Rattle.mir_base.specs.declared.rule.RuleError.{RuleError}
 use Rattle.src_ast.specs.Syntax.{ParamOf, MaybeSyn, SelfParam, ByShared, ByUnique, Word, Named, Syns, list_of, number_word, Receiver, Syn, syn, FieldDecl, Shape}
 use Rattle.typing_rules.specs.Check.{Check, each_checked, pure, breaks, obeys, interned, ◌>>=◌, ◌>>◌}
 use Rattle.typing_rules.specs.Places.{unit}
@@ -134,3 +136,29 @@ trait_head_by around own at (Some form) = trait_head around own (syn at form)
 abbrev pub closure_param_by : Around → Option Shape → Check TyId
 closure_param_by around (Some (ParamOf p ty)) = or_unit (written around ty)
 closure_param_by around _ = pure unit
+
+-- what a call answers, as the definitions say it
+abbrev pub answered : {A B : Type 0} → (A → B) → Result A RuleError → Result B RuleError
+answered f (Ok a) = Ok (f a)
+answered f (Err e) = Err e
+
+abbrev pub all_params_by : Around → ℕ → Syns → Check (List TyId)
+all_params_by around closures params = do
+  self ← interned (Ty.Closure closures)
+  tys ← each_checked (closure_param around) (list_of params)
+  pure (self ∷ tys)
+
+abbrev pub closure_head_by : Around → ℕ → Word → Syns → MaybeSyn → Check (Unit {0})
+closure_head_by around closures name params answer = do
+  tys ← all_params_by around closures params
+  ty ← or_unit (answer_ty around answer)
+  body_added (record { name = name; params = tys; result = ty })
+
+-- ---- bodies
+
+abbrev pub function_by : walk.Known → Option Word → ℕ → Pos → Word → Syns → MaybeSyn → Check walk.Count
+function_by k owner closures at name params answer = do
+  let self_adt = option_and_then (number_of k.adts) owner
+  sig ← sig_of (names_alone k self_adt) (own_ty at self_adt) (full_name owner name) params answer
+  body_added sig
+  pure (record { outer = full_name owner name; in_outer = 0; closures = closures })

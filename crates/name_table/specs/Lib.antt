@@ -2,3 +2,4 @@ pub mod Answers
 pub mod Sizes
 pub mod Forms
 pub mod Standing
+pub mod Counts

@@ -1,9 +1,10 @@
 //! The heads of bodies, in text order, those of closures among them.
-ghost use Rattle.std.specs.Prelude.{◌≡◌, ◌<◌, ◌≤◌, ◌++◌, length, false, IfOk, IfErr};
+ghost use Rattle.std.specs.Prelude.{◌≡◌, ◌<◌, ◌≤◌, ◌++◌, ◌∷◌, length, false, IfOk, IfErr, option_and_then};
 ghost use Rattle.mir_base.specs.declared.rule.RuleError.{RuleError};
 ghost use Rattle.mir_ty.specs.AreItems.{AreTypes, IsSig};
 ghost use Rattle.name_table.specs.Answers.{Answers};
-ghost use Rattle.name_table.specs.Forms.{around_of, known_of};
+ghost use Rattle.name_table.specs.Forms.{around_of, known_of, answered, function_by, all_params_by, closure_head_by};
+ghost use Rattle.name_table.specs.Counts.{count_of};
 ghost use Rattle.src_ast.specs.Seen.{nodes_of, syn_of, maybe_of, word_of};
 ghost use Rattle.src_ast.specs.Syntax.{list_of, shape_of};
 ghost use Rattle.src_ast.specs.View.{named};
@@ -12,14 +13,17 @@ ghost use Rattle.typing_rules.specs.Collected as walk;
 ghost use Rattle.typing_rules.specs.Collected.{starting_with};
 ghost use Rattle.typing_rules.specs.Items.{full_name, closure_name};
 ghost use Rattle.typing_rules.specs.Written as types;
+ghost use Rattle.typing_rules.specs.Written.{number_of};
 
-use crate::declared::number_name;
+use crate::declared::{name_from, number_name};
+use crate::heads::{Own, head};
+use crate::known::Known;
 use crate::standing::written_or_unit;
-use crate::steps::pushed;
+use crate::steps::{interned, pushed};
 use crate::written::Scope;
-use mir_base::{List, Name, NoMemory, RuleError};
-use mir_ty::{Items, Sig, TyId};
-use src_ast::{Nodes, ParamForm, param_form};
+use mir_base::{List, Name, NoMemory, Pos, RuleError};
+use mir_ty::{Items, Sig, Ty, TyId};
+use src_ast::{Function, Nodes, ParamForm, name_of, param_form};
 use src_tree::Node;
 use std::alloc::{AllocError, Global};
 
@@ -115,4 +119,105 @@ fn closure_answer(
         Some(node) => written_or_unit(items, scope, node),
         None => Ok(TyId(0)),
     }
+}
+
+/// The function or method around, and how many closures it and the text have had.
+#[derive(Drop)]
+pub struct Count {
+    pub outer: Name,
+    pub in_outer: u64,
+    pub closures: u32,
+}
+
+/// The number of the struct or enum whose methods these are.
+fn own_adt(known: &Known, owner: Option<&str>) -> Option<u32>
+    ensures { result ≡ option_and_then (number_of known.now.adts) (word_of owner.entry) }
+{
+    match owner {
+        Some(owner) => known.adts.find(owner),
+        None => None,
+    }
+}
+
+/// The head of a function or a method, added.
+fn function_body(
+    items: &mut Items,
+    known: &Known,
+    owner: Option<&str>,
+    closures: u32,
+    at: Pos,
+    function: Function,
+) -> Result<Count, RuleError>
+    requires { 8 ≤ length items.old.types }
+    ensures answers { Answers (function_by (known_of known.now) (word_of owner.entry) closures at (named (syn_of function.entry.name.now)).1 (nodes_of function.entry.params) (maybe_of function.entry.answer) (starting_with items.old)) (answered count_of result) items.new }
+    ensures grows { length items.old.types ≤ length items.new.types }
+{
+    let scope = known.scope(own_adt(known, owner));
+    let Ok(name) = body_name(known.alloc, owner, name_of(function.name)) else {
+        return Err(RuleError::Memory);
+    };
+    let outer = name_from(known.alloc, name.as_str())?;
+    let sig = head(items, &scope, Own::Around(at), name, function.params, function.answer)?;
+    add(items, sig)?;
+    Ok(Count {
+        outer,
+        in_outer: 0,
+        closures,
+    })
+}
+
+/// The first before the others.
+fn before(first: TyId, others: List<TyId>) -> Result<List<TyId>, RuleError>
+    ensures all { IfOk result (λ all. all ≡ first ∷ others) }
+    ensures short { IfErr result (λ e. e ≡ RuleError.Memory) }
+{
+    let mut all = others.into_vec();
+    match all.insert(0, first) {
+        Ok(()) => Ok(List::from_vec(all)),
+        Err(_) => Err(RuleError::Memory),
+    }
+}
+
+/// The parameters of a closure, behind the closure itself.
+fn all_params(
+    items: &mut Items,
+    scope: &Scope,
+    closures: u32,
+    params: Nodes,
+) -> Result<List<TyId>, RuleError>
+    requires ready { 8 ≤ length items.old.types }
+    requires free { scope.now.has_limits ≡ false }
+    ensures answers { Answers (all_params_by (around_of scope.now) closures (nodes_of params.entry) (starting_with items.old)) result items.new }
+    ensures grows { length items.old.types ≤ length items.new.types }
+    ensures known { IfOk result (λ ids. AreTypes items.new.types ids) }
+{
+    let own = interned(items, Ty::Closure(closures))?;
+    let others = closure_params(items, scope, params)?;
+    before(own, others)
+}
+
+/// The head of a closure, added.
+fn closure_head(
+    items: &mut Items,
+    scope: &Scope,
+    closures: u32,
+    name: Name,
+    params: Nodes,
+    answer: Option<&Node>,
+) -> Result<(), RuleError>
+    requires ready { 8 ≤ length items.old.types }
+    requires free { scope.now.has_limits ≡ false }
+    ensures answers { Answers (closure_head_by (around_of scope.now) closures name (nodes_of params.entry) (maybe_of answer.entry) (starting_with items.old)) result items.new }
+    ensures grows { length items.old.types ≤ length items.new.types }
+{
+    let params = all_params(items, scope, closures, params)?;
+    let answer_type = closure_answer(items, scope, answer)?;
+    add(
+        items,
+        Sig {
+            name,
+            params,
+            result: answer_type,
+        },
+    )
 }
