@@ -10,3 +10,5 @@ pub mod Variants
 pub mod Receivers
 pub mod Told
 pub mod Closures
+pub mod BodyForms
+pub mod Walks

@@ -1,5 +1,5 @@
 -- The definitions over forms that are borrowed from a tree: `None` is a node that is none of the sort.
-use Rattle.std.specs.Prelude.{◌≡◌, ℕ, ◌<◌, ⊤, Result, Ok, Err, option_and_then, Bool, true, false, if◌then◌else◌, List, [], ◌∷◌, length, ◌||◌, not, nat_le, Option, Some, None}
+use Rattle.std.specs.Prelude.{◌≡◌, ℕ, ◌+◌, ◌<◌, ⊤, Result, Ok, Err, option_and_then, Bool, true, false, if◌then◌else◌, List, [], ◌∷◌, length, ◌||◌, not, nat_le, Option, Some, None}
 use Rattle.mir_base.specs.declared.int_kind.IntKind.{IntKind}
 use Rattle.mir_ty.specs.declared.ty.Ty.{Ty}
 use Rattle.mir_base.specs.declared.place_in_text.Pos.{Pos}
@@ -12,8 +12,10 @@ use Rattle.name_table.specs.declared.written.Scope.{Scope}
 use Rattle.name_table.specs.declared.known.Known.{Known}
 use Rattle.name_table.specs.declared.heads.Own.{Own}
 use Rattle.typing_rules.specs.Collected as walk
-use Rattle.typing_rules.specs.Collected.{own_ty, receiver_ty, param_ty, derives_known, variant_of, declared_variant, adt_of, added, names_alone, sig_of, behind_self, with_receiver, has_receiver, trait_head, closure_param, answer_ty, body_added}
-use Rattle.typing_rules.specs.Items.{full_name}
+use Rattle.typing_rules.specs.Collected.{own_ty, receiver_ty, param_ty, derives_known, variant_of, declared_variant, adt_of, added, names_alone, sig_of, behind_self, with_receiver, has_receiver, trait_head, closure_param, body_added, body_sig, closure_head}
+use Rattle.typing_rules.specs.Items.{full_name, closure_name, is_body_row, bodies_in}
+use Rattle.src_tree.specs.View.{Single, a_token, a_node}
+use Rattle.src_tree.specs.declared.row.Row.{Row}
 use Rattle.mir_base.specs.declared.rule.RuleError.{RuleError}
 use Rattle.src_ast.specs.Syntax.{ParamOf, MaybeSyn, SelfParam, ByShared, ByUnique, Word, Named, Syns, list_of, number_word, Receiver, Syn, syn, FieldDecl, Shape}
 use Rattle.typing_rules.specs.Check.{Check, each_checked, pure, breaks, obeys, interned, ◌>>=◌, ◌>>◌}
@@ -142,18 +144,6 @@ abbrev pub answered : {A B : Type 0} → (A → B) → Result A RuleError → Re
 answered f (Ok a) = Ok (f a)
 answered f (Err e) = Err e
 
-abbrev pub all_params_by : Around → ℕ → Syns → Check (List TyId)
-all_params_by around closures params = do
-  self ← interned (Ty.Closure closures)
-  tys ← each_checked (closure_param around) (list_of params)
-  pure (self ∷ tys)
-
-abbrev pub closure_head_by : Around → ℕ → Word → Syns → MaybeSyn → Check (Unit {0})
-closure_head_by around closures name params answer = do
-  tys ← all_params_by around closures params
-  ty ← or_unit (answer_ty around answer)
-  body_added (record { name = name; params = tys; result = ty })
-
 -- ---- bodies
 
 abbrev pub function_by : walk.Known → Option Word → ℕ → Pos → Word → Syns → MaybeSyn → Check walk.Count
@@ -162,3 +152,22 @@ function_by k owner closures at name params answer = do
   sig ← sig_of (names_alone k self_adt) (own_ty at self_adt) (full_name owner name) params answer
   body_added sig
   pure (record { outer = full_name owner name; in_outer = 0; closures = closures })
+
+abbrev pub body_by : walk.Known → Option Word → walk.Count → Pos → Option Shape → Option Shape → Check walk.Count
+body_by k owner c at (Some form) expression = body_sig k owner c (syn at form)
+body_by k owner c at None (Some form) = body_sig k owner c (syn at form)
+body_by k owner c at None None = breaks Rule.T20 at
+
+abbrev pub closure_by : walk.Known → Option Word → walk.Count → Syns → MaybeSyn → Check walk.Count
+closure_by k owner c params answer = do
+  let around = names_alone k (option_and_then (number_of k.adts) owner)
+  closure_head around c.closures (closure_name c.outer (c.in_outer + 1)) params answer
+  pure (record c { in_outer = c.in_outer + 1; closures = c.closures + 1 })
+
+-- a node with its own head, where it is a body
+abbrev pub own_sig : walk.Known → Option Word → walk.Count → Row → Syn → Check walk.Count
+own_sig k owner c row x = if is_body_row row then body_sig k owner c x else pure c
+
+abbrev pub bodies_in_piece : Single → List Syn
+bodies_in_piece (a_token t) = []
+bodies_in_piece (a_node g) = bodies_in g

@@ -3,7 +3,7 @@ ghost use Rattle.std.specs.Prelude.{◌≡◌, ◌<◌, ◌≤◌, ◌++◌, ◌
 ghost use Rattle.mir_base.specs.declared.rule.RuleError.{RuleError};
 ghost use Rattle.mir_ty.specs.AreItems.{AreTypes, IsSig};
 ghost use Rattle.name_table.specs.Answers.{Answers};
-ghost use Rattle.name_table.specs.Forms.{around_of, known_of, answered, function_by, all_params_by, closure_head_by};
+ghost use Rattle.name_table.specs.Forms.{around_of, known_of, answered, function_by};
 ghost use Rattle.name_table.specs.Counts.{count_of};
 ghost use Rattle.src_ast.specs.Seen.{nodes_of, syn_of, maybe_of, word_of};
 ghost use Rattle.src_ast.specs.Syntax.{list_of, shape_of};
@@ -43,7 +43,7 @@ fn body_name(alloc: Global, owner: Option<&str>, name: &str) -> Result<Name, All
 }
 
 /// The name of a closure: `f::closure#1` of the first in f.
-fn name_of_closure(alloc: Global, outer: &Name, number: u64) -> Result<Name, AllocError>
+pub fn name_of_closure(alloc: Global, outer: &Name, number: u64) -> Result<Name, AllocError>
     ensures { IfOk result (λ whole. whole ≡ closure_name outer.now number) }
 {
     let digits = number_name(alloc, number)?;
@@ -130,7 +130,7 @@ pub struct Count {
 }
 
 /// The number of the struct or enum whose methods these are.
-fn own_adt(known: &Known, owner: Option<&str>) -> Option<u32>
+pub fn own_adt(known: &Known, owner: Option<&str>) -> Option<u32>
     ensures { result ≡ option_and_then (number_of known.now.adts) (word_of owner.entry) }
 {
     match owner {
@@ -140,7 +140,7 @@ fn own_adt(known: &Known, owner: Option<&str>) -> Option<u32>
 }
 
 /// The head of a function or a method, added.
-fn function_body(
+pub fn function_body(
     items: &mut Items,
     known: &Known,
     owner: Option<&str>,
@@ -187,7 +187,7 @@ fn all_params(
 ) -> Result<List<TyId>, RuleError>
     requires ready { 8 ≤ length items.old.types }
     requires free { scope.now.has_limits ≡ false }
-    ensures answers { Answers (all_params_by (around_of scope.now) closures (nodes_of params.entry) (starting_with items.old)) result items.new }
+    ensures answers { Answers (walk.closure_params (around_of scope.now) closures (nodes_of params.entry) (starting_with items.old)) result items.new }
     ensures grows { length items.old.types ≤ length items.new.types }
     ensures known { IfOk result (λ ids. AreTypes items.new.types ids) }
 {
@@ -197,7 +197,7 @@ fn all_params(
 }
 
 /// The head of a closure, added.
-fn closure_head(
+pub fn closure_head(
     items: &mut Items,
     scope: &Scope,
     closures: u32,
@@ -207,7 +207,7 @@ fn closure_head(
 ) -> Result<(), RuleError>
     requires ready { 8 ≤ length items.old.types }
     requires free { scope.now.has_limits ≡ false }
-    ensures answers { Answers (closure_head_by (around_of scope.now) closures name (nodes_of params.entry) (maybe_of answer.entry) (starting_with items.old)) result items.new }
+    ensures answers { Answers (walk.closure_head (around_of scope.now) closures name (nodes_of params.entry) (maybe_of answer.entry) (starting_with items.old)) result items.new }
     ensures grows { length items.old.types ≤ length items.new.types }
 {
     let params = all_params(items, scope, closures, params)?;

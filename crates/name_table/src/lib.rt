@@ -3,6 +3,7 @@
 
 mod adts;
 mod bodies;
+mod body_walk;
 mod declared;
 mod heads;
 mod known;

@@ -1,6 +1,6 @@
 -- The items of a text, or the first broken rule on items: names first (T02), then the names in heads (T01), then types
 -- that hold themselves (T09), then what is derived (T10), then `main`.
-use Rattle.std.specs.Prelude.{ℕ, suc, Bool, true, false, ◌&&◌, ◌||◌, not, List, [], ◌∷◌, ◌++◌, length, Option, Some, None, Result, Ok, Err, is_some, if◌then◌else◌, codes, option_and_then, slice_get}
+use Rattle.std.specs.Prelude.{ℕ, suc, ◌+◌, Bool, true, false, ◌&&◌, ◌||◌, not, List, [], ◌∷◌, ◌++◌, length, Option, Some, None, Result, Ok, Err, is_some, if◌then◌else◌, codes, option_and_then, slice_get}
 use Rattle.std.specs.List.{list_any, list_all, filter_map}
 use Rattle.std.specs.Str.{bytes_eq}
 use Rattle.mir_base.specs.declared.place_in_text.Pos.{Pos}
@@ -160,6 +160,19 @@ abbrev pub closure_param : Around → Syn → Check TyId
 closure_param around (syn at (ParamOf p ty)) = or_unit (written around ty)
 closure_param around (syn at _) = pure unit
 
+-- the parameters of a closure, behind the closure itself
+abbrev pub closure_params : Around → ℕ → Syns → Check (List TyId)
+closure_params around closures params = do
+  self ← interned (Ty.Closure closures)
+  tys ← each_checked (closure_param around) (list_of params)
+  pure (self ∷ tys)
+
+abbrev pub closure_head : Around → ℕ → Word → Syns → MaybeSyn → Check (Unit {0})
+closure_head around closures name params answer = do
+  tys ← closure_params around closures params
+  ty ← or_unit (answer_ty around answer)
+  body_added (record { name = name; params = tys; result = ty })
+
 abbrev pub body_sig : Known → Option Word → Count → Syn → Check Count
 body_sig k owner c (syn at (FnItem name params answer block)) = do
   let self_adt = option_and_then (number_of k.adts) owner
@@ -168,11 +181,8 @@ body_sig k owner c (syn at (FnItem name params answer block)) = do
   pure (record c { outer = full_name owner name.1; in_outer = 0 })
 body_sig k owner c (syn at (MoveOf captures params answer body)) = do
   let around = names_alone k (option_and_then (number_of k.adts) owner)
-  self ← interned (Ty.Closure c.closures)
-  tys ← each_checked (closure_param around) (list_of params)
-  ty ← or_unit (answer_ty around answer)
-  body_added (record { name = closure_name c.outer (suc c.in_outer); params = self ∷ tys; result = ty })
-  pure (record c { in_outer = suc c.in_outer; closures = suc c.closures })
+  closure_head around c.closures (closure_name c.outer (c.in_outer + 1)) params answer
+  pure (record c { in_outer = c.in_outer + 1; closures = c.closures + 1 })
 body_sig k owner c (syn at _) = breaks Rule.T20 at
 
 abbrev pub body_sigs : Known → Option Word → Count → List Syn → Check Count

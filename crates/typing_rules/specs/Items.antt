@@ -45,13 +45,13 @@ all_kinds items = filter_map kinds_of items
 
 -- ---- bodies
 
-abbrev is_body_row : Row → Bool
+abbrev pub is_body_row : Row → Bool
 is_body_row Row.Fn = true
 is_body_row Row.Method = true
 is_body_row Row.Closure = true
 is_body_row _ = false
 
-abbrev with_body : Bool → Syn → List Syn → List Syn
+abbrev pub with_body : Bool → Syn → List Syn → List Syn
 with_body true body bodies = body ∷ bodies
 with_body false body bodies = bodies
 
@@ -60,7 +60,7 @@ abbrev mutual
   pub bodies_in : layout.Node Pos → List Syn
   bodies_in (node at row parts) = with_body (is_body_row row) (view (node at row parts)) (bodies_among parts)
 
-  bodies_among : Parts Pos → List Syn
+  pub bodies_among : Parts Pos → List Syn
   bodies_among end = []
   bodies_among (tok t rest) = bodies_among rest
   bodies_among (sub g rest) = bodies_in g ++ bodies_among rest
