@@ -12,3 +12,4 @@ pub mod Told
 pub mod Closures
 pub mod BodyForms
 pub mod Walks
+pub mod Filtered

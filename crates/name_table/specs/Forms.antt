@@ -1,5 +1,5 @@
 -- The definitions over forms that are borrowed from a tree: `None` is a node that is none of the sort.
-use Rattle.std.specs.Prelude.{◌≡◌, ℕ, ◌+◌, ◌<◌, ⊤, Result, Ok, Err, option_and_then, Bool, true, false, if◌then◌else◌, List, [], ◌∷◌, length, ◌||◌, not, nat_le, Option, Some, None}
+use Rattle.std.specs.Prelude.{◌≡◌, ℕ, ◌+◌, ◌<◌, ⊤, Result, Ok, Err, option_and_then, is_some, Bool, true, false, if◌then◌else◌, List, [], ◌∷◌, length, ◌||◌, not, nat_le, Option, Some, None}
 use Rattle.mir_base.specs.declared.int_kind.IntKind.{IntKind}
 use Rattle.mir_ty.specs.declared.ty.Ty.{Ty}
 use Rattle.mir_base.specs.declared.place_in_text.Pos.{Pos}
@@ -12,7 +12,7 @@ use Rattle.name_table.specs.declared.written.Scope.{Scope}
 use Rattle.name_table.specs.declared.known.Known.{Known}
 use Rattle.name_table.specs.declared.heads.Own.{Own}
 use Rattle.typing_rules.specs.Collected as walk
-use Rattle.typing_rules.specs.Collected.{own_ty, receiver_ty, param_ty, derives_known, variant_of, declared_variant, adt_of, added, names_alone, sig_of, behind_self, with_receiver, has_receiver, trait_head, closure_param, body_added, body_sig, closure_head}
+use Rattle.typing_rules.specs.Collected.{own_ty, receiver_ty, param_ty, derives_known, variant_of, declared_variant, adt_of, added, names_alone, sig_of, behind_self, with_receiver, has_receiver, trait_head, closure_param, body_added, body_sig, closure_head, is_drop}
 use Rattle.typing_rules.specs.Items.{full_name, closure_name, is_body_row, bodies_in}
 use Rattle.src_tree.specs.View.{Single, a_token, a_node}
 use Rattle.src_tree.specs.declared.row.Row.{Row}
@@ -171,3 +171,10 @@ own_sig k owner c row x = if is_body_row row then body_sig k owner c x else pure
 abbrev pub bodies_in_piece : Single → List Syn
 bodies_in_piece (a_token t) = []
 bodies_in_piece (a_node g) = bodies_in g
+
+abbrev pub listed : {A : Type 0} → Option A → List A
+listed None = []
+listed (Some a) = a ∷ []
+
+abbrev pub trait_known : walk.Known → Named → Check (Unit {0})
+trait_known k trait_ = obeys Rule.T01 trait_.0 (is_drop trait_.1 || is_some (number_of k.traits trait_.1))

@@ -6,6 +6,7 @@ mod bodies;
 mod body_walk;
 mod declared;
 mod heads;
+mod impls;
 mod known;
 mod names;
 mod standing;
