@@ -1,10 +1,9 @@
 -- Bodies of nodes, one behind another.
-use Rattle.std.proofs.Common.{◌≡◌, ℕ, Bool, true, false, if◌then◌else◌, List, [], ◌∷◌, ◌++◌, drop, map, length, get_or, suc, ◌+◌, ◌<◌, add-one, drop-cons, subst, Option, Some, None, Result, Ok, Err, refl, ap, sym, ◌∙◌}
+use Rattle.std.proofs.Common.{◌≡◌, ℕ, Bool, true, false, if◌then◌else◌, List, [], ◌∷◌, ◌++◌, drop, map, length, get_or, suc, ◌+◌, ◌<◌, add-one, drop-cons, subst, Option, Result, Ok, Err, refl, ap, sym, ◌∙◌}
 use Rattle.src_tree.specs.declared.node.Node.{Node}
 use Rattle.src_tree.specs.declared.node.Piece
 use Rattle.src_tree.specs.declared.node.Piece.{Piece}
-use Rattle.src_tree.specs.declared.row.Row.{Row}
-use Rattle.src_tree.specs.Layout.{node, end, tok, sub}
+use Rattle.src_tree.specs.Layout.{node}
 use Rattle.src_tree.specs.View.{layout_of, parts_in, parts_from, piece_of, Single, a_token, a_node}
 use Rattle.src_tree.proofs.Pieces.{node_laid, node_seen, token_seen}
 use Rattle.src_token.specs.declared.token.Token.{Token}

@@ -82,11 +82,7 @@ fn closure_param(items: &mut Items, scope: &Scope, node: &Node) -> Result<TyId, 
 }
 
 /// The types of the parameters of a closure, in their order.
-fn closure_params(
-    items: &mut Items,
-    scope: &Scope,
-    params: Nodes,
-) -> Result<List<TyId>, RuleError>
+fn closure_params(items: &mut Items, scope: &Scope, params: Nodes) -> Result<List<TyId>, RuleError>
     requires ready { 8 ≤ length items.old.types }
     requires free { scope.now.has_limits ≡ false }
     ensures answers { Answers (each_checked (walk.closure_param (around_of scope.now)) (list_of (nodes_of params.entry)) (starting_with items.old)) result items.new }
@@ -157,7 +153,14 @@ pub fn function_body(
         return Err(RuleError::Memory);
     };
     let outer = name_from(known.alloc, name.as_str())?;
-    let sig = head(items, &scope, Own::Around(at), name, function.params, function.answer)?;
+    let sig = head(
+        items,
+        &scope,
+        Own::Around(at),
+        name,
+        function.params,
+        function.answer,
+    )?;
     add(items, sig)?;
     Ok(Count {
         outer,

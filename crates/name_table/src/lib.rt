@@ -15,7 +15,11 @@ mod traits;
 mod written;
 
 pub use adts::{enum_item, struct_item};
+pub use bodies::Count;
+pub use body_walk::bodies_of;
 pub use heads::{Own, head};
+pub use impls::{add_impl, impl_head};
 pub use known::Known;
 pub use names::NameTable;
+pub use traits::trait_heads;
 pub use written::Scope;

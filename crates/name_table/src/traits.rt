@@ -131,7 +131,14 @@ fn own_head(
 {
     if has_receiver(function.params) {
         let name = name_from(scope.alloc, name_of(function.name))?;
-        head(items, scope, Own::Given(own), name, function.params, function.answer)
+        head(
+            items,
+            scope,
+            Own::Given(own),
+            name,
+            function.params,
+            function.answer,
+        )
     } else {
         other_head(items, scope, own, function)
     }
@@ -156,7 +163,7 @@ fn trait_head(items: &mut Items, scope: &Scope, own: TyId, node: &Node) -> Resul
 }
 
 /// The heads of a trait's methods, in their order.
-fn trait_heads(
+pub fn trait_heads(
     items: &mut Items,
     scope: &Scope,
     own: TyId,

@@ -13,8 +13,8 @@ use Rattle.name_table.proofs.body_walk.+bodies.Goals as goal
 pub bodies_of-returns-in_err-count-clause-answers : goal.bodies_of-returns-in_err-count-clause-answers
 bodies_of-returns-in_err-count-clause-answers t c =
     let refused : Refuses (body_sigs (known_of c.args.known.now) (word_of c.args.owner) (count_of c.args.count) (bodies_among (parts_in c.args.pieces.now)) (starting_with c.args.items.now)) c.in_err-count.field-0.0 =
-        stopped_at (known_of c.args.known.now) (word_of c.args.owner) _ (count_of c.loop-piece.count) c.args.pieces.now c.loop-piece.piece-index c.piece-item.result
-        (starting_with c.loop-piece.items) c.in_err-count.field-0.0 c.loop-piece-test.true c.piece-item.is c.loop-piece.invariant.answers c.in_err-count.ensures.answers in
+    stopped_at (known_of c.args.known.now) (word_of c.args.owner) _ (count_of c.loop-piece.count) c.args.pieces.now c.loop-piece.piece-index c.piece-item.result
+    (starting_with c.loop-piece.items) c.in_err-count.field-0.0 c.loop-piece-test.true c.piece-item.is c.loop-piece.invariant.answers c.in_err-count.ensures.answers in
     grind (arith, refused)
 
 pub bodies_of-loop-piece-preserved : goal.bodies_of-loop-piece-preserved
@@ -22,6 +22,6 @@ bodies_of-loop-piece-preserved t c =
     record {
       answers =
           on_pieces (known_of c.args.known.now) (word_of c.args.owner) _ (count_of c.loop-piece.count) (count_of c.in_ok-count.count) c.args.pieces.now c.loop-piece.piece-index c.piece-item.result
-              (starting_with c.loop-piece.items) _ c.loop-piece-test.true c.piece-item.is c.loop-piece.invariant.answers c.in_ok-count.ensures.answers;
+          (starting_with c.loop-piece.items) _ c.loop-piece-test.true c.piece-item.is c.loop-piece.invariant.answers c.in_ok-count.ensures.answers;
       grows = omega arith;
     }
