@@ -13,3 +13,4 @@ pub mod Closures
 pub mod BodyForms
 pub mod Walks
 pub mod Filtered
+pub mod ItemNames

@@ -1,7 +1,7 @@
 -- Names by their numbers.
 use Rattle.std.proofs.Common.{◌≡◌, ℕ, suc, ◌+◌, ◌≤◌, Bool, true, false, cond, eqb, if◌then◌else◌, List, [], ◌∷◌, ◌++◌, length, Option, Some, None, refl, ap, sym, ◌∙◌, arith, rules, Decides, nat_lt, length-append}
-use Rattle.std.specs.Prelude.{is_some, not}
-use Rattle.std.specs.List.{position as position_of, position_or_len}
+use Rattle.std.specs.Prelude.{is_some, not, ◌||◌}
+use Rattle.std.specs.List.{list_any, position as position_of, position_or_len}
 use Rattle.std.specs.Option.{option_or}
 use Rattle.std.specs.HashMap as hash
 use Rattle.std.specs.HashMap.{HashMap, get_by_text}
@@ -56,3 +56,25 @@ noted bs name m n number h e absent q =
     by true false h i = absurd (grind (arith, h, i))
     by false true h i = absurd (grind (arith, h, i))
     by false false h i = none_or (get_by_text m q)
+
+shifted : (n m : ℕ) → nat_lt (1 + n) (suc m) ≡ nat_lt n m
+shifted n m = grind (arith, nat_tests)
+
+positive : (m : ℕ) → nat_lt 0 (suc m) ≡ true
+positive m = grind (arith, nat_tests)
+
+below_any : {X : Type 0} (p : X → Bool) (xs : List X) → nat_lt (position_or_len p xs) (length xs) ≡ list_any p xs
+below_any p [] = refl
+below_any p (x ∷ xs) = by (p x) (below_any p xs)
+  where
+    by : (b : Bool) → nat_lt (position_or_len p xs) (length xs) ≡ list_any p xs →
+        nat_lt (if not b then 1 + position_or_len p xs else 0) (suc (length xs)) ≡ (b || list_any p xs)
+    by true h = positive (length xs)
+    by false h = shifted (position_or_len p xs) (length xs) ∙ h
+
+some_if : (b : Bool) (n : ℕ) → is_some (if b then Some n else None) ≡ b
+some_if true n = refl
+some_if false n = refl
+
+pub position_any : {X : Type 0} (p : X → Bool) (xs : List X) → is_some (position_of p xs) ≡ list_any p xs
+position_any p xs = some_if (nat_lt (position_or_len p xs) (length xs)) (position_or_len p xs) ∙ below_any p xs

@@ -1,5 +1,5 @@
 -- The definitions over forms that are borrowed from a tree: `None` is a node that is none of the sort.
-use Rattle.std.specs.Prelude.{◌≡◌, ℕ, ◌+◌, ◌<◌, ⊤, Result, Ok, Err, option_and_then, is_some, Bool, true, false, if◌then◌else◌, List, [], ◌∷◌, length, ◌||◌, not, nat_le, Option, Some, None}
+use Rattle.std.specs.Prelude.{◌≡◌, ℕ, ◌+◌, ◌<◌, ⊤, Result, Ok, Err, option_and_then, is_some, Bool, true, false, if◌then◌else◌, List, [], ◌∷◌, ◌++◌, length, ◌||◌, not, nat_le, Option, Some, None}
 use Rattle.mir_base.specs.declared.int_kind.IntKind.{IntKind}
 use Rattle.mir_ty.specs.declared.ty.Ty.{Ty}
 use Rattle.mir_base.specs.declared.place_in_text.Pos.{Pos}
@@ -12,12 +12,14 @@ use Rattle.name_table.specs.declared.written.Scope.{Scope}
 use Rattle.name_table.specs.declared.known.Known.{Known}
 use Rattle.name_table.specs.declared.heads.Own.{Own}
 use Rattle.typing_rules.specs.Collected as walk
-use Rattle.typing_rules.specs.Collected.{own_ty, receiver_ty, param_ty, derives_known, variant_of, declared_variant, adt_of, added, names_alone, sig_of, behind_self, with_receiver, has_receiver, trait_head, closure_param, body_added, body_sig, closure_head, is_drop}
+use Rattle.typing_rules.specs.Collected.{own_ty, receiver_ty, param_ty, derives_known, variant_of, declared_variant, adt_of, added, names_alone, sig_of, behind_self, with_receiver, has_receiver, trait_head, closure_param, body_added, body_sig, closure_head, is_drop, item_name}
+use Rattle.src_ast.specs.View.{view}
+use Rattle.well_typed.specs.Names.{is_among, built_in}
 use Rattle.typing_rules.specs.Items.{full_name, closure_name, is_body_row, bodies_in}
 use Rattle.src_tree.specs.View.{Single, a_token, a_node}
 use Rattle.src_tree.specs.declared.row.Row.{Row}
 use Rattle.mir_base.specs.declared.rule.RuleError.{RuleError}
-use Rattle.src_ast.specs.Syntax.{ParamOf, MaybeSyn, SelfParam, ByShared, ByUnique, Word, Named, Syns, list_of, number_word, Receiver, Syn, syn, FieldDecl, Shape}
+use Rattle.src_ast.specs.Syntax.{StructItem, EnumItem, TraitItem, FnItem, ParamOf, MaybeSyn, SelfParam, ByShared, ByUnique, Word, Named, Syns, list_of, number_word, Receiver, Syn, syn, FieldDecl, Shape}
 use Rattle.typing_rules.specs.Check.{Check, each_checked, pure, breaks, obeys, interned, ◌>>=◌, ◌>>◌}
 use Rattle.typing_rules.specs.Places.{unit}
 use Rattle.typing_rules.specs.Written.{Around, or_unit, written, written_form, written_param_form, is_usize, length_shown, number_of}
@@ -178,3 +180,23 @@ listed (Some a) = a ∷ []
 
 abbrev pub trait_known : walk.Known → Named → Check (Unit {0})
 trait_known k trait_ = obeys Rule.T01 trait_.0 (is_drop trait_.1 || is_some (number_of k.traits trait_.1))
+
+-- ---- names of items
+
+abbrev pub item_name_by : Option Shape → Option Named
+item_name_by None = None
+item_name_by (Some (StructItem derives name kind fields)) = Some name
+item_name_by (Some (EnumItem derives name variants)) = Some name
+item_name_by (Some (TraitItem name heads)) = Some name
+item_name_by (Some (FnItem name params answer block)) = Some name
+item_name_by (Some _) = None
+
+abbrev pub name_in_piece : Single → Option Named
+name_in_piece (a_token t) = None
+name_in_piece (a_node g) = item_name (view g)
+
+abbrev pub with_name_by : Option Named → List Word → Check (List Word)
+with_name_by None seen = pure seen
+with_name_by (Some n) seen = do
+  obeys Rule.T02 n.0 (not (is_among n.1 seen || is_among n.1 built_in))
+  pure (seen ++ n.1 ∷ [])
