@@ -5,7 +5,7 @@ use typed_tree::Use;
 
 /// One test of a pattern, made by the node of its pattern.
 #[derive(Debug, Drop)]
-#[cycle(test)]
+#[cycle(question)]
 pub enum Test {
     /// What stands at the place is of the variant with this number.
     Variant {
