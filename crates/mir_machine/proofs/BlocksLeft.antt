@@ -1,6 +1,6 @@
 -- What is left as a block begins, and after its statements.
-use Rattle.std.proofs.Common.{◌≡◌, ℕ, zero, suc, ◌≤◌, Bool, true, false, List, [], ◌∷◌, drop, Option, Some, None, refl, ap, sym, subst, ◌∙◌, arith}
-use Rattle.std.specs.Prelude.{slice_get, option_map, option_and_then}
+use Rattle.std.proofs.Common.{◌≡◌, ℕ, zero, suc, ◌≤◌, Bool, true, false, List, [], ◌∷◌, Some, None, refl, ap, sym, subst, ◌∙◌, arith}
+use Rattle.std.specs.Prelude.{slice_get}
 use Rattle.cfg_graph.specs.declared.graph.Block.{Block}
 use Rattle.cfg_graph.specs.declared.graph.Body.{Body}
 use Rattle.cfg_graph.specs.declared.graph.Graph.{Graph}
@@ -17,11 +17,11 @@ use Rattle.mir_machine.proofs.TasksLeft.{ends_halted, ends_lost, moved}
 use Rattle.mir_machine.specs.declared.tasks.Doing.{Doing}
 use Rattle.mir_machine.specs.declared.tasks.Task.{Task}
 use Rattle.mir_machine.specs.Left.{walks}
-use Rattle.mir_machine.specs.Tasks.{AreRanked, AtBlock, AtTerm, BeginsSo, DoesStmts, EndsByTerm, Keeps, Next, RunLeft, StmtsEnd, begun, lost_end}
+use Rattle.mir_machine.specs.Tasks.{AreRanked, AtBlock, AtTerm, BeginsSo, DoesStmts, Keeps, Next, StmtsEnd, begun, lost_end}
 use Rattle.mir_steps.specs.Acting.{DoesAct}
 use Rattle.mir_steps.specs.declared.actions.Outcome.{Outcome}
 use Rattle.mir_steps.specs.declared.world.World.{World}
-use Rattle.mir_steps.specs.Steps.{seen, leaves, Goes, Panics, Halted}
+use Rattle.mir_steps.specs.Steps.{seen, Goes, Panics, Halted}
 use Rattle.mir_steps.specs.Worlds.{state_of, run_setting}
 use Rattle.store_model.proofs.Concrete.Effects.{ticks_of, values_laws}
 use Rattle.store_model.proofs.Effects.Laws.{NoMore}

@@ -1,5 +1,5 @@
 -- What is left as bodies are entered, go on by a choice, panic, return and unwind.
-use Rattle.std.proofs.Common.{◌≡◌, ℕ, zero, suc, ◌≤◌, ◌==◌, Bool, true, false, List, [], ◌∷◌, length, Option, Some, None, refl, ap, sym, subst, ◌∙◌, arith}
+use Rattle.std.proofs.Common.{◌≡◌, ℕ, zero, suc, Bool, true, false, List, [], ◌∷◌, length, Option, Some, None, refl, ap, sym, subst, ◌∙◌, arith}
 use Rattle.std.proofs.lemmas.Bool.Decides.{Decides-eqb}
 use Rattle.std.specs.Prelude.{slice_get}
 use Rattle.std.specs.Option.{option_map_or}
@@ -20,17 +20,17 @@ use Rattle.mir_machine.proofs.TermsLeft.{choice_left, graph_laws}
 use Rattle.mir_machine.specs.declared.tasks.Doing.{Doing}
 use Rattle.mir_machine.specs.declared.tasks.Post.{Post}
 use Rattle.mir_machine.specs.declared.tasks.Task.{Task}
-use Rattle.mir_machine.specs.Left.{entered, goes_on, walks}
-use Rattle.mir_machine.specs.Tasks.{AtEntry, AtOutcome, AtTerm, BodyEnds, DoingLeft, EndsByTerm, Keeps, Next, PostEnds, RunLeft, RunLeftFrom, chosen_doing, lost_end}
+use Rattle.mir_machine.specs.Left.{goes_on, walks}
+use Rattle.mir_machine.specs.Tasks.{AtEntry, AtOutcome, AtTerm, DoingLeft, EndsByTerm, Keeps, Next, PostEnds, RunLeftFrom, chosen_doing, lost_end}
 use Rattle.mir_steps.specs.declared.actions.Outcome.{Outcome}
 use Rattle.mir_steps.specs.declared.world.World.{World}
-use Rattle.mir_steps.specs.Steps.{seen_choice, leaves_choice, Chooses}
+use Rattle.mir_steps.specs.Steps.{seen_choice, Chooses}
 use Rattle.mir_steps.specs.Worlds.{state_of, run_setting}
 use Rattle.store_model.proofs.Concrete.Effects.{ticks_of}
 use Rattle.store_model.specs.Concrete.Bodies.{cells_of_youngest, ended}
 use Rattle.store_model.specs.Concrete.Effects.{choose, evaluate_operand, give, whole_at}
 use Rattle.store_model.specs.Concrete.Location.{Setting, Located, OfType, root_address, stored_at}
-use Rattle.store_model.specs.Concrete.State.{Activation, Bodies, HaltsIn, Returns, State, Unwinds, cell, with_activation, with_cell_at, with_event, without_activation}
+use Rattle.store_model.specs.Concrete.State.{Activation, Bodies, Returns, State, Unwinds, cell, with_activation, with_cell_at, with_event, without_activation}
 use Rattle.store_model.specs.Effects as actions
 use Rattle.store_model.specs.Effects.{Test, Site, OutOfTicks, Stuck, StuckAt, Out, Go, Halts, Choice, Yes, No, Neither}
 use Rattle.store_model.specs.Places.Place.{whole_local}

@@ -1,5 +1,5 @@
 -- What is left as bodies are called.
-use Rattle.std.proofs.Common.{◌≡◌, ℕ, suc, ◌≤◌, Bool, true, false, List, [], ◌∷◌, ◌++◌, map, Option, Some, None, refl, ap, sym, subst, ◌∙◌, arith}
+use Rattle.std.proofs.Common.{◌≡◌, ℕ, suc, Bool, true, false, List, [], ◌∷◌, ◌++◌, Option, Some, None, refl, ap, sym, subst, ◌∙◌, arith}
 use Rattle.std.specs.Prelude.{option_and_then}
 use Rattle.std.specs.Option.{option_map_or}
 use Rattle.cfg_graph.specs.declared.graph.Body.{Body}
@@ -27,7 +27,7 @@ use Rattle.mir_steps.specs.Worlds.{state_of, run_setting}
 use Rattle.mir_store.specs.Standing.{with_activations}
 use Rattle.store_model.proofs.Concrete.Effects.{ticks_of}
 use Rattle.store_model.specs.Concrete.Bodies.{ended}
-use Rattle.store_model.specs.Concrete.Effects.{act, acted, evaluate_operand, evaluate_operands, never_at, virtual_body, whole_at}
+use Rattle.store_model.specs.Concrete.Effects.{act, evaluate_operand, evaluate_operands, never_at, virtual_body, whole_at}
 use Rattle.store_model.specs.Concrete.Location.{Setting, Located, stored_at}
 use Rattle.store_model.specs.Concrete.State.{Bodies, State}
 use Rattle.store_model.specs.Effects as actions

@@ -1,7 +1,5 @@
 -- How drops of places begin, and go on.
-use Rattle.std.proofs.Common.{◌≡◌, ℕ, suc, ◌≤◌, Bool, true, false, List, [], ◌∷◌, ◌++◌, Option, Some, None, refl, ap, sym, subst, ◌∙◌, arith}
-use Rattle.std.specs.Prelude.{option_map}
-use Rattle.cfg_graph.specs.declared.graph.Body.{Body}
+use Rattle.std.proofs.Common.{◌≡◌, ℕ, suc, Bool, true, false, List, [], ◌∷◌, ◌++◌, Option, Some, None, refl, ap, sym, subst, ◌∙◌, arith}
 use Rattle.cfg_graph.specs.declared.graph.Graph.{Graph}
 use Rattle.cfg_graph.specs.declared.place.Place.{Place}
 use Rattle.cfg_graph.specs.declared.terminator.Term.{Term}
@@ -21,7 +19,7 @@ use Rattle.mir_machine.specs.declared.tasks.Doing.{Doing}
 use Rattle.mir_machine.specs.declared.tasks.Post.{Post}
 use Rattle.mir_machine.specs.declared.tasks.Task.{Task}
 use Rattle.mir_machine.specs.Left.{ForDrop, goes_on, left}
-use Rattle.mir_machine.specs.Tasks.{AtEntry, AtOutcome, AtTerm, AtTurn, DoingLeft, DropsThat, EndsByTerm, Keeps, Next, PostEnds, RunLeft, drop_outcome, place_in}
+use Rattle.mir_machine.specs.Tasks.{AtEntry, AtOutcome, AtTerm, AtTurn, DoingLeft, DropsThat, Keeps, Next, PostEnds, drop_outcome, place_in}
 use Rattle.mir_steps.proofs.Operands.{whole_same}
 use Rattle.mir_steps.specs.declared.actions.Outcome.{Outcome}
 use Rattle.mir_steps.specs.declared.world.World.{World}
@@ -29,9 +27,8 @@ use Rattle.mir_steps.specs.Steps.{seen, Halted}
 use Rattle.mir_steps.specs.Worlds.{state_of, run_setting}
 use Rattle.mir_store.proofs.SameReach.{reach_same}
 use Rattle.mir_store.specs.declared.location.Located.{Located}
-use Rattle.mir_store.specs.declared.location.Reached.{Reached}
 use Rattle.mir_store.specs.declared.types.Dynamic.{Dynamic}
-use Rattle.mir_store.specs.Standing.{located_of, reached_of, with_activations}
+use Rattle.mir_store.specs.Standing.{located_of, with_activations}
 use Rattle.store_model.specs.Concrete.Effects.{drop, whole_at}
 use Rattle.store_model.specs.Concrete.Location as location
 use Rattle.store_model.specs.Concrete.Location.{Setting, reach}

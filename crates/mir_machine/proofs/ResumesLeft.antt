@@ -1,25 +1,22 @@
 -- What is left as a body that waited goes on.
-use Rattle.std.proofs.Common.{◌≡◌, ℕ, suc, ◌≤◌, Bool, true, false, List, [], ◌∷◌, ◌++◌, Option, Some, None, refl, ap, sym, subst, ◌∙◌, arith}
+use Rattle.std.proofs.Common.{◌≡◌, ℕ, suc, Bool, true, false, List, [], ◌∷◌, ◌++◌, Some, None, refl, ap, sym, subst, ◌∙◌, arith}
 use Rattle.std.proofs.lemmas.Bool.{true≢false}
-use Rattle.cfg_graph.specs.declared.graph.Body.{Body}
 use Rattle.cfg_graph.specs.declared.graph.Graph.{Graph}
 use Rattle.cfg_graph.specs.declared.place.Place.{Place}
 use Rattle.cfg_meaning.specs.Actions.{site_of}
 use Rattle.cfg_meaning.specs.Laws.{bodies_of}
 use Rattle.cfg_meaning.specs.Programs.{setting_of}
 use Rattle.drop_glue.specs.declared.drops.Drops.{Drops}
-use Rattle.drop_glue.specs.declared.drops.Turn.{Turn}
 use Rattle.drop_glue.specs.Turns.{TurnLeft}
 use Rattle.mir_base.specs.declared.trace.End.{End}
-use Rattle.mir_base.specs.Trace.{Trace}
 use Rattle.mir_machine.proofs.RunsLeft.{halts_end}
-use Rattle.mir_machine.proofs.TasksLeft.{YoungestWaits, ends_halted, moved, tasks_halt, youngest_waits}
-use Rattle.mir_machine.proofs.TermsLeft.{AtOut, outcome_left}
+use Rattle.mir_machine.proofs.TasksLeft.{tasks_halt, youngest_waits}
+use Rattle.mir_machine.proofs.TermsLeft.{outcome_left}
 use Rattle.mir_machine.specs.declared.tasks.Doing.{Doing}
 use Rattle.mir_machine.specs.declared.tasks.Post.{Post}
 use Rattle.mir_machine.specs.declared.tasks.Task.{Task}
 use Rattle.mir_machine.specs.Left.{Waiting, ForCall, ForDrop, goes_on, left, resumed}
-use Rattle.mir_machine.specs.Tasks.{AllWait, AtOutcome, AtResult, AtReturn, AtUnwound, DoingLeft, DropWaits, Keeps, Next, PostEnds, ResumesSo, RunLeft, destination_in, place_in}
+use Rattle.mir_machine.specs.Tasks.{AllWait, AtOutcome, AtResult, AtReturn, AtUnwound, Keeps, Next, PostEnds, ResumesSo, destination_in, place_in}
 use Rattle.mir_steps.proofs.ActsDone.{stops}
 use Rattle.mir_steps.specs.Acting.{stopped}
 use Rattle.mir_steps.specs.declared.actions.Outcome.{Outcome}
@@ -31,9 +28,9 @@ use Rattle.store_model.proofs.Concrete.Effects.{ticks_of}
 use Rattle.store_model.proofs.Effects.Laws.{NoMore}
 use Rattle.store_model.specs.Concrete.Effects.{put}
 use Rattle.store_model.specs.Concrete.Location.{Setting, Reached, Reaches, CutOff, Nowhere, reach}
-use Rattle.store_model.specs.Concrete.State.{Answer, HaltsIn, Returns, State, Unwinds}
+use Rattle.store_model.specs.Concrete.State.{Returns, State, Unwinds}
 use Rattle.store_model.specs.declared.value.Value.{Value}
-use Rattle.store_model.specs.Effects.{Site, Aborted, Stuck, Out, Go, Unwind, Halts, halting_if}
+use Rattle.store_model.specs.Effects.{Site, Aborted, Stuck, Unwind, halting_if}
 use Rattle.store_model.specs.Values.Datum.{Datum, datum_of}
 
 -- a store spends no ticks

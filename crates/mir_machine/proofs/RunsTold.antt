@@ -1,12 +1,12 @@
 -- Whole runs.
-use Rattle.std.proofs.Common.{◌≡◌, ℕ, zero, suc, ◌+◌, ◌≤◌, Bool, true, false, List, [], ◌∷◌, ◌++◌, drop, map, Option, Some, None, refl, ap, sym, subst, ◌∙◌, arith}
+use Rattle.std.proofs.Common.{◌≡◌, ℕ, zero, suc, ◌+◌, Bool, true, false, List, [], ◌∷◌, drop, Option, Some, None, refl, ap, sym, subst, ◌∙◌, arith}
 use Rattle.std.proofs.lemmas.Iterator.Adapters.{position_from-zero}
 use Rattle.std.proofs.Math.Seq.{drop-cons}
 use Rattle.std.proofs.lemmas.Option.{slice_get_within, get_or_from_slice_get}
 use Rattle.std.specs.Cmp.Lexicographic.{pointwise}
 use Rattle.std.specs.List.{position_from}
 use Rattle.std.specs.Option.{option_map_or}
-use Rattle.std.specs.Prelude.{nat_eq, codes, slice_get, position, ℤ}
+use Rattle.std.specs.Prelude.{nat_eq, codes, slice_get, ℤ}
 use Rattle.cfg_graph.specs.declared.graph.Graph.{Graph}
 use Rattle.cfg_meaning.specs.Programs.{setting_of}
 use Rattle.mir_base.specs.declared.trace.End.{End}
@@ -22,11 +22,10 @@ use Rattle.mir_machine.specs.Tasks.{AreRanked, AtEntry, DoingLeft, Keeps, Next, 
 use Rattle.mir_steps.specs.declared.told.Told.{Told}
 use Rattle.mir_steps.specs.declared.world.World.{World}
 use Rattle.mir_steps.specs.Worlds.{state_of, run_setting}
-use Rattle.mir_store.specs.Activations.{activations_of}
 use Rattle.mir_ty.specs.declared.def.Sig.{Sig}
 use Rattle.mir_ty.specs.ItemTable.{ItemTable}
 use Rattle.store_model.specs.Concrete.Bodies.{main_of}
-use Rattle.store_model.specs.Concrete.State.{State, beginning}
+use Rattle.store_model.specs.Concrete.State.{beginning}
 
 -- The number of `main`.
 

@@ -1,7 +1,6 @@
 -- What is left of a run, by the tasks that wait.
-use Rattle.std.proofs.Common.{◌≡◌, ℕ, suc, ◌≤◌, Bool, true, false, All, List, [], ◌∷◌, ◌++◌, Option, Some, None, refl, ap, sym, subst, ◌∙◌, arith}
+use Rattle.std.proofs.Common.{◌≡◌, ℕ, suc, ◌≤◌, Bool, true, false, All, List, [], ◌∷◌, ◌++◌, refl, ap, sym, subst, ◌∙◌, arith}
 use Rattle.std.proofs.lemmas.List.Elements.{All-nil, All-cons}
-use Rattle.cfg_graph.specs.declared.graph.Body.{Body}
 use Rattle.cfg_graph.specs.declared.graph.Graph.{Graph}
 use Rattle.cfg_graph.specs.declared.terminator.Unwind.{Unwind}
 use Rattle.cfg_meaning.specs.Laws.{bodies_of}
@@ -13,18 +12,15 @@ use Rattle.drop_glue.specs.Turns.{mode_by}
 use Rattle.mir_base.specs.declared.trace.End.{End}
 use Rattle.mir_base.specs.Trace.{Trace}
 use Rattle.mir_machine.proofs.RunsLeft.{halts_end, stuck_ends}
-use Rattle.mir_machine.specs.declared.tasks.Doing.{Doing}
 use Rattle.mir_machine.specs.declared.tasks.Post.{Post}
 use Rattle.mir_machine.specs.declared.tasks.Task.{Task}
 use Rattle.mir_machine.specs.Laws.{HaltsWithIt, IsPlaced, place_of}
-use Rattle.mir_machine.specs.Left.{Place, Waiting, ForCall, ForDrop, goes_on, resumed, left}
-use Rattle.mir_machine.specs.Tasks.{place_in, CallWaits, DropWaits, WaitsFor, AllWait, RunLeft, RunLeftFrom, PostEnds, stuck_end, last_end, lost_end}
-use Rattle.mir_steps.specs.declared.actions.Outcome.{Outcome}
-use Rattle.mir_steps.specs.Steps.{seen, leaves, Goes, Panics, Halted}
+use Rattle.mir_machine.specs.Left.{Waiting, goes_on, left}
+use Rattle.mir_machine.specs.Tasks.{place_in, WaitsFor, AllWait, RunLeft, RunLeftFrom, PostEnds, stuck_end, last_end, lost_end}
 use Rattle.store_model.specs.Concrete.Bodies.{outcome_of}
 use Rattle.store_model.specs.Concrete.Drops.{HasRun, drop_at, drop_body_out, in_mode}
 use Rattle.store_model.specs.Concrete.State.{Answer, HaltsIn, State}
-use Rattle.store_model.specs.Effects.{Mode, Normal, Unwinding, Halt, Aborted, OutOfTicks, Stuck, StuckAt, Out, Go, Unwind as Unwinds, Halts}
+use Rattle.store_model.specs.Effects.{Mode, Halt, Aborted, Stuck, Out, Unwind as Unwinds, Halts}
 
 -- a halt ends a drop that waits
 drop_halts : (panicked unwinds : Bool) (halt : Halt) (w : State) (next : Mode → State → Out State) → finished panicked (in_mode (mode_by unwinds) (drop_body_out (mode_by unwinds) (HaltsIn halt w)) next) ≡ Halts halt w

@@ -1,33 +1,28 @@
 -- What is left after what a terminator does.
-use Rattle.std.proofs.Common.{◌≡◌, ℕ, suc, ◌<◌, ◌≤◌, Bool, true, false, List, [], ◌∷◌, Option, Some, None, refl, ap, sym, subst, ◌∙◌, arith}
-use Rattle.std.specs.Prelude.{not, ◌||◌, map, option_map}
+use Rattle.std.proofs.Common.{◌≡◌, ℕ, suc, Bool, true, false, List, Option, Some, None, refl, ap, sym, subst, ◌∙◌, arith}
 use Rattle.cfg_graph.specs.declared.graph.Body.{Body}
 use Rattle.cfg_graph.specs.declared.graph.Graph.{Graph}
 use Rattle.cfg_graph.specs.declared.terminator.Term.{Term}
-use Rattle.cfg_graph.specs.declared.terminator.Unwind.{Unwind}
 use Rattle.cfg_meaning.proofs.Runs.{graph_keeps}
 use Rattle.cfg_meaning.specs.Actions.{mode_of}
 use Rattle.cfg_meaning.specs.Laws.{bodies_of, concrete_effects_of}
 use Rattle.cfg_meaning.specs.Programs.{code_of, setting_of}
 use Rattle.cfg_meaning.specs.Walk.{naming, stuck_in, term_does}
-use Rattle.drop_glue.specs.declared.drops.Drops.{Drops}
 use Rattle.drop_glue.specs.declared.drops.Turn.{Turn}
 use Rattle.drop_glue.specs.Left.{found_as}
 use Rattle.drop_glue.specs.Turns.{TurnLeft, mode_by}
 use Rattle.mir_base.specs.declared.trace.End.{End}
-use Rattle.mir_base.specs.declared.trace.Event.{Event}
-use Rattle.mir_base.specs.declared.trace.Why.{Why}
 use Rattle.mir_base.specs.Trace.{Trace}
 use Rattle.mir_machine.proofs.TasksLeft.{ends_halted, moved}
 use Rattle.mir_machine.specs.declared.tasks.Doing.{Doing}
 use Rattle.mir_machine.specs.declared.tasks.Post.{Post}
 use Rattle.mir_machine.specs.declared.tasks.Task.{Task}
 use Rattle.mir_machine.specs.Left.{goes_on, walks}
-use Rattle.mir_machine.specs.Tasks.{AtOutcome, AtTerm, DoingLeft, DropsThat, EndsByTerm, Keeps, Next, PostEnds, RunLeft, RunsGraph, chosen_doing, place_in}
+use Rattle.mir_machine.specs.Tasks.{AtOutcome, AtTerm, DoingLeft, DropsThat, EndsByTerm, Keeps, Next, PostEnds, RunLeft, chosen_doing, place_in}
 use Rattle.mir_steps.specs.Acting.{DoesAct}
 use Rattle.mir_steps.specs.declared.actions.Outcome.{Outcome}
 use Rattle.mir_steps.specs.declared.world.World.{World}
-use Rattle.mir_steps.specs.Steps.{seen, leaves, seen_choice, leaves_choice, Chooses}
+use Rattle.mir_steps.specs.Steps.{seen, leaves, seen_choice, leaves_choice}
 use Rattle.mir_steps.specs.Worlds.{state_of, run_setting}
 use Rattle.mir_store.specs.declared.types.Dynamic.{Dynamic}
 use Rattle.mir_store.specs.Standing.{dynamic_of}
@@ -35,11 +30,11 @@ use Rattle.store_model.proofs.Concrete.Effects.{ticks_of, values_laws, body_thri
 use Rattle.store_model.proofs.Effects.Laws.{Laws, NoMore, NoMoreOf}
 use Rattle.store_model.specs.Concrete.Bodies.{ended}
 use Rattle.store_model.specs.Concrete.Drops.{Begins, drop_at}
-use Rattle.store_model.specs.Concrete.Effects.{act, choose, concrete_effects, drop, whole_at}
+use Rattle.store_model.specs.Concrete.Effects.{act, drop, whole_at}
 use Rattle.store_model.specs.Concrete.Location.{Setting, Located, Reached, Reaches, CutOff, Nowhere, reach}
-use Rattle.store_model.specs.Concrete.State.{Bodies, HaltsIn, State, with_event}
+use Rattle.store_model.specs.Concrete.State.{Bodies, HaltsIn, State}
 use Rattle.store_model.specs.declared.address.Addr.{Addr}
-use Rattle.store_model.specs.Effects.{Action, Test, Mode, Site, Stuck, StuckAt, Out, Go, Unwind as Unwinds, Halts, Choice, Yes, No, Neither}
+use Rattle.store_model.specs.Effects.{Action, Mode, Site, Stuck, StuckAt, Out, Go, Unwind as Unwinds, Halts, Choice, Yes, No, Neither}
 use Rattle.store_model.specs.Values.Datum.{Gone}
 use Rattle.store_model.specs.Values.Wholeness.{is_whole}
 

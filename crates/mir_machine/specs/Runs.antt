@@ -1,5 +1,5 @@
 -- What the calls `run` and `run_raw` answer.
-use Rattle.std.specs.Prelude.{◌≡◌, ℕ, suc, ℤ, Bool, true, false, List, [], ◌++◌, map, take, Some}
+use Rattle.std.specs.Prelude.{◌≡◌, ℕ, ℤ, Bool, true, false, List, [], ◌++◌, map, take, Some}
 use Rattle.cfg_graph.specs.declared.graph.Graph.{Graph}
 use Rattle.cfg_meaning.specs.Programs.{graph_run, raw_graph_run}
 use Rattle.mir_base.specs.declared.trace.End.{End}

@@ -53,7 +53,8 @@ fn drop_whole(
     post: Post,
     place: &Place,
 ) -> Result<Doing, NoMemory>
-    ensures { IfOk result (λ doing. world.now.strict ≡ true → (graph : a_graph) (tasks : Listed a_task) → Keeps graph world.now world.now
+    ensures { IfOk result (λ doing. world.now.strict ≡ true → (graph : a_graph) (tasks : Listed a_task) →
+        Keeps graph world.now world.now
         (AtTerm graph tasks post.number post.block (a_term.DropAt place.now post.onward post.unwind))
         (Next graph tasks doing)) }
 {
@@ -65,7 +66,8 @@ fn drop_whole(
 
 /// Drops what remains of a value.
 fn drop_rest(alloc: Global, world: &World<'_>, post: Post, place: &Place) -> Result<Doing, NoMemory>
-    ensures { IfOk result (λ doing. world.now.strict ≡ false → (graph : a_graph) (tasks : Listed a_task) → Keeps graph world.now world.now
+    ensures { IfOk result (λ doing. world.now.strict ≡ false → (graph : a_graph) (tasks : Listed a_task) →
+        Keeps graph world.now world.now
         (AtTerm graph tasks post.number post.block (a_term.DropAt place.now post.onward post.unwind))
         (Next graph tasks doing)) }
 {
@@ -119,8 +121,9 @@ fn enter_drop(
     event: Event,
     body: u32,
 ) -> Result<Doing, NoMemory>
-    ensures { IfOk result (λ doing. (adt serial : Number) → event ≡ an_event.Dropped adt serial → Keeps graph.now world.old world.new
-        (AtTurn graph.now tasks.old post drops (a_turn.Enters adt serial body dynamic)) (Next graph.now tasks.new doing)) }
+    ensures { IfOk result (λ doing. (adt serial : Number) → event ≡ an_event.Dropped adt serial →
+        Keeps graph.now world.old world.new (AtTurn graph.now tasks.old post drops (a_turn.Enters adt serial body dynamic))
+        (Next graph.now tasks.new doing)) }
 {
     let mut args = List::new(alloc);
     args.push(Value::Address(drops.address.copy(alloc)?))?;

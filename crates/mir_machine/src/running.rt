@@ -131,7 +131,8 @@ fn run_to_text(
     ticks: u64,
 ) -> Result<(String, End), NoMemory>
     requires { IsWellFormed graph.now }
-    ensures text { IfOk result (λ done. string_bytes done.0 ≡ run_text graph.now (run_by strict graph.now asks.now ticks)) }
+    ensures text { IfOk result (λ done. string_bytes done.0 ≡
+        run_text graph.now (run_by strict graph.now asks.now ticks)) }
     ensures end { IfOk result (λ done. done.1 ≡ (run_by strict graph.now asks.now ticks).1) }
 {
     let outcome = run_graph(alloc, graph, strict, asks, ticks)?;

@@ -3,7 +3,6 @@ use Rattle.std.proofs.lemmas.Result.{IfOk-weaker}
 use Rattle.drop_glue.specs.declared.drops.Turn.{Turn}
 use Rattle.mir_base.specs.declared.trace.Event.{Event}
 use Rattle.mir_machine.proofs.DropsBegin.{drop_waits, datum_of_address}
-use Rattle.mir_machine.specs.declared.tasks.Task.{Task}
 use Rattle.mir_machine.specs.Tasks.{AtEntry, AtTurn, Keeps, Next}
 use Rattle.store_model.specs.Values.Datum.{Address, datum_of}
 use Rattle.store_model.specs.declared.value.Value.{Value}

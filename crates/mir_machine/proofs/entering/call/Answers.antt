@@ -1,8 +1,7 @@
-use Rattle.std.proofs.Common.{◌≡◌, [], map, ap, sym, subst, ◌∙◌}
+use Rattle.std.proofs.Common.{map, sym, subst}
 use Rattle.std.proofs.lemmas.Result.{IfOk-weaker}
 use Rattle.cfg_graph.specs.declared.terminator.Term.{Term}
 use Rattle.mir_base.specs.declared.trace.Event.{Event}
-use Rattle.mir_base.specs.Trace.{Trace}
 use Rattle.mir_machine.proofs.CallsLeft.{call_waits, call_without_values}
 use Rattle.mir_machine.specs.Tasks.{AtEntry, AtTerm, Keeps, Next}
 use Rattle.mir_steps.proofs.StepsDone.{values_whole}

@@ -4,7 +4,7 @@ use Rattle.std.specs.Prelude.{slice_get}
 use Rattle.cfg_meaning.specs.Programs.{arguments_from}
 use Rattle.mir_machine.proofs.BodiesLeft.{out_of_ticks, no_body, body_walks}
 use Rattle.mir_steps.specs.Worlds.{state_of}
-use Rattle.store_model.specs.Concrete.State.{State, with_activation}
+use Rattle.store_model.specs.Concrete.State.{with_activation}
 use Rattle.store_model.specs.Values.Datum.{datum_of}
 use Rattle.mir_machine.proofs.entering.enter.Goals as goal
 

@@ -1,11 +1,11 @@
-use Rattle.std.proofs.Common.{◌≡◌, ℤ, [], ◌++◌, List, map, ap, refl, ◌∙◌}
+use Rattle.std.proofs.Common.{◌≡◌, [], List, map, ap, refl, ◌∙◌}
 use Rattle.std.proofs.lemmas.Result.{IfOk-weaker}
 use Rattle.cfg_graph.proofs.Ranked.{well_formed-ranked}
 use Rattle.mir_machine.proofs.RunsTold.{run_is_told}
 use Rattle.mir_steps.specs.declared.told.Told.{Told}
 use Rattle.mir_steps.specs.declared.world.World.{World}
 use Rattle.mir_steps.specs.Worlds.{event_of, state_of}
-use Rattle.store_model.specs.Concrete.State.{Activation, State, beginning}
+use Rattle.store_model.specs.Concrete.State.{Activation, beginning}
 use Rattle.mir_machine.proofs.running.run_graph.Goals as goal
 
 pub returns : goal.returns

@@ -1,4 +1,4 @@
-use Rattle.std.proofs.Common.{◌≡◌, Some, sym, subst, arith}
+use Rattle.std.proofs.Common.{◌≡◌, Some, subst, arith}
 use Rattle.std.proofs.lemmas.Grind.{common_steps}
 use Rattle.std.proofs.lemmas.Result.{IfOk-weaker}
 use Rattle.mir_machine.proofs.ResumesLeft.{result_stored}

@@ -1,7 +1,7 @@
 use Rattle.std.proofs.Common.{refl}
 use Rattle.std.proofs.lemmas.Result.{IfOk-weaker}
 use Rattle.cfg_graph.specs.declared.terminator.Term.{Term}
-use Rattle.cfg_meaning.specs.Actions.{site_of, operand_of}
+use Rattle.cfg_meaning.specs.Actions.{site_of}
 use Rattle.mir_machine.proofs.TermsLeft.{keeps_acting}
 use Rattle.store_model.specs.Effects as actions
 use Rattle.mir_machine.proofs.walking.ask.Goals as goal

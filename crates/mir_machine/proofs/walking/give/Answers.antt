@@ -1,5 +1,4 @@
 use Rattle.std.proofs.Common.{[], sym, subst, ◌∙◌}
-use Rattle.cfg_graph.specs.declared.place.Operand.{Operand}
 use Rattle.mir_machine.proofs.BodiesLeft.{keeps_giving, keeps_stuck_giving}
 use Rattle.mir_machine.specs.Tasks.{AtTerm, Keeps, Next, TakesResult}
 use Rattle.cfg_graph.specs.declared.terminator.Term.{Term}

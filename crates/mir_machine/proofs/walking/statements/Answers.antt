@@ -1,4 +1,4 @@
-use Rattle.std.proofs.Common.{◌≡◌, ℕ, suc, ◌+◌, ◌≤◌, [], ◌∷◌, drop, ap, sym, subst, ◌∙◌, arith}
+use Rattle.std.proofs.Common.{◌≡◌, suc, ◌+◌, [], drop, ap, sym, subst, ◌∙◌, arith}
 use Rattle.std.proofs.lemmas.Grind.{common_steps}
 use Rattle.cfg_meaning.specs.Actions.{action_of}
 use Rattle.cfg_meaning.specs.Walk.{naming, stmts_do}
@@ -7,7 +7,7 @@ use Rattle.mir_machine.specs.Tasks.{StmtsEnd}
 use Rattle.mir_steps.proofs.Operands.{next_left}
 use Rattle.mir_steps.specs.Acting.{DoesAct}
 use Rattle.mir_steps.specs.declared.actions.Outcome.{Outcome}
-use Rattle.mir_steps.specs.Steps.{seen, leaves}
+use Rattle.mir_steps.specs.Steps.{seen}
 use Rattle.mir_steps.specs.Worlds.{state_of, run_setting}
 use Rattle.store_model.specs.Concrete.Effects.{act, concrete_effects}
 use Rattle.store_model.specs.Concrete.Location.{Setting}
