@@ -1,5 +1,5 @@
 -- Tests and alternatives as lists.
-use Rattle.std.proofs.Common.{◌≡◌, ◌∙◌, ◌∷◌, ◌++◌, ◌+◌, ◌<◌, ℕ, List, [], map, drop, length, refl, sym, ap, subst, rules, append_assoc}
+use Rattle.std.proofs.Common.{◌≡◌, ◌∙◌, ◌∷◌, ◌++◌, ◌+◌, ◌<◌, ℕ, List, [], map, drop, length, refl, sym, ap, rules, append_assoc}
 use Rattle.std.proofs.lemmas.List.{at_drop_more}
 use Rattle.std.specs.Prelude.{get_or}
 use Rattle.src_meaning.specs.Shape.{PatternTests, no_test, a_test, followed_by, Alternatives, no_alternative, an_alternative}

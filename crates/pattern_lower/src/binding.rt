@@ -20,11 +20,7 @@ use typed_tree::{Form, Node, NumberedField, Use};
 /// # Errors
 ///
 /// [`NoMemory`] where memory is wanted.
-pub fn bindings(
-    alloc: Global,
-    pattern: &Node,
-    place: &Place,
-) -> Result<List<Binding>, NoMemory>
+pub fn bindings(alloc: Global, pattern: &Node, place: &Place) -> Result<List<Binding>, NoMemory>
     ensures bindings { IfOk result (λ found. (items : ItemTable) →
         map bound_of found ≡ (shape items (tree_of pattern.now)).bindings (named place.now)) }
 {
@@ -53,7 +49,7 @@ fn add_bindings(
 ) -> Result<(), NoMemory>
     ensures { OnOk result ((items : ItemTable) →
         map bound_of found.new ≡
-            map bound_of found.old ++ (shape items (tree_of pattern.now)).bindings (named place.now)) }
+        map bound_of found.old ++ (shape items (tree_of pattern.now)).bindings (named place.now)) }
 {
     match &pattern.form {
         Form::Binding(_) => found.push(Binding {
@@ -64,7 +60,9 @@ fn add_bindings(
         }),
         Form::StructPattern(fields) => add_of_fields(alloc, None, fields.as_slice(), place, found),
         Form::VariantPattern {
-            variant, fields, ..
+            variant,
+            fields,
+            ..
         } => add_of_fields(alloc, Some(*variant), fields.as_slice(), place, found),
         Form::TuplePattern(parts) | Form::ArrayPattern(parts) => {
             add_of_parts(alloc, parts.as_slice(), place, found)
@@ -84,7 +82,7 @@ fn add_of_fields(
 ) -> Result<(), NoMemory>
     ensures { OnOk result ((items : ItemTable) →
         map bound_of found.new ≡ map bound_of found.old
-            ++ (in_fields items (fields_from (map field_of fields.now)) (to_field variant)).bindings (named place.now)) }
+        ++ (in_fields items (fields_from (map field_of fields.now)) (to_field variant)).bindings (named place.now)) }
 {
     for field in fields {
         let part = part_of(alloc, place, step_to(variant, field.number))?;
@@ -103,7 +101,7 @@ fn add_of_parts(
 ) -> Result<(), NoMemory>
     ensures { OnOk result ((items : ItemTable) →
         map bound_of found.new ≡ map bound_of found.old
-            ++ (in_parts items (nodes_from (map tree_of parts.now)) 0).bindings (named place.now)) }
+        ++ (in_parts items (nodes_from (map tree_of parts.now)) 0).bindings (named place.now)) }
 {
     let mut number: u32 = 0;
     for part in parts {

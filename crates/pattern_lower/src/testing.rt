@@ -87,7 +87,14 @@ fn add_tests(
                     number: *variant,
                 })?;
             }
-            add_of_fields(alloc, items, Some(*variant), fields.as_slice(), place, found)
+            add_of_fields(
+                alloc,
+                items,
+                Some(*variant),
+                fields.as_slice(),
+                place,
+                found,
+            )
         }
         Form::TuplePattern(parts) | Form::ArrayPattern(parts) => {
             add_of_parts(alloc, items, parts.as_slice(), place, found)
@@ -113,7 +120,7 @@ fn add_of_fields(
 ) -> Result<(), NoMemory>
     ensures { OnOk result
         (map test_of found.new ≡ map test_of found.old ++ listed
-            ((in_fields items.now (fields_from (map field_of fields.now)) (to_field variant)).tests (named place.now))) }
+        ((in_fields items.now (fields_from (map field_of fields.now)) (to_field variant)).tests (named place.now))) }
 {
     for field in fields {
         let part = part_of(alloc, place, step_to(variant, field.number))?;
@@ -134,7 +141,7 @@ fn add_of_parts(
 ) -> Result<(), NoMemory>
     ensures { OnOk result
         (map test_of found.new ≡ map test_of found.old ++ listed
-            ((in_parts items.now (nodes_from (map tree_of parts.now)) 0).tests (named place.now))) }
+        ((in_parts items.now (nodes_from (map tree_of parts.now)) 0).tests (named place.now))) }
 {
     let mut number: u32 = 0;
     for part in parts {

@@ -34,7 +34,7 @@ add_tests-returns-in_ok-any-in-OrPattern t c =
     let at : listed ((shape c.args.items.now (tree_of c.args.pattern.now)).tests (named c.args.place.now)) ≡ AnyOf alternatives ∷ [] = search (rules, the_lemmas) in
     let any : test_of (Any c.in_ok-any-in-OrPattern.any) ≡ AnyOf alternatives = test_of-Any _ ∙ ap AnyOf (ap alternatives_from c.in_ok-any-in-OrPattern.ensures ∙ from_listed_alternatives _) in
     let pushed : (c.push-in-OrPattern.new.self ≡ c.args.found.now ++ Any c.in_ok-any-in-OrPattern.any ∷ []) → map test_of c.push-in-OrPattern.new.self ≡ map test_of c.args.found.now ++ listed ((shape c.args.items.now (tree_of c.args.pattern.now)).tests (named c.args.place.now)) =
-        λ is. ap (map test_of) is ∙ map_push test_of _ _ ∙ ap (λ t. map test_of c.args.found.now ++ t ∷ []) any ∙ ap (λ l. map test_of c.args.found.now ++ l) (sym at) in
+    λ is. ap (map test_of) is ∙ map_push test_of _ _ ∙ ap (λ t. map test_of c.args.found.now ++ t ∷ []) any ∙ ap (λ l. map test_of c.args.found.now ++ l) (sym at) in
     on_ok_weaker _ pushed c.push-in-OrPattern.ensures.pushed
 
 pub tests_of_each-loop-alternative-preserved : goal.tests_of_each-loop-alternative-preserved
