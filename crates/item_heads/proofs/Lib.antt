@@ -1,0 +1,15 @@
+pub mod Sequences
+pub mod Interning
+pub mod Numbering
+pub mod Shapes
+pub mod Types
+pub mod Decimal
+pub mod Kept
+pub mod Fields
+pub mod Variants
+pub mod Receivers
+pub mod Told
+pub mod Closures
+pub mod BodyForms
+pub mod Walks
+pub mod Filtered

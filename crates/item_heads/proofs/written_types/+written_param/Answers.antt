@@ -1,0 +1,17 @@
+use Rattle.src_ast.specs.Types.{type_of}
+use Rattle.typing_rules.specs.Collected.{starting_with}
+use Rattle.item_heads.specs.Forms.{around_of}
+use Rattle.item_heads.proofs.Types.{plain_answers, plain_form}
+use Rattle.item_heads.proofs.written_types.+written_param.Goals as goal
+
+pub returns-in_default : goal.returns-in_default
+returns-in_default t c =
+    record {
+      answers =
+          plain_answers (around_of c.args.scope.now) c.args.node.now (starting_with c.args.items.now) c.written-in_default.result
+          c.written-in_default.new.items (type_of c.type_form.result) c.type_form.ensures
+          (plain_form (around_of c.args.scope.now) c.args.node.now.at (starting_with c.args.items.now) c.type_form.result c.in_default.not-Parens c.in_default.not-Reference)
+          c.written-in_default.ensures.answers;
+      grows = c.written-in_default.ensures.grows;
+      known = c.written-in_default.ensures.known;
+    }
