@@ -18,9 +18,14 @@ use Rattle.typing_rules.specs.Check.{State, Broken, and_then, obeys, pure}
 use Rattle.typing_rules.specs.Collected.{item_name, names_differ}
 use Rattle.typing_rules.specs.Items.{items_of, item_syns}
 use Rattle.well_typed.specs.Names.{is_among, built_in}
-use Rattle.name_table.specs.Answers.{Refuses}
-use Rattle.name_table.specs.Forms.{item_name_by, name_in_piece, with_name_by, listed}
-use Rattle.name_table.proofs.Sequences.{stopped}
+use Rattle.item_heads.specs.Answers.{Refuses}
+use Rattle.name_table.specs.Forms.{item_name_by, name_in_piece, with_name_by}
+use Rattle.item_heads.specs.Forms.{listed}
+use Rattle.item_heads.proofs.Sequences.{stopped}
+use Rattle.item_heads.proofs.Numbering.{position_any}
+use Rattle.std.specs.List.{position as position_of}
+use Rattle.std.specs.Prelude.{is_some}
+use Rattle.std.specs.Str.{bytes_eq}
 
 item_name_form : (at : Pos) (form : Shape) → item_name (syn at form) ≡ item_name_by (item_part form)
 item_name_form at (Ident a) = refl
@@ -174,3 +179,6 @@ fresh n seen more s at word b same is free pushed =
     ap (λ z. with_name_by (Some z) seen s) (sym same)
     ∙ passes Rule.T02 at (is_among word seen || is_among word built_in) (seen ++ word ∷ []) s (sym is ∙ free)
     ∙ ap (λ z. Ok (z, s)) (sym pushed)
+
+pub any_named : (name : Word) (names : List Word) → is_some (position_of (bytes_eq name) names) ≡ is_among name names
+any_named name names = position_any (bytes_eq name) names

@@ -1,185 +1,28 @@
 -- The definitions over forms that are borrowed from a tree: `None` is a node that is none of the sort.
-use Rattle.std.specs.Prelude.{◌≡◌, ℕ, ◌+◌, ◌<◌, ⊤, Result, Ok, Err, option_and_then, is_some, Bool, true, false, if◌then◌else◌, List, [], ◌∷◌, ◌++◌, length, ◌||◌, not, nat_le, Option, Some, None}
-use Rattle.mir_base.specs.declared.int_kind.IntKind.{IntKind}
-use Rattle.mir_ty.specs.declared.ty.Ty.{Ty}
+use Rattle.std.specs.Prelude.{ℕ, ◌+◌, List, [], ◌∷◌, ◌++◌, ◌||◌, not, length, map, slice_get, Option, Some, None, Bool, if◌then◌else◌, codes, ◌&&◌, is_some}
 use Rattle.mir_base.specs.declared.place_in_text.Pos.{Pos}
 use Rattle.mir_base.specs.declared.rule.Rule.{Rule}
-use Rattle.mir_ty.specs.declared.adt.Variant.{Variant}
-use Rattle.mir_ty.specs.ItemTable.{with_adt}
-use Rattle.mir_ty.specs.declared.def.Sig.{Sig}
-use Rattle.mir_ty.specs.declared.ty.TyId.{TyId}
-use Rattle.name_table.specs.declared.written.Scope.{Scope}
-use Rattle.name_table.specs.declared.known.Known.{Known}
-use Rattle.name_table.specs.declared.heads.Own.{Own}
-use Rattle.typing_rules.specs.Collected as walk
-use Rattle.typing_rules.specs.Collected.{own_ty, receiver_ty, param_ty, derives_known, variant_of, declared_variant, adt_of, added, names_alone, sig_of, behind_self, with_receiver, has_receiver, trait_head, closure_param, body_added, body_sig, closure_head, is_drop, item_name}
-use Rattle.src_ast.specs.View.{view}
-use Rattle.well_typed.specs.Names.{is_among, built_in}
-use Rattle.typing_rules.specs.Items.{full_name, closure_name, is_body_row, bodies_in}
-use Rattle.src_tree.specs.View.{Single, a_token, a_node}
+use Rattle.mir_ty.specs.Facts.{is_copy}
+use Rattle.mir_ty.specs.ItemTable.{ItemTable, with_trait}
+use Rattle.mir_ty.specs.declared.adt.Adt.{Adt}
+use Rattle.std.specs.List.{list_all}
+use Rattle.mir_ty.specs.declared.ty.Ty.{Ty}
+use Rattle.item_heads.specs.Forms.{struct_by, enum_by}
+use Rattle.src_ast.specs.Syntax.{StructItem, EnumItem, TraitItem, ImplItem, FnItem, Word, Named, Shape, Syn, Syns, list_of}
+use Rattle.src_ast.specs.View.{view, named}
+use Rattle.std.specs.Borrow.{Bor}
+use Rattle.name_table.specs.declared.known_names.NameSort.{NameSort}
+use Rattle.name_table.specs.declared.known_names.ImplNames.{ImplNames}
+use Rattle.src_ast.specs.Seen.{syn_of, word_of}
+use Rattle.src_tree.specs.View.{Single, a_token, a_node, layout_of}
+use Rattle.src_tree.specs.declared.node.Node.{Node}
 use Rattle.src_tree.specs.declared.row.Row.{Row}
-use Rattle.mir_base.specs.declared.rule.RuleError.{RuleError}
-use Rattle.src_ast.specs.Syntax.{StructItem, EnumItem, TraitItem, FnItem, ParamOf, MaybeSyn, SelfParam, ByShared, ByUnique, Word, Named, Syns, list_of, number_word, Receiver, Syn, syn, FieldDecl, Shape}
-use Rattle.typing_rules.specs.Check.{Check, each_checked, pure, breaks, obeys, interned, ◌>>=◌, ◌>>◌}
-use Rattle.typing_rules.specs.Places.{unit}
-use Rattle.typing_rules.specs.Written.{Around, or_unit, written, written_form, written_param_form, is_usize, length_shown, number_of}
-
-abbrev pub around_of : Scope → Around
-around_of scope =
-    record {
-      has_limits = scope.has_limits;
-      self_adt = scope.self_adt;
-      adts = scope.adts.now;
-      traits = scope.traits.now;
-    }
-
-abbrev pub written_as : Around → Pos → Option Shape → Check TyId
-written_as around at None = breaks Rule.T20 at
-written_as around at (Some form) = written_form around at form
-
-abbrev pub param_as : Around → Pos → Option Shape → Check TyId
-param_as around at None = breaks Rule.T20 at
-param_as around at (Some form) = written_param_form around at form
-
--- an array, once its elements have a type
-abbrev pub array_short : Around → Pos → ℕ → TyId → Check TyId
-array_short around at count ty = do
-  obeys Rule.T19 at (not around.has_limits || nat_le count 32)
-  interned (Ty.Array ty (length_shown count))
-
-abbrev pub array_by : Around → Pos → ℕ → Option IntKind → TyId → Check TyId
-array_by around at count suffix ty = do
-  obeys Rule.T03 at (not around.has_limits || is_usize suffix)
-  array_short around at count ty
-
--- ---- heads
-
-abbrev pub known_of : Known → walk.Known
-known_of k = record { adts = k.adts; traits = k.traits; paths = k.paths }
-
--- the type of `self`
-abbrev pub own_by : Around → Own → Check TyId
-own_by around (Own.Around at) = own_ty at around.self_adt
-own_by around (Own.Given ty) = pure ty
-
-abbrev pub IsOwn : List Ty → Own → Type 0
-IsOwn types (Own.Around at) = ⊤
-IsOwn types (Own.Given ty) = ty.0 < length types
-
-abbrev pub own_receiver : Around → Own → Receiver → Check TyId
-own_receiver around own receiver = own_by around own >>= (λ ty. receiver_ty ty receiver)
-
-abbrev pub head_param : Around → Check TyId → Pos → Option Shape → Check TyId
-head_param around self at None = breaks Rule.T20 at
-head_param around self at (Some form) = param_ty around self (syn at form)
-
--- ---- fields
-
-abbrev pub field_type_by : Syn → Option Shape → Syn
-field_type_by x (Some (FieldDecl name ty)) = ty
-field_type_by x _ = x
-
-abbrev pub field_name_by : ℕ → Option Shape → Word
-field_name_by k (Some (FieldDecl name ty)) = name
-field_name_by k _ = number_word k
-
--- ---- structs and enums
-
-abbrev pub variant_by : Around → Pos → Option Shape → Check Variant
-variant_by around at None = breaks Rule.T20 at
-variant_by around at (Some form) = declared_variant around (syn at form)
-
--- one variant, of this name
-abbrev pub is_one : Word → List Variant → Type 0
-is_one name variants = (variant : Variant) × (variants ≡ variant ∷ []) × (variant.name ≡ name)
-
-abbrev pub struct_by : walk.Known → List Named → Word → Syns → Check (Unit {0})
-struct_by k ds name fields = do
-  derives_known ds
-  v ← variant_of (names_alone k (number_of k.adts name)) name fields
-  added (λ items. with_adt items (adt_of k ds name false (v ∷ [])))
-
-abbrev pub variants_in : walk.Known → Word → Syns → Check (List Variant)
-variants_in k name variants =
-    each_checked (declared_variant (names_alone k (number_of k.adts name))) (list_of variants)
-
-abbrev pub enum_by : walk.Known → List Named → Word → Syns → Check (Unit {0})
-enum_by k ds name variants = do
-  derives_known ds
-  vs ← variants_in k name variants
-  added (λ items. with_adt items (adt_of k ds name true vs))
-
--- ---- traits
-
-abbrev pub is_self_by : Option Shape → Bool
-is_self_by (Some (SelfParam receiver)) = true
-is_self_by _ = false
-
-abbrev pub reference_by : Option Shape → Bool
-reference_by (Some (SelfParam ByShared)) = true
-reference_by (Some (SelfParam ByUnique)) = true
-reference_by _ = false
-
--- a method without `&self` or `&mut self` gets `&dyn`
-abbrev pub other_method : Around → TyId → Word → Syns → MaybeSyn → Check Sig
-other_method around own name params answer =
-    interned (Ty.Shared own) >>= (λ self. sig_of around (pure own) name (behind_self params) answer >>= (λ sig. pure (
-    with_receiver self sig)))
-
-abbrev pub own_method : Around → TyId → Word → Syns → MaybeSyn → Check Sig
-own_method around own name params answer =
-    if has_receiver params then sig_of around (pure own) name params answer
-    else other_method around own name params answer
-
-abbrev pub trait_head_by : Around → TyId → Pos → Option Shape → Check Sig
-trait_head_by around own at None = breaks Rule.T20 at
-trait_head_by around own at (Some form) = trait_head around own (syn at form)
-
--- ---- closures
-
-abbrev pub closure_param_by : Around → Option Shape → Check TyId
-closure_param_by around (Some (ParamOf p ty)) = or_unit (written around ty)
-closure_param_by around _ = pure unit
-
--- what a call answers, as the definitions say it
-abbrev pub answered : {A B : Type 0} → (A → B) → Result A RuleError → Result B RuleError
-answered f (Ok a) = Ok (f a)
-answered f (Err e) = Err e
-
--- ---- bodies
-
-abbrev pub function_by : walk.Known → Option Word → ℕ → Pos → Word → Syns → MaybeSyn → Check walk.Count
-function_by k owner closures at name params answer = do
-  let self_adt = option_and_then (number_of k.adts) owner
-  sig ← sig_of (names_alone k self_adt) (own_ty at self_adt) (full_name owner name) params answer
-  body_added sig
-  pure (record { outer = full_name owner name; in_outer = 0; closures = closures })
-
-abbrev pub body_by : walk.Known → Option Word → walk.Count → Pos → Option Shape → Option Shape → Check walk.Count
-body_by k owner c at (Some form) expression = body_sig k owner c (syn at form)
-body_by k owner c at None (Some form) = body_sig k owner c (syn at form)
-body_by k owner c at None None = breaks Rule.T20 at
-
-abbrev pub closure_by : walk.Known → Option Word → walk.Count → Syns → MaybeSyn → Check walk.Count
-closure_by k owner c params answer = do
-  let around = names_alone k (option_and_then (number_of k.adts) owner)
-  closure_head around c.closures (closure_name c.outer (c.in_outer + 1)) params answer
-  pure (record c { in_outer = c.in_outer + 1; closures = c.closures + 1 })
-
--- a node with its own head, where it is a body
-abbrev pub own_sig : walk.Known → Option Word → walk.Count → Row → Syn → Check walk.Count
-own_sig k owner c row x = if is_body_row row then body_sig k owner c x else pure c
-
-abbrev pub bodies_in_piece : Single → List Syn
-bodies_in_piece (a_token t) = []
-bodies_in_piece (a_node g) = bodies_in g
-
-abbrev pub listed : {A : Type 0} → Option A → List A
-listed None = []
-listed (Some a) = a ∷ []
-
-abbrev pub trait_known : walk.Known → Named → Check (Unit {0})
-trait_known k trait_ = obeys Rule.T01 trait_.0 (is_drop trait_.1 || is_some (number_of k.traits trait_.1))
+use Rattle.typing_rules.specs.Check.{Check, pure, obeys, known, interned, the_items, each_checked, ◌>>=◌, ◌>>◌}
+use Rattle.typing_rules.specs.Collected as walk
+use Rattle.typing_rules.specs.Collected.{item_name, impl_head, is_drop, impl_added, names_alone, trait_head, added, item_head, body_sigs, may_derive, is_finite}
+use Rattle.typing_rules.specs.Items.{ItemSyn, bodies_in, impl_owner, is_body_row, body_path, adt_name, trait_name, own_name, method_path}
+use Rattle.typing_rules.specs.Written.{number_of}
+use Rattle.well_typed.specs.Names.{is_among, built_in}
 
 -- ---- names of items
 
@@ -200,3 +43,175 @@ with_name_by None seen = pure seen
 with_name_by (Some n) seen = do
   obeys Rule.T02 n.0 (not (is_among n.1 seen || is_among n.1 built_in))
   pure (seen ++ n.1 ∷ [])
+
+-- ---- one item
+
+abbrev pub adt_name_by : Option Shape → Option Word
+adt_name_by (Some (StructItem derives name kind fields)) = Some name.1
+adt_name_by (Some (EnumItem derives name variants)) = Some name.1
+adt_name_by _ = None
+
+abbrev pub trait_name_by : Option Shape → Option Word
+trait_name_by (Some (TraitItem name heads)) = Some name.1
+trait_name_by _ = None
+
+abbrev pub owner_by : Option Shape → Option Word
+owner_by (Some (ImplItem trait_ name methods)) = Some name.1
+owner_by _ = None
+
+abbrev pub adt_item_by : Pos → Option Shape → Option (Pos × List Named)
+adt_item_by at (Some (StructItem ds name kind fields)) = Some (at, ds)
+adt_item_by at (Some (EnumItem ds name variants)) = Some (at, ds)
+adt_item_by at _ = None
+
+-- a trait with this number
+abbrev pub trait_at : walk.Known → ℕ → Word → Syns → Check (Unit {0})
+trait_at k number name heads = do
+  own ← interned (Ty.Dyn number)
+  sigs ← each_checked (trait_head (names_alone k None) own) (list_of heads)
+  added (λ items. with_trait items (record { name = name; methods = sigs }))
+
+abbrev pub trait_by : walk.Known → Word → Syns → Check (Unit {0})
+trait_by k name heads = λ s. trait_at k (length s.items.traits) name heads s
+
+abbrev pub head_by : walk.Known → Option Shape → Check (Unit {0})
+head_by k (Some (StructItem ds name kind fields)) = struct_by k ds name.1 fields
+head_by k (Some (EnumItem ds name variants)) = enum_by k ds name.1 variants
+head_by k (Some (TraitItem name heads)) = trait_by k name.1 heads
+head_by k (Some (ImplItem trait_ name methods)) = impl_head k trait_ name
+head_by k _ = pure tt
+
+abbrev pub impl_by : walk.Known → Option Shape → Check (Unit {0})
+impl_by k (Some (ImplItem (Some trait_) name methods)) =
+    if is_drop trait_.1 then pure tt else (do
+      n ← known Rule.T01 trait_.0 (number_of k.traits trait_.1)
+      adt ← known Rule.T01 name.0 (number_of k.adts name.1)
+      impl_added k n adt trait_.1 name.1)
+impl_by k _ = pure tt
+
+-- ---- the items of a text
+
+-- what a part tells as an item; a token tells nothing
+abbrev pub told_by : {A : Type 0} → (Syn → Option A) → Single → Option A
+told_by f (a_token t) = None
+told_by f (a_node g) = f (view g)
+
+-- a node as an item, with the bodies in it
+abbrev pub item_of_node : Node → ItemSyn
+item_of_node n = record { item = syn_of n; bodies = bodies_in (layout_of n) }
+
+-- an item with its own head, and the bodies in it
+abbrev pub item_added : walk.Known → walk.Count → ItemSyn → Check walk.Count
+item_added k c i = do
+  item_head k i.item
+  body_sigs k (impl_owner i.item) c i.bodies
+
+abbrev pub piece_added : walk.Known → walk.Count → Single → Check walk.Count
+piece_added k c (a_token t) = pure c
+piece_added k c (a_node g) = item_added k c (record { item = view g; bodies = bodies_in g })
+
+-- how many traits there are behind an item that is one of this name
+abbrev pub one_more : Option Word → ℕ → ℕ
+one_more None n = n
+one_more (Some name) n = n + 1
+
+-- ---- names and paths by their sorts
+
+abbrev pub sought : NameSort → Syn → Option Word
+sought NameSort.Adts = adt_name
+sought NameSort.Traits = trait_name
+
+abbrev pub paths_in_piece : Single → List Word
+paths_in_piece (a_token t) = []
+paths_in_piece (a_node g) = map (body_path (view g)) (bodies_in g)
+
+-- the path of a name in an item
+abbrev pub path_by : Option Shape → Word → Word
+path_by (Some (ImplItem (Some trait_) owner methods)) name = method_path owner.1 trait_.1 name
+path_by (Some (ImplItem None owner methods)) name = codes "<" ++ owner.1 ++ codes ">::" ++ name
+path_by _ name = name
+
+abbrev pub path_around : Option Word → Option Word → Word → Word
+path_around (Some owner) (Some trait_) name = method_path owner trait_ name
+path_around (Some owner) None name = codes "<" ++ owner ++ codes ">::" ++ name
+path_around None trait_ name = name
+
+-- in an impl of these names, or in none
+abbrev pub path_within : ImplNames → Word → Word
+path_within names name = path_around (word_of names.owner) (word_of names.trait_) name
+
+abbrev pub trait_named : Option (Bor Node) → Option Word
+trait_named None = None
+trait_named (Some name) = Some (named (syn_of name.now)).1
+
+abbrev pub path_if : ImplNames → Option Word → Word
+path_if names None = []
+path_if names (Some name) = path_within names name
+
+abbrev pub path_of_body : ImplNames → Syn → Word
+path_of_body names body = path_if names (own_name body)
+
+abbrev pub own_name_by : Option Shape → Option Word
+own_name_by (Some (FnItem name params answer block)) = Some name.1
+own_name_by _ = None
+
+-- what is found of a node that is a body itself
+abbrev pub own_paths : (Syn → Word) → Row → Syn → List Word
+own_paths f row x = if is_body_row row then f x ∷ [] else []
+
+-- ---- one behind another
+
+-- each of some things in its order, for what it leaves alone
+abbrev pub each_done : {A : Type 0} → (A → Check (Unit {0})) → List A → Check (Unit {0})
+each_done f [] = pure tt
+each_done f (x ∷ xs) = f x >> each_done f xs
+
+abbrev pub done_in : (Syn → Check (Unit {0})) → Single → Check (Unit {0})
+done_in f (a_token t) = pure tt
+done_in f (a_node g) = f (view g)
+
+abbrev pub impl_named : walk.Known → Named → Named → Check (Unit {0})
+impl_named k trait_ name =
+    if is_drop trait_.1 then pure tt else (do
+      n ← known Rule.T01 trait_.0 (number_of k.traits trait_.1)
+      adt ← known Rule.T01 name.0 (number_of k.adts name.1)
+      impl_added k n adt trait_.1 name.1)
+
+-- ---- structs and enums, each with its number
+
+abbrev pub Adt_ : Type 0
+Adt_ = Pos × List Named
+
+-- a struct or an enum derives what it may; the number of the next one
+abbrev pub derives_by : ℕ → Option Adt_ → Check ℕ
+derives_by n None = pure n
+derives_by n (Some a) = do
+  items ← the_items
+  obeys Rule.T10 a.0 (may_derive items a.1 (slice_get items.adts n))
+  pure (n + 1)
+
+abbrev pub can_copy : ItemTable → Adt → Bool
+can_copy items adt = not (is_some adt.drop_body) && list_all (λ v. list_all (is_copy items) v.fields) adt.variants
+
+abbrev pub impl_of_names : walk.Known → Option Named → Named → Check (Unit {0})
+impl_of_names k None name = pure tt
+impl_of_names k (Some trait_) name = impl_named k trait_ name
+
+-- a struct or an enum has a finite size; the number of the next one
+abbrev pub finite_by : ℕ → Option Adt_ → Check ℕ
+finite_by n None = pure n
+finite_by n (Some a) = do
+  is_finite n a.0
+  pure (n + 1)
+
+-- a struct or an enum has a number as a type; the number of the next one
+abbrev pub numbered_by : ℕ → Option Adt_ → Check ℕ
+numbered_by n None = pure n
+numbered_by n (Some a) = do
+  interned (Ty.Adt n)
+  pure (n + 1)
+
+-- all of them have numbers as types
+abbrev pub all_numbered : ℕ → List Adt_ → Check (Unit {0})
+all_numbered n [] = pure tt
+all_numbered n (a ∷ as_) = interned (Ty.Adt n) >> all_numbered (n + 1) as_

@@ -1,5 +1,5 @@
-pub mod Answers
-pub mod Sizes
 pub mod Forms
-pub mod Standing
-pub mod Counts
+pub mod Walked
+pub mod AdtForms
+pub mod Holding
+pub mod Collects

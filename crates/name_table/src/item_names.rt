@@ -1,7 +1,7 @@
 //! Names of items, which have to differ.
 ghost use Rattle.std.specs.Prelude.{◌≡◌, [], ◌||◌, Some};
 ghost use Rattle.std.specs.List.{filter_map};
-ghost use Rattle.name_table.specs.Answers.{Answers};
+ghost use Rattle.item_heads.specs.Answers.{Answers};
 ghost use Rattle.name_table.specs.Forms.{with_name_by, name_in_piece};
 ghost use Rattle.src_ast.specs.ItemForms.{name_seen};
 ghost use Rattle.src_ast.specs.Seen.{syn_of};
@@ -12,8 +12,7 @@ ghost use Rattle.typing_rules.specs.Collected.{starting_with, item_name};
 ghost use Rattle.typing_rules.specs.Items.{items_of, item_syns};
 ghost use Rattle.well_typed.specs.Names.{is_among, built_in};
 
-use crate::names::NameTable;
-use crate::steps::broken;
+use item_heads::{NameTable, broken};
 use mir_base::{NoMemory, Rule, RuleError};
 use mir_ty::Items;
 use src_ast::{ItemForm, item_form, name_of};
@@ -71,7 +70,7 @@ fn name_at(piece: &Piece) -> Option<&Node>
 }
 
 /// Whether a name is in a table.
-#[tactic(auto, using(crate::proofs::Numbering::position_any))]
+#[tactic(auto, using(crate::proofs::ItemNames::any_named))]
 fn is_seen(seen: &NameTable, name: &str) -> bool
     ensures { result ≡ is_among name.now seen.now }
 {

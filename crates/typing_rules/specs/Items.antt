@@ -12,12 +12,12 @@ use Rattle.src_ast.specs.View.{view}
 
 -- ---- structs, enums and traits
 
-abbrev adt_name : Syn → Option Word
+abbrev pub adt_name : Syn → Option Word
 adt_name (syn at (StructItem derives name kind fields)) = Some name.1
 adt_name (syn at (EnumItem derives name variants)) = Some name.1
 adt_name _ = None
 
-abbrev trait_name : Syn → Option Word
+abbrev pub trait_name : Syn → Option Word
 trait_name (syn at (TraitItem name heads)) = Some name.1
 trait_name _ = None
 

@@ -1,0 +1,164 @@
+-- What is asked of an item, by its form.
+use Rattle.std.proofs.Common.{◌≡◌, Option, Result, refl, ap, sym, subst, ℕ, length, Some, ◌∙◌, List, []}
+use Rattle.mir_base.specs.declared.place_in_text.Pos.{Pos}
+use Rattle.src_tree.specs.declared.node.Node.{Node}
+use Rattle.src_ast.specs.Seen.{syn_of}
+use Rattle.src_ast.specs.Sorts.{item_part}
+use Rattle.src_ast.specs.Syntax.{Word, Named, Kind, Syns, Syn, syn, Shape, at_of, shape_of, Ident, LabelOf, Literal, TruthLiteral, Path, Minus, Bang, Star, Ampersand, Calculate, Compare, Both, Either, Store, CallOf, MethodOf, FieldOf, PartOf, ElementOf, StructOf, FieldInit, Parens, TupleOf, ArrayOf, Braces, IfElse, IfLetElse, MatchOn, ArmOf, LoopOf, WhileOf, WhileLetOf, BreakOf, ContinueOf, ReturnOf, MoveOf, PanicOf, LetOf, Empty, Semi, AnyPattern, BindPattern, LiteralPattern, TruthPattern, PathPattern, PartsPattern, FieldsPattern, FieldPattern, ParensPattern, TuplePattern, ArrayPattern, Alternatives, NamedType, GenericType, DynType, SelfType, ParensType, TupleType, ArrayType, NeverType, RefType, StructItem, EnumItem, FieldDecl, VariantDecl, TraitItem, ImplItem, FnItem, ParamOf, SelfParam, Odd}
+use Rattle.src_ast.proofs.Named.{seen_as}
+use Rattle.typing_rules.specs.Check.{State, Broken}
+use Rattle.typing_rules.specs.Collected as walk
+use Rattle.typing_rules.specs.Collected.{adt_item, item_head, impl_of, no_items, starting_with}
+use Rattle.typing_rules.specs.Items.{adt_name, trait_name, impl_owner, own_name, path_in}
+use Rattle.mir_base.specs.declared.rule.RuleError.{RuleError}
+use Rattle.mir_ty.specs.ItemTable.{ItemTable}
+use Rattle.item_heads.specs.Answers.{Answers}
+use Rattle.item_heads.specs.Forms.{struct_by, enum_by}
+use Rattle.name_table.specs.Forms.{trait_at, adt_name_by, trait_name_by, owner_by, own_name_by, path_by, adt_item_by, head_by, impl_by}
+
+abbrev Outcome : Type 0
+Outcome = Result (Unit {0} × State) Broken
+
+abbrev Asked : Type 0
+Asked = Option Word × (Option Word × (Option Word × (Option Word × ((Word → Word) × (Option (Pos × List Named) × (Outcome × Outcome))))))
+
+abbrev asked : walk.Known → Syn → State → Asked
+asked k x s =
+    (adt_name x, (trait_name x, (impl_owner x, (own_name x, (path_in x, (adt_item x, (item_head k x s, impl_of k x s)))))))
+
+abbrev asked_by : walk.Known → Pos → Option Shape → State → Asked
+asked_by k at o s =
+    (adt_name_by o, (trait_name_by o, (owner_by o, (own_name_by o, (path_by o, (adt_item_by at o, (head_by k o s, impl_by k o s)))))))
+
+asked_form : (k : walk.Known) (at : Pos) (form : Shape) (s : State) → asked k (syn at form) s ≡ asked_by k at (item_part form) s
+asked_form k at (Ident a) s = refl
+asked_form k at (LabelOf a) s = refl
+asked_form k at (Literal a b) s = refl
+asked_form k at (TruthLiteral a) s = refl
+asked_form k at (Path a b) s = refl
+asked_form k at (Minus a) s = refl
+asked_form k at (Bang a) s = refl
+asked_form k at (Star a) s = refl
+asked_form k at (Ampersand a b) s = refl
+asked_form k at (Calculate a b c) s = refl
+asked_form k at (Compare a b c) s = refl
+asked_form k at (Both a b) s = refl
+asked_form k at (Either a b) s = refl
+asked_form k at (Store a b) s = refl
+asked_form k at (CallOf a b) s = refl
+asked_form k at (MethodOf a b c) s = refl
+asked_form k at (FieldOf a b) s = refl
+asked_form k at (PartOf a b) s = refl
+asked_form k at (ElementOf a b) s = refl
+asked_form k at (StructOf a b c) s = refl
+asked_form k at (FieldInit a b) s = refl
+asked_form k at (Parens a) s = refl
+asked_form k at (TupleOf a) s = refl
+asked_form k at (ArrayOf a) s = refl
+asked_form k at (Braces a b) s = refl
+asked_form k at (IfElse a b c) s = refl
+asked_form k at (IfLetElse a b c d) s = refl
+asked_form k at (MatchOn a b) s = refl
+asked_form k at (ArmOf a b c) s = refl
+asked_form k at (LoopOf a b) s = refl
+asked_form k at (WhileOf a b c) s = refl
+asked_form k at (WhileLetOf a b c d) s = refl
+asked_form k at (BreakOf a b) s = refl
+asked_form k at (ContinueOf a) s = refl
+asked_form k at (ReturnOf a) s = refl
+asked_form k at (MoveOf a b c d) s = refl
+asked_form k at PanicOf s = refl
+asked_form k at (LetOf a b c) s = refl
+asked_form k at Empty s = refl
+asked_form k at (Semi a) s = refl
+asked_form k at AnyPattern s = refl
+asked_form k at (BindPattern a) s = refl
+asked_form k at (LiteralPattern a b c) s = refl
+asked_form k at (TruthPattern a) s = refl
+asked_form k at (PathPattern a b) s = refl
+asked_form k at (PartsPattern a b c d) s = refl
+asked_form k at (FieldsPattern a b c d) s = refl
+asked_form k at (FieldPattern a b) s = refl
+asked_form k at (ParensPattern a) s = refl
+asked_form k at (TuplePattern a b) s = refl
+asked_form k at (ArrayPattern a b) s = refl
+asked_form k at (Alternatives a) s = refl
+asked_form k at (NamedType a) s = refl
+asked_form k at (GenericType a b) s = refl
+asked_form k at (DynType a b) s = refl
+asked_form k at SelfType s = refl
+asked_form k at (ParensType a) s = refl
+asked_form k at (TupleType a) s = refl
+asked_form k at (ArrayType a b c) s = refl
+asked_form k at NeverType s = refl
+asked_form k at (RefType a b) s = refl
+asked_form k at (StructItem a b c d) s = refl
+asked_form k at (EnumItem a b c) s = refl
+asked_form k at (FieldDecl a b) s = refl
+asked_form k at (VariantDecl a b c) s = refl
+asked_form k at (TraitItem a b) s = refl
+asked_form k at (ImplItem a b c) s = refl
+asked_form k at (FnItem a b c d) s = refl
+asked_form k at (ParamOf a b) s = refl
+asked_form k at (SelfParam a) s = refl
+asked_form k at Odd s = refl
+
+asked_as : (k : walk.Known) (x : Syn) (s : State) → asked k x s ≡ asked_by k (at_of x) (item_part (shape_of x)) s
+asked_as k (syn at form) s = asked_form k at form s
+
+asked_seen : (k : walk.Known) (n : Node) (s : State) → asked k (syn_of n) s ≡ asked_by k n.at (item_part (shape_of (syn_of n))) s
+asked_seen k n s =
+    asked_as k (syn_of n) s ∙ ap (λ (x : Syn). asked_by k (at_of x) (item_part (shape_of (syn_of n))) s) (seen_as n)
+
+pub head_seen : (k : walk.Known) (n : Node) (s : State) → item_head k (syn_of n) s ≡ head_by k (item_part (shape_of (syn_of n))) s
+head_seen k n s = ap (λ (a : Asked). a.1.1.1.1.1.1.0) (asked_seen k n s)
+
+pub impl_seen : (k : walk.Known) (n : Node) (s : State) → impl_of k (syn_of n) s ≡ impl_by k (item_part (shape_of (syn_of n))) s
+impl_seen k n s = ap (λ (a : Asked). a.1.1.1.1.1.1.1) (asked_seen k n s)
+
+module _ (n : Node) where
+  no_names : walk.Known
+  no_names = record { adts = []; traits = []; paths = [] }
+
+  no_state : State
+  no_state = starting_with no_items
+
+  pub adt_name_seen : adt_name (syn_of n) ≡ adt_name_by (item_part (shape_of (syn_of n)))
+  adt_name_seen = ap (λ (a : Asked). a.0) (asked_seen no_names n no_state)
+
+  pub trait_name_seen : trait_name (syn_of n) ≡ trait_name_by (item_part (shape_of (syn_of n)))
+  trait_name_seen = ap (λ (a : Asked). a.1.0) (asked_seen no_names n no_state)
+
+  pub owner_seen : impl_owner (syn_of n) ≡ owner_by (item_part (shape_of (syn_of n)))
+  owner_seen = ap (λ (a : Asked). a.1.1.0) (asked_seen no_names n no_state)
+
+  pub adt_item_seen : adt_item (syn_of n) ≡ adt_item_by n.at (item_part (shape_of (syn_of n)))
+  adt_item_seen = ap (λ (a : Asked). a.1.1.1.1.1.0) (asked_seen no_names n no_state)
+
+  pub own_name_seen : own_name (syn_of n) ≡ own_name_by (item_part (shape_of (syn_of n)))
+  own_name_seen = ap (λ (a : Asked). a.1.1.1.0) (asked_seen no_names n no_state)
+
+  pub path_seen : (name : Word) → path_in (syn_of n) name ≡ path_by (item_part (shape_of (syn_of n))) name
+  path_seen name = ap (λ (a : Asked). a.1.1.1.1.0 name) (asked_seen no_names n no_state)
+
+-- ---- structs and enums, whose names are read from their nodes
+
+module _ (k : walk.Known) (n : Node) (s : State) (word : Word) (at : Pos) (name : Named) (same : (at, word) ≡ name) (r : Result (Unit {0}) RuleError) (after : ItemTable) where
+  by_form : (o : Option Shape) → o ≡ item_part (shape_of (syn_of n)) → Answers (head_by k o s) r after → Answers (item_head k (syn_of n) s) r after
+  by_form o is h = subst (λ z. Answers z r after) (sym (head_seen k n s ∙ ap (λ z. head_by k z s) (sym is))) h
+
+  pub struct_answers : (ds : List Named) (kind : Kind) (fields : Syns) → Some (StructItem ds name kind fields) ≡ item_part (shape_of (syn_of n)) →
+      Answers (struct_by k ds word fields s) r after → Answers (item_head k (syn_of n) s) r after
+  struct_answers ds kind fields is h =
+      by_form (Some (StructItem ds name kind fields)) is (subst (λ (z : Named). Answers (struct_by k ds z.1 fields s) r after) same h)
+
+  pub enum_answers : (ds : List Named) (variants : Syns) → Some (EnumItem ds name variants) ≡ item_part (shape_of (syn_of n)) →
+      Answers (enum_by k ds word variants s) r after → Answers (item_head k (syn_of n) s) r after
+  enum_answers ds variants is h =
+      by_form (Some (EnumItem ds name variants)) is (subst (λ (z : Named). Answers (enum_by k ds z.1 variants s) r after) same h)
+
+  pub trait_answers : (number : ℕ) (heads : Syns) → number ≡ length s.items.traits → Some (TraitItem name heads) ≡ item_part (shape_of (syn_of n)) →
+      Answers (trait_at k number word heads s) r after → Answers (item_head k (syn_of n) s) r after
+  trait_answers number heads next is h =
+      by_form (Some (TraitItem name heads)) is
+      (subst (λ (z : Named). Answers (trait_at k (length s.items.traits) z.1 heads s) r after) same (subst (λ z. Answers (trait_at k z word heads s) r after) next h))

@@ -1,0 +1,16 @@
+use Rattle.std.proofs.Common.{Err, arith}
+use Rattle.src_tree.specs.View.{items_of}
+use Rattle.typing_rules.specs.Collected.{collected}
+use Rattle.name_table.specs.Collects.{Collects}
+use Rattle.name_table.proofs.Stages.{collects_none, collects_items}
+use Rattle.name_table.proofs.collected.collect.Goals as goal
+
+pub returns-in_err-tree_collected : goal.returns-in_err-tree_collected
+returns-in_err-tree_collected c =
+    let refused : Collects (collected (items_of c.args.tree.now) c.args.tree.now.end) (Err c.in_err-tree_collected.field-0.0) =
+    collects_none (items_of c.args.tree.now) c.args.tree.now.end c.in_ok-items.items c.in_err-tree_collected.field-0.0 c.in_ok-items.ensures.items c.in_err-tree_collected.ensures in
+    grind (arith, refused)
+
+pub returns : goal.returns
+returns c =
+    collects_items (items_of c.args.tree.now) c.args.tree.now.end c.in_ok-items.items c.tree_collected.new.items _ c.in_ok-items.ensures.items c.in_ok-tree_collected.ensures

@@ -1,6 +1,0 @@
-use Rattle.src_ast.specs.Seen.{syn_of}
-use Rattle.name_table.specs.Sizes.{size}
-use Rattle.name_table.proofs.written.+written_param.Given as goal
-
-abbrev pub decreases-written_param : goal.decreases-written_param
-decreases-written_param l = size (syn_of l.node.now)

@@ -1,0 +1,126 @@
+//! The items of a text, by stages.
+ghost use Rattle.std.specs.Prelude.{◌≡◌, ◌≤◌, [], length, is_some, codes, IfOk, IfErr};
+ghost use Rattle.mir_base.specs.declared.rule.Rule.{Rule};
+ghost use Rattle.mir_base.specs.declared.rule.RuleError.{RuleError};
+ghost use Rattle.item_heads.specs.Answers.{Answers};
+ghost use Rattle.item_heads.specs.Forms.{known_of};
+ghost use Rattle.name_table.specs.Collects.{Collects, declared as declared_by, int_scalars as ints_by, plain_scalars as plain_by, stages as stages_by, tested as tested_by};
+ghost use Rattle.src_tree.specs.View as view;
+ghost use Rattle.src_tree.specs.View.{parts_in};
+ghost use Rattle.typing_rules.specs.Check.{obeys as obeyed_by};
+ghost use Rattle.typing_rules.specs.Collected as walk;
+ghost use Rattle.typing_rules.specs.Collected.{starting_with};
+ghost use Rattle.typing_rules.specs.Items.{items_of};
+ghost use Rattle.typing_rules.specs.Written.{number_of};
+
+use crate::derived::derive;
+use crate::finite::one_by_one;
+use crate::impl_walk::impls;
+use crate::item_names::names_differ;
+use crate::item_walk::heads;
+use crate::known_names::known;
+use item_heads::{Known, interned, obeys};
+use mir_base::{IntKind, Pos, Rule, RuleError};
+use mir_ty::{Items, Ty};
+use src_tree::{Piece, Tree};
+use std::alloc::Global;
+
+fn plain_scalars(items: &mut Items) -> Result<(), RuleError>
+    ensures { Answers (plain_by (starting_with items.old)) result items.new }
+{
+    interned(items, Ty::Unit)?;
+    interned(items, Ty::Bool)?;
+    interned(items, Ty::Never)?;
+    Ok(())
+}
+
+fn int_scalars(items: &mut Items) -> Result<(), RuleError>
+    ensures { Answers (ints_by (starting_with items.old)) result items.new }
+{
+    interned(items, Ty::Int(IntKind::I32))?;
+    interned(items, Ty::Int(IntKind::I64))?;
+    interned(items, Ty::Int(IntKind::U32))?;
+    interned(items, Ty::Int(IntKind::U64))?;
+    interned(items, Ty::Int(IntKind::Usize))?;
+    Ok(())
+}
+
+/// Items with the types that each program has.
+#[tactic(auto, using(crate::proofs::Stages::scalars_there))]
+fn no_items(alloc: Global) -> Result<Items, RuleError>
+    ensures items { IfOk result (λ items. items ≡ walk.no_items) }
+    ensures short { IfErr result (λ e. e ≡ RuleError.Memory) }
+{
+    let mut items = Items::new(alloc);
+    plain_scalars(&mut items)?;
+    int_scalars(&mut items)?;
+    Ok(items)
+}
+
+/// There is a function `main`.
+fn has_main(items: &Items, known: &Known, end: Pos) -> Result<(), RuleError>
+    ensures { Answers (obeyed_by Rule.T01 end (is_some (number_of (known_of known.now).paths (codes "main"))) (starting_with items.now)) result items.now }
+{
+    obeys(Rule::T01, end, known.paths.find("main").is_some())
+}
+
+/// Names, heads and impls.
+fn declared(items: &mut Items, known: &Known, pieces: &[Piece]) -> Result<(), RuleError>
+    requires ready { 8 ≤ length items.old.types }
+    requires first { items.old.traits ≡ [] }
+    ensures { Answers (declared_by (known_of known.now) (items_of (parts_in pieces.now)) (starting_with items.old)) result items.new }
+{
+    names_differ(items, known.alloc, pieces)?;
+    heads(items, known, pieces)?;
+    impls(items, known, pieces)
+}
+
+/// What structs and enums hold and derive, and `main`.
+fn tested(items: &mut Items, known: &Known, pieces: &[Piece], end: Pos) -> Result<(), RuleError>
+    ensures { Answers (tested_by (known_of known.now) (items_of (parts_in pieces.now)) end (starting_with items.old)) result items.new }
+{
+    one_by_one(items, known.alloc, pieces)?;
+    derive(items, pieces)?;
+    has_main(items, known, end)
+}
+
+/// All stages, by what is known of all items.
+fn in_stages(items: &mut Items, known: &Known, pieces: &[Piece], end: Pos) -> Result<(), RuleError>
+    requires ready { 8 ≤ length items.old.types }
+    requires first { items.old.traits ≡ [] }
+    ensures { Answers (stages_by (known_of known.now) (items_of (parts_in pieces.now)) end (starting_with items.old)) result items.new }
+{
+    declared(items, known, pieces)?;
+    tested(items, known, pieces, end)
+}
+
+fn collected(items: &mut Items, alloc: Global, pieces: &[Piece], end: Pos) -> Result<(), RuleError>
+    requires ready { 8 ≤ length items.old.types }
+    requires first { items.old.traits ≡ [] }
+    ensures { Answers (walk.collecting (items_of (parts_in pieces.now)) end (starting_with items.old)) result items.new }
+{
+    let known = known(alloc, pieces)?;
+    in_stages(items, &known, pieces, end)
+}
+
+fn tree_collected(items: &mut Items, alloc: Global, tree: &Tree) -> Result<(), RuleError>
+    requires ready { 8 ≤ length items.old.types }
+    requires first { items.old.traits ≡ [] }
+    ensures { Answers (walk.collecting (items_of (view.items_of tree.now)) tree.now.end (starting_with items.old)) result items.new }
+{
+    collected(items, alloc, tree.items.as_slice(), tree.end)
+}
+
+/// The items of a text by their names, or the first broken rule on items: T01, T02, T09 or T10, with its place.
+///
+/// The items are the structs, enums and traits of the text, the impls of its traits, and the heads of its functions,
+/// methods and closures, each in text order; closures themselves come later, and a type in the head of one in which
+/// a name is not known stands as `()`. First come the names of all items, then the names in their heads, then
+/// structs and enums that hold themselves, then what is derived, and last a missing `main`, at the end of the text.
+pub fn collect(alloc: Global, tree: &Tree) -> Result<Items, RuleError>
+    ensures { Collects (walk.collected (view.items_of tree.now) tree.now.end) result }
+{
+    let mut items = no_items(alloc)?;
+    tree_collected(&mut items, alloc, tree)?;
+    Ok(items)
+}
