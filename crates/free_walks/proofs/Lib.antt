@@ -1,0 +1,11 @@
+mod Allowing
+mod Blocks
+mod Coming
+mod Elsewhere
+mod Examples
+mod Following
+mod Law
+mod Leaving
+mod Lines
+mod Performing
+mod Watching
