@@ -14,7 +14,7 @@ use move_paths::{Use, Used, stmt_uses, term_uses};
 use std::alloc::Global;
 
 /// A use of a place, at a line of its block.
-#[derive(Clone, Copy, Debug)]
+#[derive(Clone, Copy)]
 pub struct Act<'a> {
     pub line: u32,
     pub how: Use,

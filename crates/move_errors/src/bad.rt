@@ -21,7 +21,7 @@ use move_paths::{Forest, Near, Use};
 use std::alloc::Global;
 
 /// A body, its forest, and for each path the mask of those at or below it.
-#[derive(Debug, Drop)]
+#[derive(Drop)]
 pub struct Watch<'a> {
     pub items: &'a Items,
     pub body: &'a Body,

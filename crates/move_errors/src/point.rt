@@ -11,7 +11,7 @@ use mir_ty::Items;
 use move_paths::place_ty;
 
 /// Where a run stands: before the entry to a block, within it, or on its first or second way out.
-#[derive(Clone, Copy, Debug, PartialEq, Eq)]
+#[derive(Clone, Copy)]
 pub enum Stage {
     Entry,
     Inside,
@@ -19,14 +19,14 @@ pub enum Stage {
 }
 
 /// A point of a body.
-#[derive(Clone, Copy, Debug, PartialEq, Eq)]
+#[derive(Clone, Copy)]
 pub struct Point {
     pub block: u32,
     pub stage: Stage,
 }
 
 /// Where a run goes on: nowhere, to a point without a choice, or to the points of the choices 0 and 1.
-#[derive(Clone, Copy, Debug, PartialEq, Eq)]
+#[derive(Clone, Copy)]
 pub enum Onward {
     Nowhere,
     Silent(Point),

@@ -18,7 +18,7 @@ use std::alloc::Global;
 use std::collections::VecDeque;
 
 /// A run as it comes to a point: from which visit, and the choice that it gave on the way.
-#[derive(Clone, Copy, Debug, PartialEq, Eq)]
+#[derive(Clone, Copy)]
 pub struct Visit {
     pub at: Point,
     pub from: Option<u32>,
@@ -26,7 +26,7 @@ pub struct Visit {
 }
 
 /// A run that waits, and what is gone there.
-#[derive(Debug, Drop)]
+#[derive(Drop)]
 pub struct Waiting {
     pub visit: Visit,
     pub row: BitRow,
@@ -42,7 +42,7 @@ pub struct Search {
 }
 
 /// A bad use, and the number of the visit of the run that meets it.
-#[derive(Clone, Copy, Debug)]
+#[derive(Clone, Copy)]
 pub struct Found<'a> {
     pub visit: u32,
     pub act: Act<'a>,
@@ -270,7 +270,7 @@ fn begin(
 }
 
 /// A bad use, and the visits by which a least run comes to it.
-#[derive(Debug, Drop)]
+#[derive(Drop)]
 pub struct Trace<'a> {
     pub visits: List<Visit>,
     pub found: Found<'a>,

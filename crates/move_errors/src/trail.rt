@@ -9,7 +9,7 @@ use mir_base::{List, NoMemory};
 use std::alloc::Global;
 
 /// The blocks of a path, and the choices that it gives.
-#[derive(Debug, Drop)]
+#[derive(Drop)]
 pub struct WayThere {
     pub path: List<u32>,
     pub answers: List<u8>,
@@ -18,7 +18,7 @@ pub struct WayThere {
 fn add_block(blocks: &mut Vec<u32>, at: Point) -> Result<(), NoMemory>
     ensures { OnOk result (blocks.new.items ≡ blocks.old.items ++ met at) }
 {
-    if at.stage == Stage::Inside {
+    if matches!(at.stage, Stage::Inside) {
         blocks.push(at.block)?;
     }
     Ok(())
