@@ -13,7 +13,7 @@ use Rattle.store_model.specs.Places.Place.{Place, Step, ToPart, ToField, ToConte
 use Rattle.cfg_graph.specs.declared.place.Place.{Place as GraphPlace}
 use Rattle.cfg_graph.specs.declared.graph.Body.{Body}
 use Rattle.cfg_graph.specs.Places.{named}
-use Rattle.cfg_graph.specs.Uses.{Use}
+use Rattle.cfg_graph.specs.Uses.{Use, Copies, Moves, Borrows, Touches, Tests, Stores, Drops, Frees}
 use Rattle.cfg_graph.specs.Moves.Gone.{are_first, is_at_or_above, has_index, counts, leaves_gone}
 use Rattle.init_flow.specs.Carried.{Row}
 use Rattle.move_paths.specs.Trie.{Reaches, upto}
@@ -30,8 +30,8 @@ use Rattle.move_flow.specs.Concerns.{array_of, in_array, concerns_read, concerns
 use Rattle.move_flow.proofs.Marking.{transitive, same_true, above-step, above-root, not-above-up}
 use Rattle.move_flow.proofs.Telling.{local-same, steps-first, above-upto, upto-above, upto-upto}
 use Rattle.move_flow.proofs.Following.{counted}
-use Rattle.move_errors.specs.Rows.{some_on, above, place_at, depth_from, is_depth, by_depth, OnlyAbove}
-use Rattle.move_errors.proofs.OnRows.{some-same, some-or, some-if}
+use Rattle.move_errors.specs.Rows.{some_on, above, place_at, depth_from, is_depth, by_depth, OnlyAbove, Asks, concerns}
+use Rattle.move_errors.proofs.OnRows.{some-same, some-or, some-if, some-none}
 
 not_true : (b : Bool) → (b ≡ true → ⊥) → b ≡ false
 not_true true h = absurd (h refl)
@@ -292,3 +292,34 @@ module _ (items : ItemTable) (body : Body) (forest : PathForest) (is : IsForest 
         one i within =
             ap (λ (z : Place). above paths up (place_at paths i) || (array && is_at_or_above z (place_at paths i))) at-p
             ∙ (λ j. strict i within j || sym (array-near (place_at paths i) (place-in i within)) j)
+
+    whole : (row : Row) (over : Option ℕ) (within : Bool) → (over ≡ Some near.path) × (within ≡ (exact || array))
+        → (some_on (above paths over) paths row || (within && some_on (is_at_or_above at) paths row)) ≡ some_on (λ q. concerns_read q x) paths row
+    whole row over within asked =
+        (λ i. some_on (above paths (asked.0 i)) paths row || (asked.1 i && some_on (is_at_or_above at) paths row))
+        ∙ ap (λ (b : Bool). some_on (above paths (Some near.path)) paths row || b) (split exact array (some_on (is_at_or_above at) paths row))
+        ∙ read-told row
+      where
+        split : (a b c : Bool) → ((a || b) && c) ≡ ((a && c) || (b && c))
+        split true true true = refl
+        split true true false = refl
+        split true false true = refl
+        split true false false = refl
+        split false b c = refl
+
+    -- for any use
+    pub told : (how : Use) (row : Row) (over : Option ℕ) (within : Bool) → Asks paths x near how over within
+        → (some_on (above paths over) paths row || (within && some_on (is_at_or_above at) paths row)) ≡ some_on (λ q. concerns how q x) paths row
+    told Copies row over within asked = whole row over within asked
+    told Moves row over within asked = whole row over within asked
+    told Borrows row over within asked = whole row over within asked
+    told Touches row over within asked = whole row over within asked
+    told Tests row over within asked =
+        (λ i. some_on (above paths (asked.0 i)) paths row || (asked.1 i && some_on (is_at_or_above at) paths row)) ∙ test-told row
+    told Stores row over within asked =
+        ap (λ (b : Bool). some_on (above paths over) paths row || (b && some_on (is_at_or_above at) paths row)) asked.1 ∙ store-told row over asked.0
+    told Drops row over within asked =
+        ap (λ (b : Bool). some_on (above paths over) paths row || (b && some_on (is_at_or_above at) paths row)) asked.1 ∙ store-told row over asked.0
+    told Frees row over within asked =
+        (λ i. some_on (above paths (asked.0 i)) paths row || (asked.1 i && some_on (is_at_or_above at) paths row))
+        ∙ ap (λ (b : Bool). b || false) (some-none paths row) ∙ sym (some-none paths row)

@@ -1,36 +1,34 @@
 -- Runs are the paths of a body.
-use Rattle.std.proofs.Common.{◌≡◌, ◌⊎◌, inl, inr, ℕ, zero, suc, ◌<◌, ◌≤◌, Bool, true, false, if◌then◌else◌, List, [], ◌∷◌, ◌++◌, map, length, nat_lt, nat_eq, Option, Some, None, slice_get, Contains, refl, sym, ap, subst, ◌∙◌, arith}
+use Rattle.std.proofs.Common.{◌≡◌, inl, inr, ℕ, Bool, true, false, if◌then◌else◌, List, [], ◌∷◌, ◌++◌, map, length, nat_lt, nat_eq, Option, Some, None, slice_get, Contains, refl, sym, ap, subst, ◌∙◌}
 use Rattle.std.specs.Option.{option_map_or, is_some}
 use Rattle.std.specs.List.{list_any}
-use Rattle.std.proofs.lemmas.Bool.{false≢true, lt-ltb}
-use Rattle.std.proofs.lemmas.Option.{none-some, same_Some, slice_get_within, slice_get-get_or}
-use Rattle.std.proofs.lemmas.List.{append-nil, append_assoc, append_cancel_right}
+use Rattle.std.proofs.lemmas.Bool.{false≢true}
+use Rattle.std.proofs.lemmas.Option.{none-some, same_Some}
+use Rattle.std.proofs.lemmas.List.{append-nil}
 use Rattle.mir_ty.specs.ItemTable.{ItemTable}
-use Rattle.store_model.specs.Places.Place.{Place}
 use Rattle.cfg_graph.specs.declared.graph.Block.{Block}
 use Rattle.cfg_graph.specs.declared.graph.Body.{Body}
 use Rattle.cfg_graph.specs.Edges.{ToBlock, is_turn, onward}
 use Rattle.cfg_graph.specs.Uses.{Stores, stored_by_term}
 use Rattle.cfg_graph.specs.Moves.Actions.{actions_on}
-use Rattle.cfg_graph.specs.Moves.BadUses.{BadUse, bad_uses_on}
+use Rattle.cfg_graph.specs.Moves.BadUses.{BadUse}
 use Rattle.cfg_graph.specs.Moves.Gone.{Action}
-use Rattle.cfg_graph.specs.Moves.Paths.{Way, ways, IsPath}
-use Rattle.init_flow.specs.Carried.{Row, last_of}
+use Rattle.cfg_graph.specs.Moves.Paths.{ways, IsPath}
+use Rattle.init_flow.specs.Carried.{Row}
 use Rattle.init_flow.specs.Ways.{target}
 use Rattle.move_flow.specs.Concerns.{AreOfBody}
 use Rattle.move_flow.proofs.Along.{actions_between}
 use Rattle.move_paths.specs.Forest.{PathForest}
-use Rattle.move_errors.specs.Reaches.{rule_of, first_bad, ReachesInBlock, ReachesOnWay, Reaches, MeetsNone}
+use Rattle.move_errors.specs.Reaches.{rule_of, first_bad, Reaches}
 use Rattle.move_errors.specs.Rows.{state, after, first_by, IsWatched}
-use Rattle.move_errors.specs.Runs.{Problem, Trip, Run, begins, goes, Leads, step, beginning, problem, optional, met, number_of, point, acts_at, at_line, stored_between, entered, arrived, onward_from}
-use Rattle.move_errors.specs.Searching.{number, number_from}
+use Rattle.move_errors.specs.Runs.{Problem, Trip, Run, begins, goes, Leads, problem, optional, met, number_of, point, acts_at, at_line, stored_between, entered, arrived, onward_from}
 use Rattle.move_errors.specs.declared.point.Point.{Point}
 use Rattle.move_errors.specs.declared.point.Stage.{Stage}
 use Rattle.move_errors.specs.declared.point.Onward.{Onward}
-use Rattle.move_errors.proofs.Sorted.{here, there, none-in, first-or, number-append, step-more}
+use Rattle.move_errors.proofs.Sorted.{here, none-in}
 use Rattle.move_errors.proofs.Using.{acts-used}
-use Rattle.move_errors.proofs.Rowing.{Both, none, some, both, none-append, of-body-more, meets-none}
-use Rattle.move_errors.proofs.Pathways.{actions-snoc, split-last, ends, entry_choices, choices_between, along, path-snoc, LeavesBy, leaves-by, between-way, way-between, goes-by, in-flat, in-map}
+use Rattle.move_errors.proofs.Rowing.{Both, none, some, both, none-append, of-body-more}
+use Rattle.move_errors.proofs.Pathways.{actions-snoc, entry_choices, path-snoc, way-between, goes-by}
 
 module _ (items : ItemTable) (body : Body) (forest : PathForest) (below : List Row) (watched : IsWatched items body forest below) where
   abbrev f : Problem

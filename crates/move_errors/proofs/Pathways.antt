@@ -1,5 +1,5 @@
 -- Paths of a body that grow by a block.
-use Rattle.std.proofs.Common.{◌≡◌, ◌⊎◌, inl, inr, ℕ, zero, suc, ◌<◌, Bool, true, false, not, ◌&&◌, ◌||◌, if◌then◌else◌, List, [], ◌∷◌, ◌++◌, map, flat_map, length, Option, Some, None, slice_get, Contains, refl, sym, ap, subst, ◌∙◌, arith}
+use Rattle.std.proofs.Common.{◌≡◌, inl, inr, ℕ, zero, suc, Bool, true, false, not, if◌then◌else◌, List, [], ◌∷◌, ◌++◌, map, flat_map, Option, Some, None, slice_get, Contains, refl, sym, ap, subst, ◌∙◌}
 use Rattle.std.specs.Prelude.{option_and_then, ◌==◌}
 use Rattle.std.specs.Option.{option_map_or}
 use Rattle.std.proofs.lemmas.Bool.{false≢true, eqb-true, eq-eqb}
@@ -19,7 +19,7 @@ use Rattle.cfg_graph.specs.Moves.Actions.{actions_on}
 use Rattle.cfg_graph.specs.Moves.Gone.{Action}
 use Rattle.cfg_graph.specs.Moves.Paths.{Way, ways, IsPath}
 use Rattle.init_flow.specs.Carried.{last_of}
-use Rattle.init_flow.specs.Ways.{target, target_among, number_of as number_among, block_of}
+use Rattle.init_flow.specs.Ways.{target, target_among, block_of}
 use Rattle.move_flow.proofs.Along.{actions_in, actions_between}
 use Rattle.move_errors.specs.declared.point.Point.{Point}
 use Rattle.move_errors.specs.declared.point.Stage.{Stage}

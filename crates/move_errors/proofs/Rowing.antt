@@ -1,9 +1,5 @@
 -- Rows that say what is gone after actions: which uses are bad by them, and what they become.
-use Rattle.std.proofs.Common.{◌≡◌, ◌⊎◌, inl, inr, ℕ, zero, suc, ◌<◌, Bool, true, false, ◌&&◌, ◌||◌, if◌then◌else◌, List, [], ◌∷◌, ◌++◌, map, flat_map, length, Option, Some, None, Contains, refl, sym, ap, subst, ◌∙◌, arith}
-use Rattle.std.specs.Prelude.{unwrap_or}
-use Rattle.std.specs.List.{list_any}
-use Rattle.std.specs.Option.{is_some}
-use Rattle.std.proofs.lemmas.Bool.{false≢true}
+use Rattle.std.proofs.Common.{◌≡◌, inl, inr, ℕ, Bool, true, false, ◌&&◌, ◌||◌, if◌then◌else◌, List, [], ◌∷◌, ◌++◌, Some, None, Contains, refl, sym, ap, subst, ◌∙◌}
 use Rattle.std.proofs.lemmas.Option.{none-some}
 use Rattle.std.proofs.lemmas.List.{append-nil, append_assoc}
 use Rattle.std.proofs.lemmas.List.Elements.{Contains-append_cases}
@@ -13,7 +9,7 @@ use Rattle.cfg_graph.specs.declared.graph.Body.{Body}
 use Rattle.cfg_graph.specs.Uses.{Use, Copies, Moves, Borrows, Touches, Tests, Stores, Drops, Frees}
 use Rattle.cfg_graph.specs.Moves.Actions.{actions_on}
 use Rattle.cfg_graph.specs.Moves.BadUses.{UseRule, U1, U2, BadUse, may_not_read, may_not_test, may_not_store, bad_uses_on}
-use Rattle.cfg_graph.specs.Moves.Gone.{Action, left_by, is_gone_after}
+use Rattle.cfg_graph.specs.Moves.Gone.{Action, is_gone_after}
 use Rattle.init_flow.specs.Carried.{Row}
 use Rattle.move_paths.specs.Forest.{PathForest}
 use Rattle.move_flow.specs.Concerns.{AreOfBody, some_gone, concerns_read, concerns_test, concerns_store}

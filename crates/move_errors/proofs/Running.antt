@@ -1,35 +1,35 @@
 -- Each path of a body is run, up to its first bad use.
-use Rattle.std.proofs.Common.{◌≡◌, ◌⊎◌, inl, inr, ℕ, zero, suc, ◌+◌, ◌*◌, ◌<◌, ◌≤◌, Bool, true, false, if◌then◌else◌, List, [], ◌∷◌, ◌++◌, map, length, nat_lt, Option, Some, None, slice_get, Contains, refl, sym, ap, subst, ◌∙◌, arith}
+use Rattle.std.proofs.Common.{◌≡◌, ◌⊎◌, inl, inr, ℕ, zero, suc, ◌+◌, ◌*◌, ◌<◌, ◌≤◌, Bool, true, false, if◌then◌else◌, List, [], ◌∷◌, ◌++◌, map, length, Option, Some, None, slice_get, Contains, refl, sym, ap, subst, ◌∙◌, arith}
 use Rattle.std.specs.Option.{option_map_or, is_some}
 use Rattle.std.proofs.lemmas.Bool.{false≢true, lt-ltb}
-use Rattle.std.proofs.lemmas.Option.{none-some, same_Some, slice_get_within, slice_get-get_or}
+use Rattle.std.proofs.lemmas.Option.{none-some, same_Some, slice_get_within}
 use Rattle.std.proofs.lemmas.List.{append-nil, append_assoc, append_cancel_right, append_cancel_left}
 use Rattle.mir_ty.specs.ItemTable.{ItemTable}
 use Rattle.cfg_graph.specs.declared.graph.Block.{Block}
 use Rattle.cfg_graph.specs.declared.graph.Body.{Body}
-use Rattle.cfg_graph.specs.Edges.{ToBlock, is_turn}
+use Rattle.cfg_graph.specs.Edges.{is_turn}
 use Rattle.cfg_graph.specs.Moves.Actions.{actions_on}
 use Rattle.cfg_graph.specs.Moves.BadUses.{BadUse, bad_uses_on}
 use Rattle.cfg_graph.specs.Moves.Gone.{Action}
-use Rattle.cfg_graph.specs.Moves.Paths.{Way, ways, IsPath}
+use Rattle.cfg_graph.specs.Moves.Paths.{IsPath}
 use Rattle.init_flow.specs.Carried.{Row, last_of}
 use Rattle.init_flow.specs.Ways.{target}
 use Rattle.move_flow.proofs.Along.{actions_in, actions_between}
 use Rattle.move_paths.specs.Forest.{PathForest}
-use Rattle.move_errors.specs.Reaches.{first_bad, ReachesInBlock, ReachesOnWay, Reaches, MeetsNone}
-use Rattle.move_errors.specs.Rows.{state, after, first_by, IsWatched}
-use Rattle.move_errors.specs.Runs.{Problem, Trip, Run, begins, goes, Leads, step, beginning, problem, optional, met, number_of, point, acts_at, at_line, stmt_actions, entered, arrived, left_block, onward_from}
+use Rattle.move_errors.specs.Reaches.{first_bad, Reaches, MeetsNone}
+use Rattle.move_errors.specs.Rows.{first_by, IsWatched}
+use Rattle.move_errors.specs.Runs.{Problem, Trip, Run, begins, goes, Leads, step, beginning, problem, optional, number_of, point, acts_at, at_line, stmt_actions, entered, arrived, onward_from}
 use Rattle.move_errors.specs.Searching.{number, number_from}
 use Rattle.move_errors.specs.Stands.{MeetsNoBad}
 use Rattle.move_errors.specs.declared.point.Point.{Point}
 use Rattle.move_errors.specs.declared.point.Stage.{Stage}
 use Rattle.move_errors.specs.declared.point.Onward.{Onward}
-use Rattle.move_errors.proofs.Sorted.{here, there, none-in, first-or, number-append}
+use Rattle.move_errors.proofs.Sorted.{there, none-in, first-or, number-append}
 use Rattle.cfg_graph.specs.Uses.{term_uses}
 use Rattle.move_errors.proofs.Using.{acts-used, inside-are}
 use Rattle.move_errors.proofs.Rowing.{Both, none, some, both, meets-none}
 use Rattle.move_errors.proofs.Pathways.{actions-snoc, ends, entry_choices, choices_between, along, leaves-by, between-way, in-flat, in-map}
-use Rattle.move_errors.proofs.Meeting.{Comes, Told, Past, told, past, stored-is}
+use Rattle.move_errors.proofs.Meeting.{Comes, told, past, stored-is}
 
 grows : (n : ℕ) (xs : List Bool) → n ≤ number_from n xs
 grows n [] = omega arith

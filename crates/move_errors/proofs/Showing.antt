@@ -1,13 +1,12 @@
 -- Where the rows of a solution show no bad use, no run meets one.
-use Rattle.std.proofs.Common.{◌≡◌, ◌⊎◌, inl, inr, ℕ, zero, suc, ◌<◌, Bool, true, false, List, [], ◌∷◌, ◌++◌, length, Option, Some, None, slice_get, refl, sym, ap, subst, ◌∙◌, arith}
+use Rattle.std.proofs.Common.{◌≡◌, inl, inr, ℕ, zero, suc, ◌<◌, Bool, true, false, List, [], ◌∷◌, ◌++◌, length, Option, Some, None, slice_get, refl, sym, ap, subst, ◌∙◌, arith}
 use Rattle.std.specs.Prelude.{slice_index_or}
 use Rattle.std.specs.Option.{is_some, option_map_or}
-use Rattle.std.proofs.lemmas.Bool.{false≢true, cases_lt}
+use Rattle.std.proofs.lemmas.Bool.{false≢true}
 use Rattle.std.proofs.lemmas.Option.{slice_get_within, slice_get-get_or}
 use Rattle.std.proofs.lemmas.List.{get_or-map}
-use Rattle.std.proofs.Math.ListN.{get_or-eq_default}
 use Rattle.mir_ty.specs.ItemTable.{ItemTable}
-use Rattle.store_model.specs.Places.Place.{Place, whole_local}
+use Rattle.store_model.specs.Places.Place.{whole_local}
 use Rattle.cfg_graph.specs.declared.graph.Block.{Block}
 use Rattle.cfg_graph.specs.declared.graph.Body.{Body}
 use Rattle.cfg_graph.specs.Moves.Actions.{actions_on}
@@ -18,8 +17,8 @@ use Rattle.init_flow.specs.Ways.{target}
 use Rattle.move_paths.specs.Forest.{PathForest}
 use Rattle.move_flow.specs.Moved.{Says}
 use Rattle.move_flow.proofs.OnPaths.{solved-says}
-use Rattle.move_errors.specs.Rows.{IsWatched, place_at, state, first_by}
-use Rattle.move_errors.specs.Runs.{Problem, Trip, Run, begins, goes, Leads, step, problem, point, acts_at, stored_between, number_of, onward_from}
+use Rattle.move_errors.specs.Rows.{IsWatched, place_at, first_by}
+use Rattle.move_errors.specs.Runs.{Problem, Trip, Run, begins, goes, Leads, problem, point, acts_at, stored_between, number_of, onward_from}
 use Rattle.move_errors.specs.Searching.{bit}
 use Rattle.move_errors.specs.Shown.{ShowsNone}
 use Rattle.move_errors.specs.Stands.{MeetsNoBad}

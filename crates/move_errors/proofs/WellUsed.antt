@@ -1,5 +1,5 @@
 -- In a graph without a fault each body has a block, and its uses are of locals that exist.
-use Rattle.std.proofs.Common.{◌≡◌, ◌⊎◌, inl, inr, ℕ, suc, ◌+◌, ◌<◌, Bool, true, false, not, ◌&&◌, nat_lt, List, [], ◌∷◌, ◌++◌, map, flat_map, take, length, Option, Some, None, slice_get, Contains, refl, sym, ap, subst, ◌∙◌}
+use Rattle.std.proofs.Common.{◌≡◌, inl, inr, ℕ, suc, ◌+◌, ◌<◌, Bool, true, false, not, ◌&&◌, nat_lt, List, [], ◌∷◌, ◌++◌, map, flat_map, take, length, Option, Some, None, slice_get, Contains, refl, ap, subst}
 use Rattle.std.specs.Prelude.{is_some, ◌==◌}
 use Rattle.std.specs.List.{list_all}
 use Rattle.std.specs.Option.{option_map_or}
@@ -18,7 +18,6 @@ use Rattle.store_model.specs.Concrete.Effects.{impl_of}
 use Rattle.store_model.specs.Places.TypeForms.{same_ids, adt_of, box_content}
 use Rattle.cfg_graph.specs.declared.place.Place.{Place}
 use Rattle.cfg_graph.specs.declared.statement.Stmt.{Stmt}
-use Rattle.cfg_graph.specs.declared.terminator.Term.{Term}
 use Rattle.cfg_graph.specs.declared.graph.Block.{Block}
 use Rattle.cfg_graph.specs.declared.graph.Body.{Body}
 use Rattle.cfg_graph.specs.declared.graph.Graph.{Graph}
@@ -27,7 +26,7 @@ use Rattle.cfg_graph.specs.Uses.{Use, Stores, stmt_uses, term_uses, stored_by_te
 use Rattle.cfg_graph.specs.WellFormed.Faults.{nowhere, at_line, of_each, item_faults, own_faults, locals_faults, stmts_faults, block_faults, faults_of_body, end_faults, IsWellFormed}
 use Rattle.cfg_graph.specs.WellFormed.LineFaults.{stmt_faults, term_tests, term_faults, body_faults}
 use Rattle.cfg_graph.specs.WellFormed.NameFaults.{is_name, is_repeated}
-use Rattle.cfg_graph.specs.WellFormed.Typing.{stmt_is_typed, method_at}
+use Rattle.cfg_graph.specs.WellFormed.Typing.{stmt_is_typed}
 use Rattle.cfg_graph.proofs.NoFaults.{first_empty, second_empty, map_empty, of_each-empty, broken-holds}
 use Rattle.move_paths.specs.Uses.{block_uses}
 use Rattle.move_errors.proofs.Pathways.{in-flat, in-map, map-in}

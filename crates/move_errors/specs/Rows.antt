@@ -65,6 +65,22 @@ by_depth false paths near up = up ≡ Some near.path
 abbrev pub OnlyAbove : List Place → (place : Place) → Near → Option ℕ → Type 0
 OnlyAbove paths place near up = by_depth (near.depth == length place.steps) paths near up
 
+-- What is asked for a use of a place, by the last path along it: whether a path at or above one is gone, and whether
+-- one within the last path is.
+module _ (paths : List Place) (place : Place) (near : Near) where
+  abbrev pub ends_in_array : Bool
+  ends_in_array = is_depth (depth_from 0 place.steps) near.depth
+
+  abbrev pub Asks : Use → Option ℕ → Bool → Type 0
+  Asks Copies over within = (over ≡ Some near.path) × (within ≡ (near.depth == length place.steps || ends_in_array))
+  Asks Moves over within = (over ≡ Some near.path) × (within ≡ (near.depth == length place.steps || ends_in_array))
+  Asks Borrows over within = (over ≡ Some near.path) × (within ≡ (near.depth == length place.steps || ends_in_array))
+  Asks Touches over within = (over ≡ Some near.path) × (within ≡ (near.depth == length place.steps || ends_in_array))
+  Asks Tests over within = (over ≡ Some near.path) × (within ≡ ends_in_array)
+  Asks Stores over within = OnlyAbove paths place near over × (within ≡ ends_in_array)
+  Asks Drops over within = OnlyAbove paths place near over × (within ≡ ends_in_array)
+  Asks Frees over within = (over ≡ None) × (within ≡ false)
+
 module _ (items : ItemTable) (body : Body) where
   -- what an action leaves of a row
   abbrev pub left : Action → List Place → Row → Row

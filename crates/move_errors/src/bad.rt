@@ -3,12 +3,12 @@ ghost use Rattle.std.specs.Prelude.{◌≡◌, ◌<◌, ◌&&◌, ℕ, IfOk, Non
 ghost use Rattle.std.specs.Option.{option_map};
 ghost use Rattle.cfg_graph.specs.Places.{named, named_step};
 ghost use Rattle.cfg_graph.specs.Moves.Gone.{is_at_or_above};
-ghost use Rattle.std.specs.Prelude.{map};
+ghost use Rattle.std.specs.Prelude.{map, Some};
 ghost use Rattle.move_paths.specs.Trie.{AreOnce};
 ghost use Rattle.move_paths.specs.Uses.{use_of};
-ghost use Rattle.move_flow.specs.Concerns.{AreOfBody, concerns_read, concerns_test, concerns_store};
+ghost use Rattle.move_flow.specs.Concerns.{AreOfBody};
 ghost use Rattle.move_flow.specs.Moved.{masks_of};
-ghost use Rattle.move_errors.specs.Rows.{some_on, any_both, above, place_at, depth_from, is_depth, OnlyAbove, concerns, left, after, first_by, use_at, IsUsed, IsWatched};
+ghost use Rattle.move_errors.specs.Rows.{some_on, any_both, above, place_at, depth_from, is_depth, OnlyAbove, Asks, concerns, left, after, first_by, use_at, IsUsed, IsWatched};
 ghost use Rattle.move_errors.specs.Runs.{actions_of, action_of};
 
 use crate::acts::Act;
@@ -100,58 +100,6 @@ fn is_gone_within(
     }
 }
 
-/// Whether a copy, a move, a borrow or a touch of a place is bad.
-fn is_read_bad(
-    alloc: Global,
-    watch: &Watch<'_>,
-    row: &BitRow,
-    place: &Place,
-) -> Result<bool, NoMemory>
-    requires watched { IsWatched watch.now.items.now watch.now.body.now watch.now.forest watch.now.below }
-    requires local { place.now.local < length watch.now.body.now.locals }
-    requires row { length row.now ≡ length watch.now.forest.paths }
-    ensures { IfOk result (λ bad. bad ≡ some_on (λ path. concerns_read path (named place.now)) watch.now.forest.paths row.now) }
-{
-    let _ = watch.forest.len();
-    let near = watch.forest.nearest(place);
-    let exact = near.depth == place.steps.as_slice().len();
-    let array = is_gone_within(
-        alloc,
-        watch,
-        row,
-        near.path,
-        ends_in_array(place, near.depth),
-    )?;
-    let within = is_gone_within(alloc, watch, row, near.path, exact)?;
-    let over = is_gone_above(&watch.forest, row, Some(near.path));
-    Ok(over | (within | array))
-}
-
-/// Whether a test of a place is bad.
-fn is_test_bad(
-    alloc: Global,
-    watch: &Watch<'_>,
-    row: &BitRow,
-    place: &Place,
-) -> Result<bool, NoMemory>
-    requires watched { IsWatched watch.now.items.now watch.now.body.now watch.now.forest watch.now.below }
-    requires local { place.now.local < length watch.now.body.now.locals }
-    requires row { length row.now ≡ length watch.now.forest.paths }
-    ensures { IfOk result (λ bad. bad ≡ some_on (λ path. concerns_test path (named place.now)) watch.now.forest.paths row.now) }
-{
-    let _ = watch.forest.len();
-    let near = watch.forest.nearest(place);
-    let array = is_gone_within(
-        alloc,
-        watch,
-        row,
-        near.path,
-        ends_in_array(place, near.depth),
-    )?;
-    let over = is_gone_above(&watch.forest, row, Some(near.path));
-    Ok(over | array)
-}
-
 /// The last path above a place, by the last one along it.
 fn above_of(forest: &Forest, place: &Place, near: Near) -> Option<u32>
     requires { near.path < length forest.now.paths }
@@ -166,28 +114,40 @@ fn above_of(forest: &Forest, place: &Place, near: Near) -> Option<u32>
     }
 }
 
-/// Whether a store into a place or a drop of it is bad.
-fn is_store_bad(
-    alloc: Global,
-    watch: &Watch<'_>,
-    row: &BitRow,
-    place: &Place,
-) -> Result<bool, NoMemory>
-    requires watched { IsWatched watch.now.items.now watch.now.body.now watch.now.forest watch.now.below }
-    requires local { place.now.local < length watch.now.body.now.locals }
-    requires row { length row.now ≡ length watch.now.forest.paths }
-    ensures { IfOk result (λ bad. bad ≡ some_on (λ path. concerns_store path (named place.now)) watch.now.forest.paths row.now) }
+/// What is asked of a row for a use of a place: whether one of the paths at or above a path is gone, and whether one
+/// within the last path along the place is.
+#[derive(Clone, Copy)]
+struct Asked {
+    above: Option<u32>,
+    within: bool,
+}
+
+/// What is asked for a use of a place, by the last path along it.
+fn asked_for(forest: &Forest, how: Use, place: &Place, near: Near) -> Asked
+    requires { near.path < length forest.now.paths }
+    ensures asks { Asks forest.now.paths (named place.now) near (use_of how) result.above result.within }
+    ensures path { (n : ℕ) → result.above ≡ Some n → n < length forest.now.paths }
 {
-    let near = watch.forest.nearest(place);
-    let array = is_gone_within(
-        alloc,
-        watch,
-        row,
-        near.path,
-        ends_in_array(place, near.depth),
-    )?;
-    let over = is_gone_above(&watch.forest, row, above_of(&watch.forest, place, near));
-    Ok(over | array)
+    let exact = near.depth == place.steps.as_slice().len();
+    let array = ends_in_array(place, near.depth);
+    match how {
+        Use::Copies | Use::Moves | Use::Borrows | Use::Touches => Asked {
+            above: Some(near.path),
+            within: exact | array,
+        },
+        Use::Tests => Asked {
+            above: Some(near.path),
+            within: array,
+        },
+        Use::Stores | Use::Drops => Asked {
+            above: above_of(forest, place, near),
+            within: array,
+        },
+        Use::Frees => Asked {
+            above: None,
+            within: false,
+        },
+    }
 }
 
 /// Whether a use of a place is bad.
@@ -203,14 +163,12 @@ fn is_bad(
     requires row { length row.now ≡ length watch.now.forest.paths }
     ensures { IfOk result (λ bad. bad ≡ some_on (λ path. concerns (use_of how) path (named place.now)) watch.now.forest.paths row.now) }
 {
-    match how {
-        Use::Copies | Use::Moves | Use::Borrows | Use::Touches => {
-            is_read_bad(alloc, watch, row, place)
-        }
-        Use::Tests => is_test_bad(alloc, watch, row, place),
-        Use::Stores | Use::Drops => is_store_bad(alloc, watch, row, place),
-        Use::Frees => Ok(false),
-    }
+    let _ = watch.forest.len();
+    let near = watch.forest.nearest(place);
+    let asked = asked_for(&watch.forest, how, place, near);
+    let within = is_gone_within(alloc, watch, row, near.path, asked.within)?;
+    let over = is_gone_above(&watch.forest, row, asked.above);
+    Ok(over | within)
 }
 
 /// Makes a row the one after a use of a place.

@@ -1,17 +1,15 @@
-use Rattle.std.proofs.Common.{◌≡◌, ℕ, ◌<◌, ◌≤◌, List, Bool, map, length, slice_get, slice_index_or, Option, Some, None, refl, sym, ap, subst, ◌∙◌, arith}
+use Rattle.std.proofs.Common.{◌≡◌, ℕ, ◌<◌, List, map, length, slice_get, slice_index_or, Option, Some, None, refl, sym, ap, subst, ◌∙◌, arith}
 use Rattle.std.proofs.lemmas.Option.{same_Some, slice_get-get_or, get_or_from_slice_get, slice_get_within}
 use Rattle.mir_ty.specs.ItemTable.{ItemTable}
 use Rattle.cfg_graph.specs.declared.place.Place.{Place}
 use Rattle.cfg_graph.specs.declared.graph.Body.{Body}
 use Rattle.cfg_graph.specs.Places.{named}
-use Rattle.cfg_graph.specs.Moves.BadUses.{UseRule, U1, U2, BadUse}
-use Rattle.cfg_graph.specs.Moves.Gone.{Action}
+use Rattle.cfg_graph.specs.Moves.BadUses.{UseRule, U1, U2}
 use Rattle.move_paths.specs.Uses.{use_of}
 use Rattle.move_errors.specs.Reaches.{Reaches, rule_of}
 use Rattle.move_errors.specs.Refusal.{IsRefused, IsRefusal, refused_by, named_use}
 use Rattle.move_errors.specs.Runs.{Problem, Trip, problem, number_of, beginning, action_of}
-use Rattle.move_errors.specs.Searching.{number, number_from}
-use Rattle.move_errors.specs.Stands.{IsFrom, Logged, trip_of}
+use Rattle.move_errors.specs.Stands.{IsFrom, Logged}
 use Rattle.move_errors.specs.declared.errors.BadUse.{BadUse as Refused}
 use Rattle.move_errors.specs.declared.errors.UseError.{UseError}
 use Rattle.move_errors.specs.declared.point.Stage.{Stage}

@@ -1,11 +1,10 @@
-use Rattle.std.proofs.Common.{◌≡◌, ℕ, ◌<◌, List, [], ◌∷◌, ◌++◌, Bool, map, length, reverse, slice_get, slice_index_or, Option, Some, None, refl, sym, ap, subst, ◌∙◌, arith}
-use Rattle.std.proofs.lemmas.Option.{none-some, same_Some, slice_get-get_or, slice_get_within}
-use Rattle.std.proofs.lemmas.List.{append-nil, append_assoc, reverse-append, map-append}
-use Rattle.move_errors.specs.declared.point.Point.{Point}
+use Rattle.std.proofs.Common.{◌≡◌, ℕ, List, ◌++◌, Bool, map, reverse, slice_get, slice_index_or, Option, Some, None, refl, sym, ap, ◌∙◌, arith}
+use Rattle.std.proofs.lemmas.Option.{slice_get-get_or}
+use Rattle.std.proofs.lemmas.List.{append_assoc, reverse-append, map-append}
 use Rattle.move_errors.specs.declared.point.Stage.{Stage}
 use Rattle.move_errors.specs.declared.search.Visit.{Visit}
-use Rattle.move_errors.specs.Runs.{Problem, Trip, met, met_at, number_of, optional, beginning}
-use Rattle.move_errors.specs.Stands.{Logged, ComeEarlier, source, trip_of}
+use Rattle.move_errors.specs.Runs.{Trip, met, met_at, number_of, optional, beginning}
+use Rattle.move_errors.specs.Stands.{source}
 use Rattle.move_errors.proofs.trail.trail.Goals as goal
 
 -- what is added last comes first
