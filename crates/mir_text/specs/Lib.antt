@@ -1,3 +1,5 @@
+pub mod Compared
+pub mod Fields
 pub mod Items
 pub mod Lists
 pub mod Listing

@@ -2,10 +2,12 @@
 #![tactic(auto)]
 
 mod items;
+mod laws;
 mod listing;
 mod parts;
 mod statements;
 mod types;
 mod words;
 
+pub use laws::law_of_listings;
 pub use listing::{body_text, items_text, operand_text, place_text, stmt_text, write_listing};

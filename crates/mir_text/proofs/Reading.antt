@@ -1,0 +1,9 @@
+pub mod Basics
+pub mod Rows
+pub mod Types
+pub mod Parts
+pub mod Lines
+pub mod Bodies
+pub mod Items
+pub mod Listed
+pub mod Law
