@@ -1,5 +1,5 @@
 -- Listings that were written by hand, closed by computation: the short one, and lines of each form.
-use Rattle.std.proofs.Common.{◌≡◌, ℕ, refl, Bool, true, false, List, [], ◌∷◌, ◌++◌, codes, pos, negsuc, Some, None}
+use Rattle.std.proofs.Common.{◌≡◌, ℕ, refl, true, false, List, [], ◌∷◌, ◌++◌, codes, pos, negsuc, Some, None}
 use Rattle.std.specs.Fmt.{digits}
 use Rattle.mir_base.specs.declared.int_kind.IntKind.{IntKind}
 use Rattle.mir_base.specs.declared.operator.Cmp.{Cmp}
@@ -7,7 +7,6 @@ use Rattle.mir_base.specs.declared.operator.Math.{Math}
 use Rattle.mir_base.specs.declared.trace.Why.{Why}
 use Rattle.mir_ty.specs.declared.ty.Ty.{Ty}
 use Rattle.mir_ty.specs.declared.ty.TyId.{TyId}
-use Rattle.mir_ty.specs.declared.adt.Adt.{Adt}
 use Rattle.mir_ty.specs.declared.adt.Variant.{Variant}
 use Rattle.mir_ty.specs.declared.def.Sig.{Sig}
 use Rattle.mir_ty.specs.ItemTable.{ItemTable}
@@ -19,12 +18,11 @@ use Rattle.cfg_graph.specs.declared.terminator.Term.{Term}
 use Rattle.cfg_graph.specs.declared.terminator.Unwind.{Unwind}
 use Rattle.cfg_graph.specs.declared.graph.Kind.{Kind}
 use Rattle.cfg_graph.specs.declared.graph.Block.{Block}
-use Rattle.cfg_graph.specs.declared.graph.Body.{Body}
 use Rattle.cfg_graph.specs.declared.graph.Graph.{Graph}
 use Rattle.mir_text.specs.Items.{items_text}
 use Rattle.mir_text.specs.Lists.{line}
 use Rattle.mir_text.specs.Listing.{listing, block_text}
-use Rattle.mir_text.specs.Parts.{stmt_text, term_text}
+use Rattle.mir_text.specs.Parts.{term_text}
 use Rattle.mir_text.specs.Types.{type_text}
 
 abbrev id : ℕ → TyId

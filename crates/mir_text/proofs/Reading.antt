@@ -7,3 +7,9 @@ pub mod Bodies
 pub mod Items
 pub mod Listed
 pub mod Law
+pub mod Alike
+pub mod Tested
+pub mod Typed
+pub mod Held
+pub mod Same
+pub mod Settled

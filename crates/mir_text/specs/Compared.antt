@@ -1,18 +1,20 @@
 -- Graphs as they are compared: without the names of fields, without signatures past the last body, and with types as
 -- they are written instead of by their numbers.
-use Rattle.std.specs.Prelude.{◌≡◌, ℕ, suc, Bool, List, [], ◌∷◌, map, Option, option_map, slice_get}
+use Rattle.std.specs.Prelude.{◌≡◌, ◌<◌, ℕ, suc, Bool, true, List, [], ◌∷◌, map, length, All, Option, option_map, slice_get}
 use Rattle.mir_ty.specs.declared.adt.Adt.{Adt}
 use Rattle.mir_ty.specs.declared.adt.Variant.{Variant}
 use Rattle.mir_ty.specs.declared.def.Sig.{Sig}
 use Rattle.mir_ty.specs.declared.def.TraitDef.{TraitDef}
 use Rattle.mir_ty.specs.declared.def.ImplDef.{ImplDef}
 use Rattle.mir_ty.specs.declared.def.ClosureDef.{ClosureDef}
-use Rattle.mir_ty.specs.AreItems.{AreItems}
+use Rattle.mir_ty.specs.declared.ty.TyId.{TyId}
+use Rattle.mir_ty.specs.AreItems.{AreItems, AreTypes}
 use Rattle.mir_ty.specs.ItemTable.{ItemTable}
 use Rattle.cfg_graph.specs.declared.graph.Block.{Block}
 use Rattle.cfg_graph.specs.declared.graph.Body.{Body}
 use Rattle.cfg_graph.specs.declared.graph.Graph.{Graph}
 use Rattle.cfg_graph.specs.WellFormed.Faults.{IsWellFormed}
+use Rattle.cfg_graph.specs.WellFormed.TypeFaults.{ty_exists}
 use Rattle.mir_text.specs.Fields.{GraphFits}
 use Rattle.mir_text.specs.Listing.{listing}
 use Rattle.mir_text.specs.Types.{type_text}
@@ -103,3 +105,15 @@ pub record IsListed (graph : Graph) : Type 0 where
 abbrev pub OneGraphAListing : Type 0
 OneGraphAListing =
     (left right : Graph) → IsListed left → IsListed right → listing left ≡ listing right → seen left ≡ seen right
+
+-- each type of the table exists, and the types of the locals are in it
+pub record TypesExist (graph : Graph) : Type 0 where
+  pub table : (id : TyId) → id.0 < length graph.items.types → ty_exists graph.items id ≡ true
+  pub locals : All (λ body. AreTypes graph.items.types body.locals) graph.bodies
+
+-- and being well formed is told by what is compared: where a graph whose types exist equals a well formed one as
+-- compared, it is well formed too
+abbrev pub WellFormedAsCompared : Type 0
+WellFormedAsCompared =
+    (left right : Graph) → IsListed left → AreItems right.items → TypesExist right → GraphFits right →
+    seen left ≡ seen right → IsWellFormed right

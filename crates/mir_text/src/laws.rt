@@ -1,8 +1,10 @@
 //! The law of listings.
-ghost use Rattle.mir_text.specs.Compared.{OneGraphAListing};
+ghost use Rattle.mir_text.specs.Compared.{OneGraphAListing, WellFormedAsCompared};
 
 /// Two well formed graphs of one listing are equal as compared: without the names of fields, without signatures past the
-/// last body, and with types as they are written.
+/// last body, and with types as they are written. And a graph whose types exist is well formed where it is equal, as
+/// compared, to a well formed one.
 pub fn law_of_listings()
     ensures one_graph { OneGraphAListing }
+    ensures as_compared { WellFormedAsCompared }
 {}

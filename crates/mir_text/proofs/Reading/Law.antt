@@ -115,7 +115,7 @@ whole read = record {
   blocks = read.blocks;
 }
 
-one_id : (a b : TyId) → same_id a b ≡ true → a ≡ b
+pub one_id : (a b : TyId) → same_id a b ≡ true → a ≡ b
 one_id a b h = λ i. record { 0 = eqb-true a.0 b.0 h i }
 
 written_alike : (items : ItemTable) (xs ys : List TyId) → same_ids xs ys ≡ true → map (type_text items) xs ≡ map (type_text items) ys

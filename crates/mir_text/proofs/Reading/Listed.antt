@@ -68,7 +68,7 @@ abbrev pub place_in : List (List ℕ) → List ℕ → ℕ
 place_in [] name = 0
 place_in (x ∷ xs) name = if same_name name x then 0 else suc (place_in xs name)
 
-same_as_itself : (name : List ℕ) → same_name name name ≡ true
+pub same_as_itself : (name : List ℕ) → same_name name name ≡ true
 same_as_itself [] = refl
 same_as_itself (b ∷ bs) = and_from (nat_eq b b) _ (eq-eqb b b refl) (same_as_itself bs)
 
@@ -82,7 +82,7 @@ placed (x ∷ xs) (suc n) name e h =
     let deeper : place_in xs name ≡ n = placed xs n name e rest in
     rw other (ap suc deeper)
 
-ty_numbers : (ty : Ty) → TyFits ty → HasNumbers ty
+pub ty_numbers : (ty : Ty) → TyFits ty → HasNumbers ty
 ty_numbers (Ty.Array element count) fits = omega arith
 ty_numbers (Ty.Closure n) fits = omega arith
 ty_numbers _ fits = tt
@@ -131,16 +131,16 @@ module _ (graph : Graph) (listed : IsListed graph) where
       let empty = map_empty (λ (k : ℕ). record { number = k; body = nowhere; block = nowhere; line = before + (0 + n) }) (faults (0 + n) x) own in
       subst (λ m. faults m x ≡ []) (let e : 0 + n ≡ n = omega arith in e) empty
 
-  adt_holds : (n : ℕ) (adt : Adt) → slice_get items.adts n ≡ Some adt → adt_faults items bodies n adt ≡ []
+  pub adt_holds : (n : ℕ) (adt : Adt) → slice_get items.adts n ≡ Some adt → adt_faults items bodies n adt ≡ []
   adt_holds = no_fault_of 0 (adt_faults items bodies) items.adts (first_empty (adts_faults graph) (traits_faults graph ++ (impls_faults graph ++ closures_faults graph)) no_item_fault)
 
-  trait_holds : (n : ℕ) (def : TraitDef) → slice_get items.traits n ≡ Some def → trait_faults items bodies n def ≡ []
+  pub trait_holds : (n : ℕ) (def : TraitDef) → slice_get items.traits n ≡ Some def → trait_faults items bodies n def ≡ []
   trait_holds = no_fault_of (length items.adts) (trait_faults items bodies) items.traits (first_empty (traits_faults graph) (impls_faults graph ++ closures_faults graph) behind_adts)
 
-  impl_holds : (n : ℕ) (def : ImplDef) → slice_get items.impls n ≡ Some def → impl_faults items bodies n def ≡ []
+  pub impl_holds : (n : ℕ) (def : ImplDef) → slice_get items.impls n ≡ Some def → impl_faults items bodies n def ≡ []
   impl_holds = no_fault_of (length items.adts + length items.traits) (impl_faults items bodies) items.impls (first_empty (impls_faults graph) (closures_faults graph) behind_traits)
 
-  closure_holds : (n : ℕ) (def : ClosureDef) → slice_get items.closures n ≡ Some def → closure_faults items bodies n def ≡ []
+  pub closure_holds : (n : ℕ) (def : ClosureDef) → slice_get items.closures n ≡ Some def → closure_faults items bodies n def ≡ []
   closure_holds =
       no_fault_of (length items.adts + length items.traits + length items.impls) (closure_faults items bodies) items.closures
       (second_empty (impls_faults graph) (closures_faults graph) behind_traits)
@@ -149,14 +149,14 @@ module _ (graph : Graph) (listed : IsListed graph) where
   adt_named : (n : ℕ) (adt : Adt) → slice_get items.adts n ≡ Some adt → adt_has_names items bodies n adt ≡ true
   adt_named n adt is = broken-holds (adt_tests items bodies n adt) (adt_holds n adt is) 2 (7, adt_has_names items bodies n adt) refl
 
-  adt_names : (n : ℕ) (adt : Adt) → slice_get items.adts n ≡ Some adt
+  pub adt_names : (n : ℕ) (adt : Adt) → slice_get items.adts n ≡ Some adt
       → (is_adt_name adt.name ≡ true) × (list_all (λ variant. is_name variant.name) adt.variants ≡ true) × (is_repeated (map (λ other. other.name) items.adts) n adt.name ≡ false)
   adt_names n adt is =
       let (front, fresh) = and_parts (is_adt_name adt.name && list_all (λ variant. is_name variant.name) adt.variants) _ (adt_named n adt is) in
       let (own, variants) = and_parts (is_adt_name adt.name) _ front in
       (own, variants, not_true (is_repeated (map (λ other. other.name) items.adts) n adt.name) fresh)
 
-  trait_names : (n : ℕ) (def : TraitDef) → slice_get items.traits n ≡ Some def
+  pub trait_names : (n : ℕ) (def : TraitDef) → slice_get items.traits n ≡ Some def
       → (is_name def.name ≡ true) × (list_all (λ method. is_name method.name) def.methods ≡ true) × (is_repeated (map (λ other. other.name) items.traits) n def.name ≡ false)
   trait_names n def is =
       let named = broken-holds (trait_tests items bodies n def) (trait_holds n def is) 2 (7, trait_has_names items bodies n def) refl in
@@ -278,13 +278,13 @@ module _ (graph : Graph) (listed : IsListed graph) where
     body_fits : BodyFits body
     body_fits = all_at BodyFits graph.bodies number body listed.fits.bodies at
 
-    of_body : faults_of_body graph (0 + number) body ≡ []
+    pub of_body : faults_of_body graph (0 + number) body ≡ []
     of_body = of_each-empty (faults_of_body graph) 0 graph.bodies no_body_fault number body at
 
-    behind_own : locals_faults graph (0 + number) body ++ of_each (block_faults graph (0 + number) body) 0 body.blocks ≡ []
+    pub behind_own : locals_faults graph (0 + number) body ++ of_each (block_faults graph (0 + number) body) 0 body.blocks ≡ []
     behind_own = second_empty (own_faults graph (0 + number) body) (locals_faults graph (0 + number) body ++ of_each (block_faults graph (0 + number) body) 0 body.blocks) of_body
 
-    own_holds : body_faults items bodies number body ≡ []
+    pub own_holds : body_faults items bodies number body ≡ []
     own_holds =
         let empty = map_empty (λ (k : ℕ). record { number = k; body = 0 + number; block = nowhere; line = nowhere }) (body_faults items bodies (0 + number) body)
         (first_empty (own_faults graph (0 + number) body) (locals_faults graph (0 + number) body ++ of_each (block_faults graph (0 + number) body) 0 body.blocks) of_body) in
@@ -305,14 +305,17 @@ module _ (graph : Graph) (listed : IsListed graph) where
             let own = subst (λ (o : Option Sig). option_map_or (has_own_name items bodies number) o true ≡ true) e h in
             ap (λ (o : Option Sig). list_all stands_in_names (sig_name o)) e ∙ (name_stands sig.name (and_parts (is_name sig.name) _ own).0).1
 
-    local_exists : (n : ℕ) (id : TyId) → slice_get body.locals n ≡ Some id → ty_exists items id ≡ true
-    local_exists n id is =
+    pub local_holds : (n : ℕ) (id : TyId) → slice_get body.locals n ≡ Some id → local_faults items bodies id ≡ []
+    local_holds n id is =
         let none = of_each-empty (λ n id. at_line (0 + number) nowhere n (local_faults items bodies id)) 0 body.locals
         (first_empty (locals_faults graph (0 + number) body) (of_each (block_faults graph (0 + number) body) 0 body.blocks) behind_own) n id is in
-        broken-holds (local_tests items bodies id) (map_empty (λ (k : ℕ). record { number = k; body = 0 + number; block = nowhere; line = 0 + n }) (local_faults items bodies id) none) 0 (1, ty_exists items id) refl
+        map_empty (λ (k : ℕ). record { number = k; body = 0 + number; block = nowhere; line = 0 + n }) (local_faults items bodies id) none
+
+    pub local_exists : (n : ℕ) (id : TyId) → slice_get body.locals n ≡ Some id → ty_exists items id ≡ true
+    local_exists n id is = broken-holds (local_tests items bodies id) (local_holds n id is) 0 (1, ty_exists items id) refl
 
     module _ (m : ℕ) (block : Block) (here : slice_get body.blocks m ≡ Some block) where
-      of_block : block_faults graph (0 + number) body (0 + m) block ≡ []
+      pub of_block : block_faults graph (0 + number) body (0 + m) block ≡ []
       of_block =
           of_each-empty (block_faults graph (0 + number) body) 0 body.blocks
           (second_empty (locals_faults graph (0 + number) body) (of_each (block_faults graph (0 + number) body) 0 body.blocks) behind_own) m block here
@@ -320,20 +323,24 @@ module _ (graph : Graph) (listed : IsListed graph) where
       block_fits : BlockFits block
       block_fits = all_at BlockFits body.blocks m block body_fits.blocks here
 
-      stmt_exists : (k : ℕ) (stmt : Stmt) → slice_get block.stmts k ≡ Some stmt → stmt_numbers_exist items bodies stmt ≡ true
-      stmt_exists k stmt is =
+      pub stmt_holds : (k : ℕ) (stmt : Stmt) → slice_get block.stmts k ≡ Some stmt → stmt_faults items bodies body stmt ≡ []
+      stmt_holds k stmt is =
           let none = of_each-empty (λ line stmt. at_line (0 + number) (0 + m) line (stmt_faults items bodies body stmt)) 0 block.stmts
           (first_empty (stmts_faults graph (0 + number) body (0 + m) block) (at_line (0 + number) (0 + m) (length block.stmts) (term_faults items bodies body block)) of_block) k stmt is in
-          broken-holds (stmt_tests items bodies body stmt)
-          (map_empty (λ (j : ℕ). record { number = j; body = 0 + number; block = 0 + m; line = 0 + k }) (stmt_faults items bodies body stmt) none) 0 (1, stmt_numbers_exist items bodies stmt) refl
+          map_empty (λ (j : ℕ). record { number = j; body = 0 + number; block = 0 + m; line = 0 + k }) (stmt_faults items bodies body stmt) none
 
-      term_exists : term_numbers_exist items bodies block.term ≡ true
+      stmt_exists : (k : ℕ) (stmt : Stmt) → slice_get block.stmts k ≡ Some stmt → stmt_numbers_exist items bodies stmt ≡ true
+      stmt_exists k stmt is = broken-holds (stmt_tests items bodies body stmt) (stmt_holds k stmt is) 0 (1, stmt_numbers_exist items bodies stmt) refl
+
+      pub term_holds : term_faults items bodies body block ≡ []
+      term_holds =
+          map_empty (λ (j : ℕ). record { number = j; body = 0 + number; block = 0 + m; line = length block.stmts }) (term_faults items bodies body block)
+          (second_empty (stmts_faults graph (0 + number) body (0 + m) block) (at_line (0 + number) (0 + m) (length block.stmts) (term_faults items bodies body block)) of_block)
+
+      pub term_exists : term_numbers_exist items bodies block.term ≡ true
       term_exists =
-          let none = second_empty (stmts_faults graph (0 + number) body (0 + m) block) (at_line (0 + number) (0 + m) (length block.stmts) (term_faults items bodies body block)) of_block in
-          let tested = broken-holds (term_tests items bodies body block)
-          (map_empty (λ (j : ℕ). record { number = j; body = 0 + number; block = 0 + m; line = length block.stmts }) (term_faults items bodies body block) none) 0
-          (1, term_numbers_exist items bodies block.term && blocks_exist items bodies body (targets block.term)) refl in
-          (and_parts (term_numbers_exist items bodies block.term) _ tested).0
+          (and_parts (term_numbers_exist items bodies block.term) _
+          (broken-holds (term_tests items bodies body block) term_holds 0 (1, term_numbers_exist items bodies block.term && blocks_exist items bodies body (targets block.term)) refl)).0
 
       good_block : GoodBlock adt_no trait_no items adts_told traits_told block
       good_block = record {
@@ -343,7 +350,7 @@ module _ (graph : Graph) (listed : IsListed graph) where
         named = term_named block.term term_exists;
       }
 
-    good_body : GoodBody adt_no trait_no items are_named adts_told traits_told number body
+    pub good_body : GoodBody adt_no trait_no items are_named adts_told traits_told number body
     good_body = record {
       name = name_holds;
       params = body_fits.params;

@@ -1,5 +1,5 @@
 -- Types, read as they are written.
-use Rattle.std.proofs.Common.{◌≡◌, ℕ, zero, suc, ◌^◌, ◌<◌, ◌≤◌, Bool, true, false, not, ◌&&◌, ◌||◌, if◌then◌else◌, nat_eq, nat_lt, List, [], ◌∷◌, ◌++◌, map, length, codes, Option, Some, None, decimal, refl, ap, sym, subst, ◌∙◌, arith, append_assoc, append-nil, eqb-true, ltb-true}
+use Rattle.std.proofs.Common.{◌≡◌, ℕ, zero, suc, ◌-◌, ◌^◌, ◌<◌, ◌≤◌, Bool, true, false, not, ◌&&◌, ◌||◌, if◌then◌else◌, nat_eq, nat_lt, List, [], ◌∷◌, ◌++◌, map, length, codes, Option, Some, None, decimal, refl, ap, sym, subst, ◌∙◌, arith, append_assoc, append-nil, eqb-true, ltb-true}
 use Rattle.std.specs.Prelude.{⊤}
 use Rattle.std.specs.List.{list_all, list_any}
 use Rattle.std.specs.Option.{option_map_or}
@@ -15,7 +15,7 @@ use Rattle.mir_ty.specs.Named.{adt_name}
 use Rattle.cfg_graph.specs.WellFormed.NameFaults.{same_name, is_among, stands_in_names, is_name, is_adt_name, type_words}
 use Rattle.cfg_graph.specs.WellFormed.TypeFaults.{own_number_exists, existing, ty_exists}
 use Rattle.mir_text.specs.Lists.{joined, in_parentheses}
-use Rattle.mir_text.specs.Types.{trait_name, tuple_text, form_text, found_text, type_within, type_text, deepest}
+use Rattle.mir_text.specs.Types.{kind_text, trait_name, tuple_text, form_text, found_text, type_within, type_text, deepest}
 use Rattle.mir_text.proofs.Reading.Basics.{Found, Every, bind, or_else, strip, span, stops, span_run, one_of, is_digit, decimal_digits, behind4}
 use Rattle.mir_text.proofs.Reading.Rows.{row, row_of_none, row_reads}
 
@@ -56,52 +56,93 @@ strip_stopped c cs (b ∷ bs) h s =
     (λ e. absurd (false≢true (sym (ap not (sym (ap stands_in_names (eqb-true c b e)) ∙ h)) ∙ s)))
     (λ e. rw e refl)
 
-abbrev behind : List ℕ → Found (List ℕ) → Found (List ℕ)
-behind mark o = bind o (λ f. Some (mark ++ f.0, f.1))
+-- a type that was read, with the types in it as they are written: a word (an integer type, `bool`, a name or a closure), a tuple or `()`,
+-- an array, `!`, a box, a `dyn` type, and a reference, `&mut` where it is unique
+pub data Shape : Type 0 where
+  Word : List ℕ → Shape
+  Row : List (List ℕ) → Shape
+  Count : List ℕ → List ℕ → Shape
+  Naught : Shape
+  InBox : List ℕ → Shape
+  Object : List ℕ → Shape
+  Refers : Bool → List ℕ → Shape
 
-abbrev tuple_from : List (List ℕ) × List ℕ → Found (List ℕ)
-tuple_from q =
-    or_else (bind (strip (codes ",)") q.1) (λ r. Some (codes "(" ++ joined q.0 ++ codes ",)", r)))
-    (bind (strip (codes ")") q.1) (λ r. Some (in_parentheses q.0, r)))
+abbrev pub shape_text : Shape → List ℕ
+shape_text (Word w) = w
+shape_text (Row words) = tuple_text words
+shape_text (Count element digits) = codes "[" ++ element ++ codes "; " ++ digits ++ codes "]"
+shape_text Naught = codes "!"
+shape_text (InBox w) = codes "Box<" ++ w ++ codes ">"
+shape_text (Object name) = codes "dyn " ++ name
+shape_text (Refers true w) = codes "&mut " ++ w
+shape_text (Refers false w) = codes "&" ++ w
 
-abbrev count_from : List ℕ → List ℕ × List ℕ → Found (List ℕ)
-count_from element q = bind (strip (codes "]") q.1) (λ r. Some (codes "[" ++ element ++ codes "; " ++ q.0 ++ codes "]", r))
+-- the shape of a type, where the types in it are written so
+abbrev pub shape_of : ItemTable → (TyId → List ℕ) → Ty → Shape
+shape_of items inner (Ty.Int kind) = Word (kind_text kind)
+shape_of items inner Ty.Bool = Word (codes "bool")
+shape_of items inner Ty.Unit = Row []
+shape_of items inner Ty.Never = Naught
+shape_of items inner (Ty.Adt n) = Word (adt_name items n)
+shape_of items inner (Ty.Tuple parts) = Row (map inner parts)
+shape_of items inner (Ty.Array element count) = Count (inner element) (decimal count)
+shape_of items inner (Ty.Boxed inside) = InBox (inner inside)
+shape_of items inner (Ty.Dyn n) = Object (trait_name items n)
+shape_of items inner (Ty.Shared to) = Refers false (inner to)
+shape_of items inner (Ty.Unique to) = Refers true (inner to)
+shape_of items inner (Ty.Closure n) = Word (codes "closure#" ++ decimal n)
 
-abbrev element_from : List ℕ × List ℕ → Found (List ℕ)
+shape-text : (items : ItemTable) (inner : TyId → List ℕ) (ty : Ty) → shape_text (shape_of items inner ty) ≡ form_text items inner ty
+shape-text items inner (Ty.Int kind) = refl
+shape-text items inner _ = refl
+
+abbrev as_text : Found Shape → Found (List ℕ)
+as_text o = bind o (λ f. Some (shape_text f.0, f.1))
+
+abbrev referring : Bool → Found (List ℕ) → Found Shape
+referring unique o = bind o (λ f. Some (Refers unique f.0, f.1))
+
+abbrev tuple_from : List (List ℕ) × List ℕ → Found Shape
+tuple_from q = or_else (bind (strip (codes ",)") q.1) (λ r. Some (Row q.0, r))) (bind (strip (codes ")") q.1) (λ r. Some (Row q.0, r)))
+
+abbrev count_from : List ℕ → List ℕ × List ℕ → Found Shape
+count_from element q = bind (strip (codes "]") q.1) (λ r. Some (Count element q.0, r))
+
+abbrev element_from : List ℕ × List ℕ → Found Shape
 element_from f = bind (strip (codes "; ") f.1) (λ t. count_from f.0 (span is_digit t))
 
-abbrev box_from : List ℕ × List ℕ → Found (List ℕ)
-box_from f = bind (strip (codes ">") f.1) (λ r. Some (codes "Box<" ++ f.0 ++ codes ">", r))
+abbrev box_from : List ℕ × List ℕ → Found Shape
+box_from f = bind (strip (codes ">") f.1) (λ r. Some (InBox f.0, r))
 
-abbrev object_from : List ℕ × List ℕ → Found (List ℕ)
-object_from n = Some (codes "dyn " ++ n.0, n.1)
+abbrev object_from : List ℕ × List ℕ → Found Shape
+object_from n = Some (Object n.0, n.1)
 
 module _ (inner : List ℕ → Found (List ℕ)) where
-  abbrev reference : List ℕ → Found (List ℕ)
-  reference t = or_else (behind (codes "&mut ") (bind (strip (codes "mut ") t) inner)) (behind (codes "&") (inner t))
+  abbrev reference : List ℕ → Found Shape
+  reference t = or_else (referring true (bind (strip (codes "mut ") t) inner)) (referring false (inner t))
 
   -- a type that begins with a mark
-  abbrev marked : List ℕ → Found (List ℕ)
+  abbrev marked : List ℕ → Found Shape
   marked t =
       or_else (bind (strip (codes "(") t) (λ t. tuple_from (row inner t)))
       (or_else (bind (strip (codes "[") t) (λ t. bind (inner t) element_from))
-      (or_else (bind (strip (codes "!") t) (λ r. Some (codes "!", r))) (bind (strip (codes "&") t) reference)))
+      (or_else (bind (strip (codes "!") t) (λ r. Some (Naught, r))) (bind (strip (codes "&") t) reference)))
 
   -- and one that begins with a word
-  abbrev worded : List ℕ → List ℕ → List ℕ → Found (List ℕ)
+  abbrev worded : List ℕ → List ℕ → List ℕ → Found Shape
   worded [] r t = marked t
   worded (b ∷ bs) r t =
       if same_name (b ∷ bs) (codes "Box") then bind (strip (codes "<") r) (λ t. bind (inner t) box_from)
       else (if same_name (b ∷ bs) (codes "dyn") then bind (strip (codes " ") r) (λ t. object_from (span stands_in_names t))
-      else Some (b ∷ bs, r))
+      else Some (Word (b ∷ bs), r))
 
-  abbrev pub type_form : List ℕ → Found (List ℕ)
+  abbrev pub type_form : List ℕ → Found Shape
   type_form t = worded (span stands_in_names t).0 (span stands_in_names t).1 t
 
 -- a type with no more than so many types in one another
 abbrev pub type_read : ℕ → List ℕ → Found (List ℕ)
 type_read zero t = None
-type_read (suc k) t = type_form (type_read k) t
+type_read (suc k) t = as_text (type_form (type_read k) t)
 
 -- no type begins with a mark that closes
 pub no_type_at : (k : ℕ) (r : List ℕ) → type_read k (codes ")" ++ r) ≡ None
@@ -113,18 +154,18 @@ no_type_at_brace zero r = refl
 no_type_at_brace (suc k) r = refl
 
 module _ (read : List ℕ → Found (List ℕ)) where
-  in_tuple : (t : List ℕ) (f : List ℕ × List ℕ) → tuple_from (row read t) ≡ Some f → type_form read (codes "(" ++ t) ≡ Some f
+  in_tuple : (t : List ℕ) (f : Shape × List ℕ) → tuple_from (row read t) ≡ Some f → type_form read (codes "(" ++ t) ≡ Some f
   in_tuple t f h = rw h refl
 
-  in_bracket : (t : List ℕ) (f : List ℕ × List ℕ) → bind (read t) element_from ≡ Some f → type_form read (codes "[" ++ t) ≡ Some f
+  in_bracket : (t : List ℕ) (f : Shape × List ℕ) → bind (read t) element_from ≡ Some f → type_form read (codes "[" ++ t) ≡ Some f
   in_bracket t f h = rw h refl
 
-  plain_word : (w r t : List ℕ) → 0 < length w → same_name w (codes "Box") ≡ false → same_name w (codes "dyn") ≡ false → worded read w r t ≡ Some (w, r)
+  plain_word : (w r t : List ℕ) → 0 < length w → same_name w (codes "Box") ≡ false → same_name w (codes "dyn") ≡ false → worded read w r t ≡ Some (Word w, r)
   plain_word [] r t some b d = absurd (omega arith)
   plain_word (c ∷ cs) r t some b d = rw b (rw d refl)
 
   word_reads : (w r : List ℕ) → list_all stands_in_names w ≡ true → 0 < length w → same_name w (codes "Box") ≡ false → same_name w (codes "dyn") ≡ false
-      → closes r ≡ true → type_form read (w ++ r) ≡ Some (w, r)
+      → closes r ≡ true → type_form read (w ++ r) ≡ Some (Word w, r)
   word_reads w r all some b d e =
       ap (λ (q : List ℕ × List ℕ). worded read q.0 q.1 (w ++ r)) (span_run stands_in_names w r all (closes_stops r e)) ∙ plain_word w r (w ++ r) some b d
 
@@ -221,22 +262,21 @@ module _ (items : ItemTable)
           → row read (joined (map inner (x ∷ xs)) ++ r) ≡ (map inner (x ∷ xs), r)
       tuple_row = row_reads read inner inner Good (λ r. closes r ≡ true) one (λ t. refl)
 
-      tuple_reads : (ids : List TyId) → Every Good ids → (r : List ℕ) → type_form read (tuple_text (map inner ids) ++ r) ≡ Some (tuple_text (map inner ids), r)
-      tuple_reads [] good r = in_tuple read (codes ")" ++ r) (codes "()", r) (ap tuple_from (row_of_none read inner inner Good (λ r. closes r ≡ true) one (λ t. refl) (codes ")" ++ r) (closed r)))
+      tuple_reads : (ids : List TyId) → Every Good ids → (r : List ℕ) → type_form read (tuple_text (map inner ids) ++ r) ≡ Some (Row (map inner ids), r)
+      tuple_reads [] good r = in_tuple read (codes ")" ++ r) (Row [], r) (ap tuple_from (row_of_none read inner inner Good (λ r. closes r ≡ true) one (λ t. refl) (codes ")" ++ r) (closed r)))
       tuple_reads (id ∷ []) good r =
           let split : (inner id ++ codes ",)") ++ r ≡ joined (map inner (id ∷ [])) ++ (codes ",)" ++ r) =
           append_assoc (inner id) (codes ",)") r ∙ ap (λ (w : List ℕ). w ++ (codes ",)" ++ r)) (sym (append-nil (inner id))) in
-          in_tuple read ((inner id ++ codes ",)") ++ r) (codes "(" ++ inner id ++ codes ",)", r)
-          (ap (λ (t : List ℕ). tuple_from (row read t)) split ∙ ap tuple_from (tuple_row id [] (codes ",)" ++ r) good refl refl)
-          ∙ ap (λ (w : List ℕ). Some (codes "(" ++ w ++ codes ",)", r)) (append-nil (inner id)))
+          in_tuple read ((inner id ++ codes ",)") ++ r) (Row (inner id ∷ []), r)
+          (ap (λ (t : List ℕ). tuple_from (row read t)) split ∙ ap tuple_from (tuple_row id [] (codes ",)" ++ r) good refl refl))
       tuple_reads (id ∷ next ∷ ids) good r =
           let words : List (List ℕ) = map inner (id ∷ next ∷ ids) in
-          in_tuple read ((joined words ++ codes ")") ++ r) (in_parentheses words, r)
+          in_tuple read ((joined words ++ codes ")") ++ r) (Row words, r)
           (ap (λ (t : List ℕ). tuple_from (row read t)) (append_assoc (joined words) (codes ")") r)
           ∙ ap tuple_from (tuple_row id (next ∷ ids) (codes ")" ++ r) good refl refl))
 
       form_reads : (ty : Ty) → own_number_exists items ty ≡ true → HasNumbers ty → Every Good (types_in ty) → (r : List ℕ) → closes r ≡ true
-          → type_form read (form_text items inner ty ++ r) ≡ Some (form_text items inner ty, r)
+          → type_form read (form_text items inner ty ++ r) ≡ Some (shape_of items inner ty, r)
       form_reads (Ty.Int IntKind.I32) own numbers good r e = word_reads read (codes "i32") r refl (omega arith) refl refl e
       form_reads (Ty.Int IntKind.I64) own numbers good r e = word_reads read (codes "i64") r refl (omega arith) refl refl e
       form_reads (Ty.Int IntKind.U32) own numbers good r e = word_reads read (codes "u32") r refl (omega arith) refl refl e
@@ -254,7 +294,7 @@ module _ (items : ItemTable)
           let behind_element : List ℕ = codes "; " ++ (decimal count ++ (codes "]" ++ r)) in
           let split : (inner element ++ codes "; " ++ decimal count ++ codes "]") ++ r ≡ inner element ++ behind_element =
           behind4 (inner element) (codes "; ") (decimal count) (codes "]") r in
-          in_bracket read ((inner element ++ codes "; " ++ decimal count ++ codes "]") ++ r) (codes "[" ++ inner element ++ codes "; " ++ decimal count ++ codes "]", r)
+          in_bracket read ((inner element ++ codes "; " ++ decimal count ++ codes "]") ++ r) (Count (inner element) (decimal count), r)
           (ap (λ (t : List ℕ). bind (read t) element_from) split ∙ ap (λ (f : Found (List ℕ)). bind f element_from) (one element good.0 behind_element refl)
           ∙ ap (count_from (inner element)) (span_run is_digit (decimal count) (codes "]" ++ r) (decimal_digits count numbers) refl))
       form_reads (Ty.Boxed inside) own numbers good r e =
@@ -262,18 +302,18 @@ module _ (items : ItemTable)
       form_reads (Ty.Dyn n) own numbers good r e =
           ap object_from (span_run stands_in_names (trait_name items n) r (name_stands (trait_name items n) (traits n own)).1 (closes_stops r e))
       form_reads (Ty.Shared to) own numbers good r e =
-          ap (λ (o : Found (List ℕ)). or_else (behind (codes "&mut ") o) (behind (codes "&") (read (inner to ++ r)))) (unmut to good.0 r e)
-          ∙ ap (behind (codes "&")) (one to good.0 r e)
+          ap (λ (o : Found (List ℕ)). or_else (referring true o) (referring false (read (inner to ++ r)))) (unmut to good.0 r e)
+          ∙ ap (referring false) (one to good.0 r e)
       form_reads (Ty.Unique to) own numbers good r e =
-          ap (λ (o : Found (List ℕ)). or_else (behind (codes "&mut ") o) (behind (codes "&") (read (codes "mut " ++ (inner to ++ r))))) (one to good.0 r e)
+          ap (λ (o : Found (List ℕ)). or_else (referring true o) (referring false (read (codes "mut " ++ (inner to ++ r))))) (one to good.0 r e)
       form_reads (Ty.Closure n) own numbers good r e =
           word_reads read (codes "closure#" ++ decimal n) r (digits_stand (decimal n) (decimal_digits n numbers)) (omega arith) refl refl e
 
 -- what is shown of a type in one round more
-abbrev IsShown : ItemTable → ℕ → TyId → Type 0
+abbrev pub IsShown : ItemTable → ℕ → TyId → Type 0
 IsShown items k id = in_rounds items.types (existing items) k id ≡ true
 
-shown_parts : (items : ItemTable) (k : ℕ) (id : TyId) → IsShown items (suc k) id
+pub shown_parts : (items : ItemTable) (k : ℕ) (id : TyId) → IsShown items (suc k) id
     → (ty : Ty) × (type_at items id ≡ Some ty) × (own_number_exists items ty ≡ true) × (list_all (in_rounds items.types (existing items) k) (types_in ty) ≡ true)
 shown_parts items k id h = by (type_at items id) refl
   where
@@ -325,15 +365,103 @@ module _ (items : ItemTable) (names : AreNamed items) where
   within_reads (suc k) id h (suc d) le r c =
       let (ty, is, own, parts) = shown_parts items k id h in
       let below : k ≤ d = omega arith in
-      subst (λ (o : Option Ty). type_form (type_read d) (found_text items (type_within items d) o ++ r) ≡ Some (found_text items (type_within items d) o, r)) (sym is)
-      (form_reads items names.adts names.traits (type_within items d) (type_read d) (IsShown items k) (no_type_at d) (no_type_at_brace d)
+      subst (λ (o : Option Ty). as_text (type_form (type_read d) (found_text items (type_within items d) o ++ r)) ≡ Some (found_text items (type_within items d) o, r)) (sym is)
+      (ap as_text (form_reads items names.adts names.traits (type_within items d) (type_read d) (IsShown items k) (no_type_at d) (no_type_at_brace d)
       (λ id h r c. within_reads k id h d below r c) (λ id h r c. unmut_within k id h d below d r c)
       ty own (names.numbers id ty is) (every_of (in_rounds items.types (existing items) k) (types_in ty) parts) r c)
+      ∙ ap (λ (w : List ℕ). Some (w, r)) (shape-text items (type_within items d) ty))
 
   -- a type that exists is read
   pub type_reads : (id : TyId) → ty_exists items id ≡ true → (r : List ℕ) → closes r ≡ true → type_reader (type_text items id ++ r) ≡ Some (type_text items id, r)
   unfolding type_reader type_text
   type_reads id h r c = within_reads (length items.types) id h deepest names.types r c
+
+-- what is shown stays shown, and a type is written alike whatever depth is allowed beyond its own
+list_all_more : {X : Type 0} (p q : X → Bool) → ((x : X) → p x ≡ true → q x ≡ true) → (xs : List X) → list_all p xs ≡ true → list_all q xs ≡ true
+list_all_more p q up [] h = refl
+list_all_more p q up (x ∷ xs) h = let (this, others) = and_parts (p x) _ h in and_from (q x) _ (up x this) (list_all_more p q up xs others)
+
+module _ (items : ItemTable) where
+  shown_from_parts : (k : ℕ) (id : TyId) (ty : Ty) → type_at items id ≡ Some ty → own_number_exists items ty ≡ true
+      → list_all (in_rounds items.types (existing items) k) (types_in ty) ≡ true → IsShown items (suc k) id
+  shown_from_parts k id ty is own parts =
+      subst (λ (o : Option Ty). option_map_or (existing items (in_rounds items.types (existing items) k)) o false ≡ true) (sym is) (and_from (own_number_exists items ty) _ own parts)
+
+  shown_more : (k : ℕ) (id : TyId) → IsShown items k id → IsShown items (suc k) id
+  shown_more zero id h = absurd (false≢true h)
+  shown_more (suc k) id h =
+      let (ty, is, own, parts) = shown_parts items k id h in
+      shown_from_parts (suc k) id ty is own (list_all_more (in_rounds items.types (existing items) k) (in_rounds items.types (existing items) (suc k)) (shown_more k) (types_in ty) parts)
+
+  shape_same : (f g : TyId → List ℕ) (ty : Ty) → Every (λ id. f id ≡ g id) (types_in ty) → shape_of items f ty ≡ shape_of items g ty
+  shape_same f g (Ty.Tuple parts) h = ap Row (map_same parts h)
+    where
+      map_same : (ids : List TyId) → Every (λ id. f id ≡ g id) ids → map f ids ≡ map g ids
+      map_same [] h = refl
+      map_same (id ∷ ids) h = λ i. h.0 i ∷ map_same ids h.1 i
+  shape_same f g (Ty.Array element count) h = ap (λ (w : List ℕ). Count w (decimal count)) h.0
+  shape_same f g (Ty.Boxed inside) h = ap InBox h.0
+  shape_same f g (Ty.Shared to) h = ap (Refers false) h.0
+  shape_same f g (Ty.Unique to) h = ap (Refers true) h.0
+  shape_same f g _ h = refl
+
+  pub every_more : {X : Type 0} (P Q : X → Type 0) → ((x : X) → P x → Q x) → (xs : List X) → Every P xs → Every Q xs
+  every_more P Q up [] h = tt
+  every_more P Q up (x ∷ xs) h = (up x h.0, every_more P Q up xs h.1)
+
+  stable : (k : ℕ) (id : TyId) → IsShown items k id → (d e : ℕ) → k ≤ d → k ≤ e → type_within items d id ≡ type_within items e id
+  stable zero id h d e a b = absurd (false≢true h)
+  stable (suc k) id h zero e a b = absurd (omega arith)
+  stable (suc k) id h (suc d) zero a b = absurd (omega arith)
+  stable (suc k) id h (suc d) (suc e) a b =
+      let (ty, is, own, parts) = shown_parts items k id h in
+      let shown = every_of (in_rounds items.types (existing items) k) (types_in ty) parts in
+      let within : k ≤ d = omega arith in
+      let within_e : k ≤ e = omega arith in
+      let same = every_more (IsShown items k) (λ id. type_within items d id ≡ type_within items e id) (λ id h. stable k id h d e within within_e) (types_in ty) shown in
+      ap (found_text items (type_within items d)) is ∙ sym (shape-text items (type_within items d) ty)
+      ∙ ap shape_text (shape_same (type_within items d) (type_within items e) ty same)
+      ∙ shape-text items (type_within items e) ty ∙ sym (ap (found_text items (type_within items e)) is)
+
+-- the shape of a type, from its text
+pub shape_reader : List ℕ → Option Shape
+shape_reader t = bind (type_form (type_read (deepest - 1)) t) (λ f. Some f.0)
+
+-- what is known of a type that exists
+pub record Known (items : ItemTable) (id : TyId) (ty : Ty) : Type 0 where
+  pub is : type_at items id ≡ Some ty
+  pub own : own_number_exists items ty ≡ true
+  pub parts : Every (λ part. ty_exists items part ≡ true) (types_in ty)
+  pub shape : shape_reader (type_text items id) ≡ Some (shape_of items (type_text items) ty)
+
+pub known : (items : ItemTable) → AreNamed items → (id : TyId) → ty_exists items id ≡ true → (ty : Ty) × Known items id ty
+unfolding type_text shape_reader
+known items names id h = by (length items.types) refl h
+  where
+    by : (k : ℕ) → length items.types ≡ k → IsShown items k id → (ty : Ty) × Known items id ty
+    by zero e h = absurd (false≢true h)
+    by (suc k) e h =
+        let (ty, is, own, parts) = shown_parts items k id h in
+        let shown = every_of (in_rounds items.types (existing items) k) (types_in ty) parts in
+        let low : k ≤ deepest - 1 = omega (arith, names.types) in
+        let full : k ≤ deepest = omega arith in
+        let exists = every_more items (IsShown items k) (λ part. ty_exists items part ≡ true) (λ part h. subst (λ m. IsShown items m part) (sym e) (shown_more items k part h)) (types_in ty) shown in
+        let same = every_more items (IsShown items k) (λ part. type_within items (deepest - 1) part ≡ type_within items deepest part)
+        (λ part h. stable items k part h (deepest - 1) deepest low full) (types_in ty) shown in
+        let read = form_reads items names.adts names.traits (type_within items (deepest - 1)) (type_read (deepest - 1)) (IsShown items k) (no_type_at (deepest - 1)) (no_type_at_brace (deepest - 1))
+        (λ id h r c. within_reads items names k id h (deepest - 1) low r c) (λ id h r c. unmut_within items names k id h (deepest - 1) low (deepest - 1) r c)
+        ty own (names.numbers id ty is) shown [] refl in (
+          ty,
+          record {
+            is = is;
+            own = own;
+            parts = exists;
+            shape =
+                ap (λ (w : List ℕ). shape_reader w) (ap (found_text items (type_within items (deepest - 1))) is ∙ sym (append-nil (form_text items (type_within items (deepest - 1)) ty)))
+                ∙ ap (λ (o : Found Shape). bind o (λ f. Some f.0)) read
+                ∙ ap (λ (shape : Shape). Some shape) (shape_same items (type_within items (deepest - 1)) (type_within items deepest) ty same);
+          },
+        )
 
 abbrev closed_row : {Z : Type 0} → List Z × List ℕ → Found (List Z)
 closed_row q = bind (strip (codes ")") q.1) (λ r. Some (q.0, r))
