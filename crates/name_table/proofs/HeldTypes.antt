@@ -1,21 +1,18 @@
 -- What holds a part, shown by rounds over the types, or ruled out by an order.
-use Rattle.std.proofs.Common.{◌≡◌, ℕ, suc, ◌+◌, ◌<◌, ◌≤◌, Bool, true, false, not, ◌||◌, nat_lt, List, [], ◌∷◌, length, slice_get, get_or, Option, Some, None, Contains, ◌⊎◌, inl, inr, refl, ap, sym, subst, ◌∙◌, arith}
+use Rattle.std.proofs.Common.{◌≡◌, ℕ, Bool, true, ◌||◌, List, [], ◌∷◌, slice_get, Option, Some, inl, inr, refl, ap, sym, ◌∙◌}
 use Rattle.std.specs.Prelude.{flat_map}
 use Rattle.std.specs.List.{list_any}
-use Rattle.std.proofs.lemmas.Bool.{false≢true, or_left, or_right, or_cases, cases_order}
-use Rattle.std.proofs.lemmas.Bool.Decides.{nat_tests}
+use Rattle.std.proofs.lemmas.Bool.{or_left, or_right, or_cases}
 use Rattle.std.proofs.lemmas.List.Folds.{list_any-append}
 use Rattle.mir_ty.specs.declared.adt.Adt.{Adt}
 use Rattle.mir_ty.specs.declared.adt.Variant.{Variant}
 use Rattle.mir_ty.specs.declared.ty.Ty.{Ty}
 use Rattle.mir_ty.specs.declared.ty.TyId.{TyId}
-use Rattle.mir_ty.specs.Facts.{in_rounds, by_rule}
-use Rattle.mir_ty.specs.ItemTable.{ItemTable, type_at}
+use Rattle.mir_ty.specs.ItemTable.{ItemTable}
 use Rattle.mir_ty.specs.Parts.{held_by, variants_of}
-use Rattle.mir_ty.proofs.FixedPoint.{IsGrowing, IsWithin, in_rounds-least, by_rule-shown, by_rule-wider}
+use Rattle.mir_ty.proofs.FixedPoint.{IsGrowing, IsWithin}
 use Rattle.well_typed.specs.Types.{is_same}
-use Rattle.typing_rules.specs.Collected.{holds}
-use Rattle.name_table.specs.Holding.{hold_rule, place_of, IsPlaced, IsOrder}
+use Rattle.name_table.specs.Holding.{hold_rule}
 
 -- where a first test passes whenever a second does, it passes of some
 pub any_grows : {X : Type 0} (P Q : X → Bool) → ((x : X) → P x ≡ true → Q x ≡ true) → (xs : List X) → list_any P xs ≡ true → list_any Q xs ≡ true

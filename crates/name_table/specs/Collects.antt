@@ -8,7 +8,7 @@ use Rattle.mir_base.specs.declared.rule.RuleError.{RuleError}
 use Rattle.mir_ty.specs.ItemTable.{ItemTable}
 use Rattle.mir_ty.specs.declared.ty.Ty.{Ty}
 use Rattle.name_table.specs.Forms.{each_done}
-use Rattle.typing_rules.specs.Check.{Check, Broken, interned, obeys, pure, ◌>>=◌, ◌>>◌}
+use Rattle.typing_rules.specs.Check.{Check, Broken, interned, obeys, pure, ◌>>◌}
 use Rattle.typing_rules.specs.Collected as walk
 use Rattle.typing_rules.specs.Collected.{adt_item, all_derive, all_finite, heads_collected, impl_of, item_name, names_differ}
 use Rattle.typing_rules.specs.Items.{ItemSyn, item_syns}

@@ -1,7 +1,7 @@
 -- What a type holds, as the tests of a check ask it.
-use Rattle.std.specs.Prelude.{◌≡◌, ℕ, Bool, true, false, not, ◌||◌, nat_lt, List, Some, slice_get, slice_index_or}
+use Rattle.std.specs.Prelude.{◌≡◌, ℕ, Bool, false, not, ◌||◌, nat_lt, List, Some, slice_index_or}
 use Rattle.std.specs.List.{list_any}
-use Rattle.mir_ty.specs.Facts.{Rule, by_rule}
+use Rattle.mir_ty.specs.Facts.{Rule}
 use Rattle.mir_ty.specs.ItemTable.{ItemTable, type_at}
 use Rattle.mir_ty.specs.Known.{known_by}
 use Rattle.mir_ty.specs.Parts.{held_by}
