@@ -7,3 +7,5 @@ pub mod RunsLeft
 pub mod TasksLeft
 pub mod TermsLeft
 pub mod RunsTold
+pub mod OnlyAdds
+pub mod FlowsOnward

@@ -1,5 +1,5 @@
 -- Whole runs.
-use Rattle.std.proofs.Common.{◌≡◌, ℕ, zero, suc, ◌+◌, Bool, true, false, List, [], ◌∷◌, drop, Option, Some, None, refl, ap, sym, subst, ◌∙◌, arith}
+use Rattle.std.proofs.Common.{◌≡◌, ℕ, zero, suc, ◌+◌, Bool, true, false, List, [], ◌∷◌, ◌++◌, map, drop, Option, Some, None, string_bytes, refl, ap, sym, subst, ◌∙◌, arith, append_assoc, append-nil}
 use Rattle.std.proofs.lemmas.Iterator.Adapters.{position_from-zero}
 use Rattle.std.proofs.Math.Seq.{drop-cons}
 use Rattle.std.proofs.lemmas.Option.{slice_get_within, get_or_from_slice_get}
@@ -17,11 +17,20 @@ use Rattle.mir_machine.specs.declared.tasks.Task.{Task}
 use Rattle.cfg_meaning.specs.Laws.{bodies_of}
 use Rattle.mir_machine.specs.Left.{left}
 use Rattle.store_model.proofs.Concrete.Effects.{ticks_of}
-use Rattle.mir_machine.specs.Runs.{TellsRun, ended_by, events_of, run_by}
+use Rattle.mir_edge.specs.Told.{WhereTold}
+use Rattle.mir_machine.proofs.FlowsOnward.{all_sent, flows_first, part_of}
+use Rattle.mir_machine.proofs.OnlyAdds.{told_first}
+use Rattle.mir_machine.specs.declared.flowing.Flow.{Flow}
+use Rattle.mir_machine.specs.declared.running.RunError.{RunError}
+use Rattle.mir_machine.specs.Flows.{Flows, FlowsOn, StopsIn}
+use Rattle.mir_machine.specs.Runs.{ForRun, IsHandedOn, TookPart, ended_by, events_of, lines_in, run_by, run_text}
+use Rattle.mir_base.specs.Lines.{end_line}
+use Rattle.mir_ty.specs.Named.{line_of}
 use Rattle.mir_machine.specs.Tasks.{AreRanked, AtEntry, DoingLeft, Keeps, Next, RunsGraph}
 use Rattle.mir_steps.specs.declared.told.Told.{Told}
 use Rattle.mir_steps.specs.declared.world.World.{World}
-use Rattle.mir_steps.specs.Worlds.{state_of, run_setting}
+use Rattle.mir_store.specs.Activations.{activations_of}
+use Rattle.mir_steps.specs.Worlds.{event_of, state_of, run_setting}
 use Rattle.mir_ty.specs.declared.def.Sig.{Sig}
 use Rattle.mir_ty.specs.ItemTable.{ItemTable}
 use Rattle.store_model.specs.Concrete.Bodies.{main_of}
@@ -68,38 +77,118 @@ abbrev pub EntersMain : Graph → World → Bool → ℕ → Trace × End → Ty
 EntersMain graph world strict ticks run =
     AtEntry graph [] (Event.Call (main_of graph.items)) (main_of graph.items) [] strict ticks run (state_of [] world)
 
--- the run is what is left where the machine does this next
-abbrev pub StillRuns : Graph → World → World → List Task → Doing → Type 0
-StillRuns graph first now tasks doing =
+-- after these events were handed on, the run is what is left where the machine does this next
+abbrev pub StillRuns : Graph → World → Trace → World → List Task → Doing → Type 0
+StillRuns graph first handed now tasks doing =
     (strict : Bool) (ticks : ℕ) (run : Trace × End) → AreRanked graph → RunsGraph strict graph first → EntersMain graph first strict ticks run →
-    RunsGraph strict graph now × DoingLeft strict graph ticks run tasks (state_of [] now) doing
+    RunsGraph strict graph now × DoingLeft strict graph ticks run tasks (state_of handed now) doing
 
-pub begins : (graph : Graph) (first now : World) (tasks : List Task) (main : ℕ) (doing : Doing) → main ≡ main_of graph.items → tasks ≡ [] →
-    Keeps graph first now (AtEntry graph tasks (Event.Call main) main []) (Next graph tasks doing) → StillRuns graph first now tasks doing
+begins : (graph : Graph) (first now : World) (tasks : List Task) (main : ℕ) (doing : Doing) → main ≡ main_of graph.items → tasks ≡ [] →
+    Keeps graph first now (AtEntry graph tasks (Event.Call main) main []) (Next graph tasks doing) → StillRuns graph first [] now tasks doing
 begins graph first now tasks main doing is none k strict ticks run ranked runs h =
     k strict ticks run [] ranked runs
     (subst (λ tasks. AtEntry graph tasks (Event.Call main) main [] strict ticks run (state_of [] first)) (sym none)
     (subst (λ n. AtEntry graph [] (Event.Call n) n [] strict ticks run (state_of [] first)) (sym is) h))
 
-pub goes_on : (graph : Graph) (first now later : World) (tasks others : List Task) (doing next : Doing) → StillRuns graph first now tasks doing →
-    Keeps graph now later (Next graph tasks doing) (Next graph others next) → StillRuns graph first later others next
-goes_on graph first now later tasks others doing next h k strict ticks run ranked runs enters =
-    let s = h strict ticks run ranked runs enters in
-    k strict ticks run [] ranked s.0 s.1
+-- so the lines of what was handed on flow to the sink
+abbrev pub IsTold : Option (List ℕ) → Option (List ℕ) → Graph → World → World → List Task → Doing → Flow → Type 0
+IsTold start taken graph first now tasks doing flow = (handed : Trace) × StillRuns graph first handed now tasks doing × Flows start taken (lines_in graph handed) flow
 
-pub ends : (graph : Graph) (first now : World) (tasks : List Task) (doing : Doing) (end : End) → ended_by doing ≡ Some end → StillRuns graph first now tasks doing → TellsRun graph first now.told end
-ends graph first now tasks (Doing.Ended other) end e h =
-    let same : other ≡ end = cc in
-    (λ strict ticks run ranked runs enters. (h strict ticks run ranked runs enters).1 ∙ ap (λ e. ((state_of [] now).trace, e)) same)
-ends graph first now tasks (Doing.Walks number block) end e h = absurd (cc)
-ends graph first now tasks (Doing.Drops post drops turn) end e h = absurd (cc)
-ends graph first now tasks (Doing.Returned value) end e h = absurd (cc)
-ends graph first now tasks Doing.Unwound end e h = absurd (cc)
+pub told_first_of_all : (start : Option (List ℕ)) (graph : Graph) (first now : World) (tasks : List Task) (main : ℕ) (doing : Doing) (flow : Flow) → main ≡ main_of graph.items → tasks ≡ [] →
+    Keeps graph first now (AtEntry graph tasks (Event.Call main) main []) (Next graph tasks doing) → flow.sent ≡ 0 → string_bytes flow.piece ≡ [] → IsTold start start graph first now tasks doing flow
+told_first_of_all start graph first now tasks main doing flow is none k sent waits = ([], begins graph first now tasks main doing is none k, flows_first start flow sent waits)
+
+module _ (start old new : Option (List ℕ)) (graph : Graph) (first now later : World) where
+  pub told_goes_on : (tasks others : List Task) (doing next : Doing) (flow : Flow) → IsTold start old graph first now tasks doing flow →
+      Keeps graph now later (Next graph tasks doing) (Next graph others next) → IsTold start old graph first later others next flow
+  told_goes_on tasks others doing next flow (handed, h, f) k =
+      (handed, (λ strict ticks run ranked runs enters. let s = h strict ticks run ranked runs enters in k strict ticks run handed ranked s.0 s.1), f)
+
+lines_append : (graph : Graph) (a b : Trace) → lines_in graph (a ++ b) ≡ lines_in graph a ++ lines_in graph b
+lines_append graph [] b = refl
+lines_append graph (event ∷ a) b = ap (λ l. line_of graph.items event ++ l) (lines_append graph a b) ∙ sym (append_assoc (line_of graph.items event) (lines_in graph a) (lines_in graph b))
+
+module _ (start old new : Option (List ℕ)) (graph : Graph) (first now : World) (tasks : List Task) (doing : Doing) (flow : Flow) where
+  pub told_handed : (later : World) (after : Flow) → IsTold start old graph first now tasks doing flow → IsHandedOn now later →
+      FlowsOn old new flow after (lines_in graph (events_of now.told)) → IsTold start new graph first later tasks doing after
+  told_handed later after (handed, h, f) (none, runs, same) flows = (
+    handed ++ events_of now.told,
+    (λ strict ticks run ranked r enters. let s = h strict ticks run ranked r enters in (runs ∙ s.0, subst (λ w. DoingLeft strict graph ticks run tasks w doing) (sym (same handed)) s.1)),
+    subst (λ text. Flows start new text after) (sym (lines_append graph handed (events_of now.told))) (flows start (lines_in graph handed) f),
+  )
+
+  -- what the sink took is part of what the run tells
+  pub told_cut : (error : RunError) → IsTold start old graph first now tasks doing flow → StopsIn old new flow (lines_in graph (events_of now.told)) error →
+      ForRun graph first (λ run. TookPart (run_text graph run) start new error)
+  told_cut error (handed, h, f) stops strict ticks run ranked runs enters =
+      part_of start new (lines_in graph handed ++ lines_in graph (events_of now.told)) (lines_in graph first_of.0 ++ end_line run.1) (run_text graph run) whole error
+      (stops start (lines_in graph handed) f)
+    where
+      first_of : (further : Trace) × (run.0 ≡ (handed ++ events_of now.told) ++ further)
+      first_of = told_first strict graph ticks run tasks (state_of handed now) doing (h strict ticks run ranked runs enters).1
+
+      whole : run_text graph run ≡ (lines_in graph handed ++ lines_in graph (events_of now.told)) ++ (lines_in graph first_of.0 ++ end_line run.1)
+      whole =
+          ap (λ t. lines_in graph t ++ end_line run.1) first_of.1
+          ∙ ap (λ l. l ++ end_line run.1)
+          (lines_append graph (handed ++ events_of now.told) first_of.0 ∙ ap (λ l. l ++ lines_in graph first_of.0) (lines_append graph handed (events_of now.told)))
+          ∙ append_assoc (lines_in graph handed ++ lines_in graph (events_of now.told)) (lines_in graph first_of.0) (end_line run.1)
+
+  pub told_in_want : IsTold start old graph first now tasks doing flow → ForRun graph first (λ run. TookPart (run_text graph run) start old RunError.Memory)
+  told_in_want told = by told
+    where
+      by : IsTold start old graph first now tasks doing flow → ForRun graph first (λ run. TookPart (run_text graph run) start old RunError.Memory)
+      by (handed, h, f) strict ticks run ranked runs enters =
+          part_of start old (lines_in graph handed) (lines_in graph (events_of now.told ++ first_of.0) ++ end_line run.1) (run_text graph run) whole RunError.Memory
+          (λ taken at. (flow.sent, f.0, f.2 taken at))
+        where
+          first_of : (further : Trace) × (run.0 ≡ (handed ++ events_of now.told) ++ further)
+          first_of = told_first strict graph ticks run tasks (state_of handed now) doing (h strict ticks run ranked runs enters).1
+
+          whole : run_text graph run ≡ lines_in graph handed ++ (lines_in graph (events_of now.told ++ first_of.0) ++ end_line run.1)
+          whole =
+              ap (λ t. lines_in graph t ++ end_line run.1) (first_of.1 ∙ append_assoc handed (events_of now.told) first_of.0)
+              ∙ ap (λ l. l ++ end_line run.1) (lines_append graph handed (events_of now.told ++ first_of.0))
+              ∙ append_assoc (lines_in graph handed) (lines_in graph (events_of now.told ++ first_of.0)) (end_line run.1)
+
+  -- the run has ended
+  module _ (end : End) (is : ended_by doing ≡ Some end) (none : now.told ≡ []) where
+    ends : (handed : Trace) → StillRuns graph first handed now tasks doing → ForRun graph first (λ run. run ≡ (handed, end))
+    ends handed h strict ticks run ranked runs enters = by doing is (h strict ticks run ranked runs enters).1
+      where
+        by : (doing : Doing) → ended_by doing ≡ Some end → DoingLeft strict graph ticks run tasks (state_of handed now) doing → run ≡ (handed, end)
+        by (Doing.Ended other) e l =
+            let same : other ≡ end = cc in
+            l ∙ ap (λ (t : List Told). (handed ++ map event_of t, other)) none ∙ ap (λ t. (t, other)) (append-nil handed) ∙ ap (λ e. (handed, e)) same
+        by (Doing.Walks number block) e l = absurd (cc)
+        by (Doing.Drops post drops turn) e l = absurd (cc)
+        by (Doing.Returned value) e l = absurd (cc)
+        by Doing.Unwound e l = absurd (cc)
+
+    pub end_is : IsTold start old graph first now tasks doing flow → ForRun graph first (λ run. run.1 ≡ end)
+    end_is (handed, h, f) strict ticks run ranked runs enters = ap (λ (run : Trace × End). run.1) (ends handed h strict ticks run ranked runs enters)
+
+    pub text_is : (after : Flow) → IsTold start old graph first now tasks doing flow → FlowsOn old new flow after (end_line end) → string_bytes after.piece ≡ [] →
+        ForRun graph first (λ run. WhereTold start (λ taken. new ≡ Some (taken ++ run_text graph run)))
+    text_is after (handed, h, f) flows waits strict ticks run ranked runs enters = λ taken at.
+        all_sent start new (lines_in graph handed ++ end_line end) after (flows start (lines_in graph handed) f) waits taken at
+        ∙ ap (λ run. Some (taken ++ run_text graph run)) (sym (ends handed h strict ticks run ranked runs enters))
+
+    pub part_is : (error : RunError) → IsTold start old graph first now tasks doing flow → StopsIn old new flow (end_line end) error →
+        ForRun graph first (λ run. TookPart (run_text graph run) start new error)
+    part_is error (handed, h, f) stops strict ticks run ranked runs enters =
+        part_of start new (lines_in graph handed ++ end_line end) [] (run_text graph run)
+        (ap (run_text graph) (ends handed h strict ticks run ranked runs enters) ∙ sym (append-nil (lines_in graph handed ++ end_line end))) error
+        (stops start (lines_in graph handed) f)
+
+-- where memory is wanted at first, nothing was sent
+pub nothing_told : (start : Option (List ℕ)) (text : List ℕ) → TookPart text start start RunError.Memory
+nothing_told start text = λ taken at. (0, at ∙ ap Some (sym (append-nil taken)))
 
 -- the run of a graph is told
 module _ (strict : Bool) (graph : Graph) (asked : List ℤ) (ticks : ℕ) (world : World) (is : state_of [] world ≡ beginning asked ticks) (runs : run_setting world ≡ setting_of strict graph) (ranked : AreRanked graph) where
-  pub run_is_told : (told : List Told) (end : End) → TellsRun graph world told end → run_by strict graph asked ticks ≡ (events_of told, end)
-  run_is_told told end tells = by strict refl
+  pub run_is_told : (Says : Trace × End → Type 0) → ForRun graph world Says → Says (run_by strict graph asked ticks)
+  run_is_told Says tells = by strict refl
     where
       entry : (strictly : Bool) → strict ≡ strictly → (run : Trace × End) →
           run ≡ left strict graph (suc ticks) [] (bodies_of strict graph (suc ticks) (Event.Call (main_of graph.items)) (main_of graph.items) [] (beginning asked ticks)) → EntersMain graph world strict (suc ticks) run
@@ -112,6 +201,20 @@ module _ (strict : Bool) (graph : Graph) (asked : List ℤ) (ticks : ℕ) (world
         within = (let k : world.ticks ≡ ticks = ap ticks_of is in omega arith);
       }
 
-      by : (strictly : Bool) → strict ≡ strictly → run_by strict graph asked ticks ≡ (events_of told, end)
+      by : (strictly : Bool) → strict ≡ strictly → Says (run_by strict graph asked ticks)
       by true s = tells strict (suc ticks) (run_by strict graph asked ticks) ranked runs (entry true s (run_by strict graph asked ticks) (ap (λ b. run_by b graph asked ticks) s ∙ ap (λ b. left b graph (suc ticks) [] (bodies_of b graph (suc ticks) (Event.Call (main_of graph.items)) (main_of graph.items) [] (beginning asked ticks))) (sym s)))
       by false s = tells strict (suc ticks) (run_by strict graph asked ticks) ranked runs (entry false s (run_by strict graph asked ticks) (ap (λ b. run_by b graph asked ticks) s ∙ ap (λ b. left b graph (suc ticks) [] (bodies_of b graph (suc ticks) (Event.Call (main_of graph.items)) (main_of graph.items) [] (beginning asked ticks))) (sym s)))
+
+-- what was told is let go
+pub handed_over : (old : World) (told : List Told) → told ≡ [] → IsHandedOn old (record old { told = told })
+handed_over old told none = (
+  none,
+  refl,
+  λ before. ap (λ (told : List Told). state_of (before ++ events_of old.told) (record old { told = told })) none
+      ∙ ap (λ (trace : Trace). record (state_of before old) { trace = trace }) (append-nil (before ++ events_of old.told)),
+)
+
+-- a world in which nothing was done is at the beginning
+pub at_start : (world : World) → activations_of world.store ≡ [] → world.told ≡ [] → world.serial ≡ 1 → state_of [] world ≡ beginning world.asks.now world.ticks
+at_start world none nothing first =
+    λ i. record { asked = world.asks.now; ticks = world.ticks; serial = first i; activations = none i; trace = map event_of (nothing i) }

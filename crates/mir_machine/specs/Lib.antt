@@ -1,3 +1,4 @@
+pub mod Flows
 pub mod Laws
 pub mod Left
 pub mod Runs

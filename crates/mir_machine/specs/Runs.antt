@@ -11,9 +11,10 @@ use Rattle.mir_base.specs.declared.trace.Event.{Event}
 use Rattle.mir_machine.specs.declared.tasks.Doing.{Doing}
 use Rattle.mir_machine.specs.Tasks.{AreRanked, AtEntry, RunsGraph}
 use Rattle.mir_steps.specs.declared.world.World.{World}
-use Rattle.mir_steps.specs.Worlds.{event_of, state_of}
+use Rattle.mir_steps.specs.Worlds.{event_of, run_setting, state_of}
 use Rattle.store_model.specs.Concrete.Bodies.{main_of}
-use Rattle.mir_ty.specs.Named.{text_of}
+use Rattle.mir_ty.specs.Named.{adt_name, body_name, text_of}
+use Rattle.mir_base.specs.Lines.{event_lines}
 use Rattle.std.specs.Prelude.{Option, None}
 
 -- a strict run, or one of a raw graph
@@ -44,9 +45,18 @@ abbrev pub ended_by : Doing → Option End
 ended_by (Doing.Ended end) = Some end
 ended_by doing = None
 
--- whatever was handed on before: a run that enters `main` so is what was told and this end
-abbrev pub TellsRun : Graph → World → List Told → End → Type 0
-TellsRun graph world told end =
+-- whatever the run that enters `main` so
+abbrev pub ForRun : Graph → World → (Trace × End → Type 0) → Type 0
+ForRun graph world Says =
     (strict : Bool) (ticks : ℕ) (run : Trace × End) → AreRanked graph → RunsGraph strict graph world →
     AtEntry graph [] (Event.Call (main_of graph.items)) (main_of graph.items) [] strict ticks run (state_of [] world) →
-    run ≡ (events_of told, end)
+    Says run
+
+-- the lines of events, with the names of a graph
+abbrev pub lines_in : Graph → Trace → List ℕ
+lines_in graph trace = event_lines (body_name graph.items) (adt_name graph.items) trace
+
+-- what was told was handed on, and nothing else changed
+abbrev pub IsHandedOn : World → World → Type 0
+IsHandedOn old new = (new.told ≡ []) × (run_setting new ≡ run_setting old)
+    × ((before : Trace) → state_of (before ++ events_of old.told) new ≡ state_of before old)

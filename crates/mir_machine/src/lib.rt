@@ -3,6 +3,7 @@
 
 mod dropping;
 mod entering;
+mod flowing;
 mod going;
 mod laws;
 mod running;

@@ -1,22 +1,24 @@
 //! Whole runs.
-ghost use Rattle.std.specs.Prelude.{◌≡◌, ◌≤◌, ◌++◌, Some, true, codes, string_bytes, IfOk, IfErr, OnOk};
+ghost use Rattle.std.specs.Prelude.{◌≡◌, ◌≤◌, ◌++◌, [], Some, true, codes, string_bytes, IfOk, IfErr, OnOk};
 ghost use Rattle.std.specs.Cmp.Lexicographic.{pointwise};
 ghost use Rattle.std.specs.Prelude.{nat_eq};
 ghost use Rattle.cfg_graph.specs.WellFormed.Faults.{IsWellFormed};
+ghost use Rattle.mir_base.specs.Lines.{end_line};
 ghost use Rattle.mir_edge.specs.Faults.{HasRisen};
 ghost use Rattle.mir_edge.specs.Told.{WhereTold};
 ghost use Rattle.cfg_meaning.specs.Programs.{graph_run, raw_graph_run};
-ghost use Rattle.mir_machine.specs.Runs.{IsWriteFault, TellsRun, TookPart, ended_by, events_of, run_by, run_text};
+ghost use Rattle.mir_machine.specs.Flows.{FlowsOn, StopsIn};
+ghost use Rattle.mir_machine.specs.Runs.{ForRun, IsHandedOn, IsWriteFault, TookPart, ended_by, events_of, lines_in, run_by, run_text};
 ghost use Rattle.store_model.specs.Concrete.Bodies.{main_of};
 
 use crate::entering::enter;
+use crate::flowing::Flow;
 use crate::tasks::Doing;
-use crate::text::text_of_run;
 use crate::turns::turn;
 use cfg_graph::Graph;
 use mir_base::{End, Event, List, Name, NoMemory};
-use mir_edge::{Sink, WriteFault, write_whole};
-use mir_steps::{Told, World};
+use mir_edge::Sink;
+use mir_steps::World;
 use mir_store::Store;
 use mir_ty::Items;
 use std::alloc::Global;
@@ -31,13 +33,6 @@ pub enum RunError {
     /// Memory is wanted.
     #[error("no memory")]
     Memory,
-}
-
-/// What a run told, and how it ended.
-#[derive(Drop)]
-pub struct Outcome {
-    pub told: List<Told>,
-    pub end: End,
 }
 
 fn is_main(name: &Name) -> bool
@@ -73,13 +68,63 @@ fn end_of(doing: &Doing) -> Option<End>
     }
 }
 
-/// Turns until the run ends.
-fn turns(alloc: Global, graph: &Graph, mut world: World<'_>, main: u32) -> Result<Outcome, NoMemory>
+/// Hands on what was told.
+fn hand_on<K: Sink>(
+    alloc: Global,
+    graph: &Graph,
+    world: &mut World<'_>,
+    flow: &mut Flow,
+    out: &mut K,
+) -> Result<(), RunError>
+    ensures counts { K.faults out.old ≤ K.faults out.new }
+    ensures fault { IfErr result (λ error. IsWriteFault error → HasRisen (K.faults out.old) (K.faults out.new)) }
+    ensures same { OnOk result (IsHandedOn world.old world.new) }
+    ensures flows { OnOk result (FlowsOn (K.taken out.old) (K.taken out.new) flow.old flow.new
+        (lines_in graph.now (events_of world.old.told))) }
+    ensures stops { IfErr result (StopsIn (K.taken out.old) (K.taken out.new) flow.old
+        (lines_in graph.now (events_of world.old.told))) }
+{
+    if let Err(error) = flow.tell(alloc, &graph.items, world.told.as_slice(), out) {
+        return Err(error);
+    }
+    world.told.truncate(0);
+    Ok(())
+}
+
+/// Writes the last line, and answers how the run ended.
+fn finish<K: Sink>(alloc: Global, flow: &mut Flow, end: End, out: &mut K) -> Result<End, RunError>
+    ensures counts { K.faults out.old ≤ K.faults out.new }
+    ensures fault { IfErr result (λ error. IsWriteFault error → HasRisen (K.faults out.old) (K.faults out.new)) }
+    ensures end { IfOk result (λ answer. answer ≡ end) }
+    ensures flows { OnOk result (FlowsOn (K.taken out.old) (K.taken out.new) flow.old flow.new (end_line end)
+        × (string_bytes flow.new.piece ≡ [])) }
+    ensures stops { IfErr result (StopsIn (K.taken out.old) (K.taken out.new) flow.old (end_line end)) }
+{
+    match flow.end(alloc, &end, out) {
+        Ok(()) => Ok(end),
+        Err(error) => Err(error),
+    }
+}
+
+/// Turns until the run ends, each of which hands on what the one before it told.
+fn turns<K: Sink>(
+    alloc: Global,
+    graph: &Graph,
+    mut world: World<'_>,
+    main: u32,
+    out: &mut K,
+) -> Result<End, RunError>
     requires { main ≡ main_of graph.now.items }
-    ensures { IfOk result (λ outcome. TellsRun graph.now world.entry outcome.told outcome.end) }
+    ensures counts { K.faults out.old ≤ K.faults out.new }
+    ensures fault { IfErr result (λ error. IsWriteFault error → HasRisen (K.faults out.old) (K.faults out.new)) }
+    ensures end { IfOk result (λ end. ForRun graph.now world.entry (λ run. run.1 ≡ end)) }
+    ensures text { OnOk result (ForRun graph.now world.entry (λ run. WhereTold (K.taken out.old) (λ taken.
+        K.taken out.new ≡ Some (taken ++ run_text graph.now run)))) }
+    ensures part { IfErr result (λ error. ForRun graph.now world.entry (λ run.
+        TookPart (run_text graph.now run) (K.taken out.old) (K.taken out.new) error)) }
 {
     let mut tasks = List::new(alloc);
-    let mut doing = enter(
+    let entered = enter(
         alloc,
         graph,
         &mut world,
@@ -87,75 +132,29 @@ fn turns(alloc: Global, graph: &Graph, mut world: World<'_>, main: u32) -> Resul
         Event::Call(main),
         main,
         List::new(alloc),
-    )?;
+    );
+    let mut doing = match entered {
+        Ok(doing) => doing,
+        Err(NoMemory) => return Err(RunError::Memory),
+    };
+    let mut flow = Flow::new(alloc);
     for _turn in 0..u64::MAX {
-        if let Some(end) = end_of(&doing) {
-            let World { told, .. } = world;
-            return Ok(Outcome { told, end });
+        if let Err(error) = hand_on(alloc, graph, &mut world, &mut flow, out) {
+            return Err(error);
         }
-        doing = turn(alloc, graph, &mut world, &mut tasks, doing)?;
+        if let Some(end) = end_of(&doing) {
+            return finish(alloc, &mut flow, end, out);
+        }
+        match turn(alloc, graph, &mut world, &mut tasks, doing) {
+            Ok(next) => doing = next,
+            Err(NoMemory) => return Err(RunError::Memory),
+        }
     }
-    Err(NoMemory)
+    Err(RunError::Memory)
 }
 
 /// Runs `main`.
-fn run_graph(
-    alloc: Global,
-    graph: &Graph,
-    strict: bool,
-    asks: &[i32],
-    ticks: u64,
-) -> Result<Outcome, NoMemory>
-    requires { IsWellFormed graph.now }
-    ensures { IfOk result (λ outcome. run_by strict graph.now asks.now ticks ≡ (events_of outcome.told, outcome.end)) }
-{
-    let main = main_number(&graph.items)?;
-    let world = World {
-        graph,
-        strict,
-        asks,
-        ticks,
-        serial: 1,
-        store: Store::new(alloc),
-        told: List::new(alloc),
-    };
-    turns(alloc, graph, world, main)
-}
-
-/// The text of a run, and how it ended.
-fn run_to_text(
-    alloc: Global,
-    graph: &Graph,
-    strict: bool,
-    asks: &[i32],
-    ticks: u64,
-) -> Result<(String, End), NoMemory>
-    requires { IsWellFormed graph.now }
-    ensures text { IfOk result (λ done. string_bytes done.0 ≡
-        run_text graph.now (run_by strict graph.now asks.now ticks)) }
-    ensures end { IfOk result (λ done. done.1 ≡ (run_by strict graph.now asks.now ticks).1) }
-{
-    let outcome = run_graph(alloc, graph, strict, asks, ticks)?;
-    let text = text_of_run(alloc, &graph.items, outcome.told.as_slice(), &outcome.end)?;
-    Ok((text, outcome.end))
-}
-
-fn write_text<K: Sink>(out: &mut K, text: &[u8], end: End) -> Result<End, RunError>
-    ensures counts { K.faults out.old ≤ K.faults out.new }
-    ensures end { IfOk result (λ answer. answer ≡ end) }
-    ensures text { OnOk result (WhereTold (K.taken out.old) (λ taken. K.taken out.new ≡ Some (taken ++ text.now))) }
-    ensures fault { IfErr result (λ error. IsWriteFault error → HasRisen (K.faults out.old) (K.faults out.new)) }
-    ensures part { IfErr result (TookPart text.now (K.taken out.old) (K.taken out.new)) }
-{
-    match write_whole(out, text) {
-        Ok(()) => Ok(end),
-        Err(WriteFault { written }) => Err(RunError::WriteFault {
-            written: written as u64,
-        }),
-    }
-}
-
-fn run_by_words<K: Sink>(
+fn run_graph<K: Sink>(
     alloc: Global,
     graph: &Graph,
     strict: bool,
@@ -172,15 +171,26 @@ fn run_by_words<K: Sink>(
     ensures part { IfErr result (TookPart (run_text graph.now (run_by strict graph.now asks.now ticks)) (K.taken out.old)
         (K.taken out.new)) }
 {
-    match run_to_text(alloc, graph, strict, asks, ticks) {
-        Ok((text, end)) => write_text(out, text.as_bytes(), end),
-        Err(NoMemory) => Err(RunError::Memory),
-    }
+    let main = match main_number(&graph.items) {
+        Ok(main) => main,
+        Err(NoMemory) => return Err(RunError::Memory),
+    };
+    let world = World {
+        graph,
+        strict,
+        asks,
+        ticks,
+        serial: 1,
+        store: Store::new(alloc),
+        told: List::new(alloc),
+    };
+    turns(alloc, graph, world, main, out)
 }
 
 /// Runs the body `main` of a well formed graph by strict steps, with these numbers to be asked and at most 1,000,000,000
-/// ticks, and writes the text of the run with its last line. It answers how the run ended; [`RunError::WriteFault`]
-/// only where the sink's count of faults rose, with how many bytes of the text were taken; or [`RunError::Memory`].
+/// ticks, and writes the text of the run with its last line, as its events come, in pieces of at most 8,192 bytes or of
+/// one longer line. It answers how the run ended; [`RunError::WriteFault`] only where the sink's count of faults rose,
+/// with how many bytes of the text were taken; or [`RunError::Memory`], and then some first bytes were taken.
 pub fn run<K: Sink>(
     alloc: Global,
     graph: &Graph,
@@ -198,7 +208,7 @@ pub fn run<K: Sink>(
     ensures part { IfErr result (TookPart (run_text graph.now (graph_run graph.now asks.now ticks)) (K.taken out.old)
         (K.taken out.new)) }
 {
-    run_by_words(alloc, graph, true, asks, ticks, out)
+    run_graph(alloc, graph, true, asks, ticks, out)
 }
 
 /// The same as [`run`] by raw steps, where a drop drops what remains of its place.
@@ -219,5 +229,5 @@ pub fn run_raw<K: Sink>(
     ensures part { IfErr result (TookPart (run_text graph.now (raw_graph_run graph.now asks.now ticks)) (K.taken out.old)
         (K.taken out.new)) }
 {
-    run_by_words(alloc, graph, false, asks, ticks, out)
+    run_graph(alloc, graph, false, asks, ticks, out)
 }

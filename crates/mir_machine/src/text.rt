@@ -1,8 +1,8 @@
 //! The lines of what a run told.
-ghost use Rattle.std.specs.Prelude.{◌≡◌, ◌++◌, OnOk, IfOk, codes, map, string_bytes};
+ghost use Rattle.std.specs.Prelude.{◌≡◌, ◌++◌, OnOk, IfOk, codes, string_bytes};
 ghost use Rattle.mir_base.specs.Lines.{event_line, end_line};
 ghost use Rattle.mir_steps.specs.Worlds.{event_of};
-ghost use Rattle.mir_ty.specs.Named.{adt_name, body_name, text_of};
+ghost use Rattle.mir_ty.specs.Named.{adt_name, body_name};
 
 use mir_base::{End, Event, NoMemory};
 use mir_steps::Told;
@@ -84,19 +84,21 @@ fn write_end(out: &mut String, end: &End) -> Result<(), NoMemory>
     Ok(())
 }
 
-/// The text of what a run told, with its last line.
-pub fn text_of_run(
-    alloc: Global,
-    items: &Items,
-    told: &[Told],
-    end: &End,
-) -> Result<String, NoMemory>
-    ensures { IfOk result (λ text. string_bytes text ≡ text_of items.now (map event_of told.now) end.now) }
+/// The line of an event.
+pub fn line_of(alloc: Global, items: &Items, told: &Told) -> Result<String, NoMemory>
+    ensures { IfOk result (λ line. string_bytes line ≡
+        event_line (body_name items.now) (adt_name items.now) (event_of told.now)) }
 {
-    let mut out = String::new(alloc);
-    for one in told {
-        write_told(&mut out, items, one)?;
-    }
-    write_end(&mut out, end)?;
-    Ok(out)
+    let mut line = String::new(alloc);
+    write_told(&mut line, items, told)?;
+    Ok(line)
+}
+
+/// The last line of a text.
+pub fn last_line(alloc: Global, end: &End) -> Result<String, NoMemory>
+    ensures { IfOk result (λ line. string_bytes line ≡ end_line end.now) }
+{
+    let mut line = String::new(alloc);
+    write_end(&mut line, end)?;
+    Ok(line)
 }

@@ -1,20 +1,36 @@
-use Rattle.std.proofs.Common.{◌≡◌, [], List, map, ap, refl, ◌∙◌}
-use Rattle.std.proofs.lemmas.Result.{IfOk-weaker}
+use Rattle.std.proofs.Common.{◌≡◌, [], ◌++◌, Some, refl, sym}
+use Rattle.std.proofs.lemmas.Result.{IfOk-weaker, IfErr-weaker, on_ok_weaker}
 use Rattle.cfg_graph.proofs.Ranked.{well_formed-ranked}
-use Rattle.mir_machine.proofs.RunsTold.{run_is_told}
-use Rattle.mir_steps.specs.declared.told.Told.{Told}
+use Rattle.mir_edge.specs.Told.{WhereTold}
+use Rattle.mir_machine.proofs.RunsTold.{at_start, run_is_told}
+use Rattle.mir_machine.specs.Runs.{TookPart, run_text}
 use Rattle.mir_steps.specs.declared.world.World.{World}
-use Rattle.mir_steps.specs.Worlds.{event_of, state_of}
-use Rattle.store_model.specs.Concrete.State.{Activation, beginning}
+use Rattle.mir_steps.specs.Worlds.{state_of}
+use Rattle.store_model.specs.Concrete.State.{beginning}
 use Rattle.mir_machine.proofs.running.run_graph.Goals as goal
 
-pub returns : goal.returns
-returns c =
+pub returns-clause-end : goal.returns-clause-end
+returns-clause-end g c =
     let graph = c.args.graph.now in
     let world : World = record { graph = c.args.graph; strict = c.args.strict; asks = c.args.asks; ticks = c.args.ticks; serial = 1; store = c.new.result; told = c.new-2.result } in
-    let is : state_of [] world ≡ beginning c.args.asks.now c.args.ticks =
-    ap (λ (a : List Activation). record { asked = c.args.asks.now; ticks = c.args.ticks; serial = 1; activations = a; trace = map event_of c.new-2.result }) c.new.ensures
-    ∙ ap (λ (t : List Told). record { asked = c.args.asks.now; ticks = c.args.ticks; serial = 1; activations = []; trace = map event_of t }) c.new-2.ensures
-    in
+    let is : state_of [] world ≡ beginning c.args.asks.now c.args.ticks = at_start world c.new.ensures c.new-2.ensures refl in
     IfOk-weaker c.turns.result _ _
-    (λ outcome tells. run_is_told c.args.strict graph c.args.asks.now c.args.ticks world is refl (λ n body there. well_formed-ranked graph n body c.requires there) outcome.told outcome.end tells) c.turns.ensures
+    (λ end tells. sym (run_is_told c.args.strict graph c.args.asks.now c.args.ticks world is refl (λ n body there. well_formed-ranked graph n body c.requires there) (λ run. run.1 ≡ end) tells)) c.turns.ensures.end
+
+pub returns-clause-text : goal.returns-clause-text
+returns-clause-text g c =
+    let graph = c.args.graph.now in
+    let world : World = record { graph = c.args.graph; strict = c.args.strict; asks = c.args.asks; ticks = c.args.ticks; serial = 1; store = c.new.result; told = c.new-2.result } in
+    let is : state_of [] world ≡ beginning c.args.asks.now c.args.ticks = at_start world c.new.ensures c.new-2.ensures refl in
+    on_ok_weaker c.turns.result
+    (run_is_told c.args.strict graph c.args.asks.now c.args.ticks world is refl (λ n body there. well_formed-ranked graph n body c.requires there)
+    (λ run. WhereTold (g.K.Sink.taken c.args.out.now) (λ taken. g.K.Sink.taken c.turns.new.out ≡ Some (taken ++ run_text graph run)))) c.turns.ensures.text
+
+pub returns-clause-part : goal.returns-clause-part
+returns-clause-part g c =
+    let graph = c.args.graph.now in
+    let world : World = record { graph = c.args.graph; strict = c.args.strict; asks = c.args.asks; ticks = c.args.ticks; serial = 1; store = c.new.result; told = c.new-2.result } in
+    let is : state_of [] world ≡ beginning c.args.asks.now c.args.ticks = at_start world c.new.ensures c.new-2.ensures refl in
+    IfErr-weaker c.turns.result _ _
+    (λ error tells. run_is_told c.args.strict graph c.args.asks.now c.args.ticks world is refl (λ n body there. well_formed-ranked graph n body c.requires there)
+    (λ run. TookPart (run_text graph run) (g.K.Sink.taken c.args.out.now) (g.K.Sink.taken c.turns.new.out) error) tells) c.turns.ensures.part
