@@ -224,7 +224,7 @@ module _ (f : Frame) where
 
   -- Forms.
 
-  value : (h : Head) (s : Shape) (e : code.Evaluates) (e' : low.Evaluates) → ((around : Around) (own : Bool) (to : Destination) → lowers f (e around own to) ≡ e' around own to) → lowered (code.a_value f.items h s e) ≡ low.a_value f h s e'
+  value : (h : Head) (s : Shape) (e : code.Evaluates) (e' : low.Evaluates) → ((around : Around) (own : Bool) (to : Destination) → lowers f (e around own to) ≡ e' around own to) → lowered (code.node_code f.items h s (code.Makes e)) ≡ low.a_value f h s e'
   value h s e e' same = λ i. record {
     head = h;
     shape = s;
@@ -233,7 +233,7 @@ module _ (f : Frame) where
     arm = low.no_arm f;
   }
 
-  place : (h : Head) (s : Shape) (r : code.Reaches) (r' : low.Reaches) → ((around : Around) → lowers f (r around) ≡ r' around) → lowered (code.a_place f.items h s r) ≡ low.a_place f h s r'
+  place : (h : Head) (s : Shape) (r : code.Reaches) (r' : low.Reaches) → ((around : Around) → lowers f (r around) ≡ r' around) → lowered (code.node_code f.items h s (code.IsPlace r)) ≡ low.a_place f h s r'
   place h s r r' same = λ i. record {
     head = h;
     shape = s;
@@ -244,29 +244,29 @@ module _ (f : Frame) where
     arm = low.no_arm f;
   }
 
-  scope : (h : Head) (s : Shape) (e : code.MakesInto) (e' : low.MakesInto) → ((around : Around) (to : Destination) → lowers f (e around to) ≡ e' around to) → lowered (code.a_scope f.items h s e) ≡ low.a_scope f h s e'
+  scope : (h : Head) (s : Shape) (e : code.MakesInto) (e' : low.MakesInto) → ((around : Around) (to : Destination) → lowers f (e around to) ≡ e' around to) → lowered (code.node_code f.items h s (code.a_scope h e)) ≡ low.a_scope f h s e'
   scope h s e e' same = value h s (λ around own to. code.in_own_scope h.id own (e around to)) (λ around own to. low.in_own_scope f h own (e' around to)) (λ around own to. in_own_by h own (e around to) (e' around to) (same around to))
 
-  effect : (h : Head) (s : Shape) (action : Site → Action) → lowered (code.effect f.items h s action) ≡ low.effect f h s action
+  effect : (h : Head) (s : Shape) (action : Site → Action) → lowered (code.node_code f.items h s (code.effect h action)) ≡ low.effect f h s action
   effect h s action = scope h s (λ around. code.deliver h.id action) (λ around. low.deliver f h action) (λ around. delivered h action)
 
-  operating : (h : Head) (s : Shape) (ms : List NodeCode) (action : Site → Action) → lowered (code.on_operands f.items h s ms action) ≡ low.on_operands f h s (all_lowered ms) action
+  operating : (h : Head) (s : Shape) (ms : List NodeCode) (action : Site → Action) → lowered (code.node_code f.items h s (code.on_operands h ms action)) ≡ low.on_operands f h s (all_lowered ms) action
   operating h s ms action = value h s (λ around own to. code.acting h.id around own ms (code.deliver h.id action to)) (λ around own to. low.acting f h around own (all_lowered ms) (low.deliver f h action to)) (λ around own to. acts_on h around own ms (code.deliver h.id action to) (low.deliver f h action to) (delivered h action to))
 
-  on_all : (h : Head) (s : Shape) (ms : List NodeCode) (action : Site → List Operand → Action) → lowered (code.on_all f.items h s ms action) ≡ low.on_all f h s (all_lowered ms) action
+  on_all : (h : Head) (s : Shape) (ms : List NodeCode) (action : Site → List Operand → Action) → lowered (code.node_code f.items h s (code.on_all h ms action)) ≡ low.on_all f h s (all_lowered ms) action
   on_all h s ms action =
       operating h s ms (λ site. action site (code.all_moved h.id ms))
       ∙ ap (λ ks. low.on_operands f h s (all_lowered ms) (λ site. action site (map (moved h.id) ks))) (keys ms)
 
-  giving_unit : (h : Head) (s : Shape) (m : NodeCode) (action : Operand → Action) → lowered (code.gives_unit f.items h s m action) ≡ low.gives_unit f h s (lowered m) action
+  giving_unit : (h : Head) (s : Shape) (m : NodeCode) (action : Operand → Action) → lowered (code.node_code f.items h s (code.gives_unit h m action)) ≡ low.gives_unit f h s (lowered m) action
   giving_unit h s m action =
       let given = action (moved h.id m.head.id) in
       value h s (λ around own to. code.acting h.id around own (m ∷ []) (code.unit_after h.id given to)) (λ around own to. low.acting f h around own (lowered m ∷ []) (low.unit_after f h given to)) (λ around own to. acts_on h around own (m ∷ []) (code.unit_after h.id given to) (low.unit_after f h given to) (unit_follows h given to))
 
-  statement : (h : Head) (s : Shape) (r : code.Reaches) (r' : low.Reaches) → ((around : Around) → lowers f (r around) ≡ r' around) → lowered (code.a_statement f.items h s r) ≡ low.a_statement f h s r'
+  statement : (h : Head) (s : Shape) (r : code.Reaches) (r' : low.Reaches) → ((around : Around) → lowers f (r around) ≡ r' around) → lowered (code.node_code f.items h s (code.does r)) ≡ low.a_statement f h s r'
   statement h s r r' same = value h s (λ around own to. r around) (λ around own to. r' around) (λ around own to. same around)
 
-  pattern_same : (h : Head) (s : Shape) → lowered (code.a_pattern f.items h s) ≡ low.a_pattern f h s
+  pattern_same : (h : Head) (s : Shape) → lowered (code.node_code f.items h s code.does_nothing) ≡ low.a_pattern f h s
   pattern_same h s = value h s (λ around own to. Nothing) (λ around own to. nothing) (λ around own to. refl)
 
   abbrev C : Node → NodeCode
@@ -276,26 +276,26 @@ module _ (f : Frame) where
   L n = low.lower f n
 
   -- the same of forms with parts, given it of the parts
-  through : (h : Head) (s : Shape) (base : Node) → lowered (C base) ≡ L base → lowered (code.a_place f.items h s (C base).reaches) ≡ low.a_place f h s (L base).reaches
+  through : (h : Head) (s : Shape) (base : Node) → lowered (C base) ≡ L base → lowered (code.node_code f.items h s (code.IsPlace (C base).reaches)) ≡ low.a_place f h s (L base).reaches
   through h s base is = place h s (C base).reaches (L base).reaches (λ around. ap (λ (m : NodeLower). m.reaches around) is)
 
-  one : (h : Head) (s : Shape) (n : Node) (action : Site → Operand → Action) → lowered (C n) ≡ L n → lowered (code.on_one f.items h s (C n) action) ≡ low.on_one f h s (L n) action
+  one : (h : Head) (s : Shape) (n : Node) (action : Site → Operand → Action) → lowered (C n) ≡ L n → lowered (code.node_code f.items h s (code.on_one h (C n) action)) ≡ low.on_one f h s (L n) action
   one h s n action is =
       operating h s (C n ∷ []) (λ site. action site (moved h.id (C n).head.id)) ∙ ap (λ m. low.on_one f h s m action) is
 
-  two : (h : Head) (s : Shape) (n n' : Node) (action : Site → Operand → Operand → Action) → lowered (C n) ≡ L n → lowered (C n') ≡ L n' → lowered (code.on_two f.items h s (C n) (C n') action) ≡ low.on_two f h s (L n) (L n') action
+  two : (h : Head) (s : Shape) (n n' : Node) (action : Site → Operand → Operand → Action) → lowered (C n) ≡ L n → lowered (C n') ≡ L n' → lowered (code.node_code f.items h s (code.on_two h (C n) (C n') action)) ≡ low.on_two f h s (L n) (L n') action
   two h s n n' action is is' =
       operating h s (C n ∷ C n' ∷ []) (λ site. action site (moved h.id (C n).head.id) (moved h.id (C n').head.id))
       ∙ (λ i. low.on_two f h s (is i) (is' i) action)
 
-  each : (h : Head) (s : Shape) (ns : Nodes) (action : Site → List Operand → Action) → all_lowered (code.codes f.items ns) ≡ low.lower_all f ns → lowered (code.on_all f.items h s (code.codes f.items ns) action) ≡ low.on_all f h s (low.lower_all f ns) action
+  each : (h : Head) (s : Shape) (ns : Nodes) (action : Site → List Operand → Action) → all_lowered (code.codes f.items ns) ≡ low.lower_all f ns → lowered (code.node_code f.items h s (code.on_all h (code.codes f.items ns) action)) ≡ low.on_all f h s (low.lower_all f ns) action
   each h s ns action are = on_all h s (code.codes f.items ns) action ∙ ap (λ ms. low.on_all f h s ms action) are
 
-  first_and : (h : Head) (s : Shape) (n : Node) (ns : Nodes) (action : Site → List Operand → Action) → lowered (C n) ≡ L n → all_lowered (code.codes f.items ns) ≡ low.lower_all f ns → lowered (code.on_all f.items h s (C n ∷ code.codes f.items ns) action) ≡ low.on_all f h s (L n ∷ low.lower_all f ns) action
+  first_and : (h : Head) (s : Shape) (n : Node) (ns : Nodes) (action : Site → List Operand → Action) → lowered (C n) ≡ L n → all_lowered (code.codes f.items ns) ≡ low.lower_all f ns → lowered (code.node_code f.items h s (code.on_all h (C n ∷ code.codes f.items ns) action)) ≡ low.on_all f h s (L n ∷ low.lower_all f ns) action
   first_and h s n ns action is are =
       on_all h s (C n ∷ code.codes f.items ns) action ∙ (λ i. low.on_all f h s (is i ∷ are i) action)
 
-  otherwise_is : (h : Head) (m : CodeIfAny) (around : Around) (to : Destination) → lowers f (code.otherwise_unit f.items h m around to) ≡ low.otherwise_unit f h (lowered_if m) around to
+  otherwise_is : (h : Head) (m : CodeIfAny) (around : Around) (to : Destination) → lowers f (code.otherwise_unit h m around to) ≡ low.otherwise_unit f h (lowered_if m) around to
   otherwise_is h m around to =
       branched around to m (code.put_unit h.id to) ∙ ap (low.branch f around to (lowered_if m)) (unit_put h to)
 
@@ -308,7 +308,7 @@ module _ (f : Frame) where
     pub same : (n : Node) → lowered (code.code f.items n) ≡ low.lower f n
     same (node id at ty by form) = same_form form (head id ty by) (shape_of f.items form (head id ty by))
 
-    same_form : (form : Form) (h : Head) (s : Shape) → lowered (code.code_of_form f.items form h s) ≡ low.lower_form f form h s
+    same_form : (form : Form) (h : Head) (s : Shape) → lowered (code.node_code f.items h s (code.code_of_form f.items form h s)) ≡ low.lower_form f form h s
     same_form (tree.Number number) h s =
         effect h s (λ site. effects.Put site (effects.Number number (kind_of f.items h.ty)))
     same_form (tree.Truth truth) h s = effect h s (λ site. effects.Put site (effects.Truth truth))
@@ -326,12 +326,12 @@ module _ (f : Frame) where
     same_form (tree.Arithmetic operator left right) h s = two h s left right (λ site. effects.Compute site operator) (same left) (same right)
     same_form (tree.Comparison operator left right) h s = two h s left right (λ site. effects.Compare site operator) (same left) (same right)
     same_form (tree.And left right) h s =
-        scope h s (code.conjunction f.items h (C left) (C right)) (low.conjunction f h (L left) (L right))
+        scope h s (code.conjunction h (C left) (C right)) (low.conjunction f h (L left) (L right))
         (λ around to.
         ap (low.condition f around (lowered (C left)) (low.alone f around (lowered (C right)) to)) (delivered h (λ site. effects.Put site (effects.Truth false)) to)
         ∙ (λ i. low.conjunction f h (same left i) (same right i) around to))
     same_form (tree.Or left right) h s =
-        scope h s (code.disjunction f.items h (C left) (C right)) (low.disjunction f h (L left) (L right))
+        scope h s (code.disjunction h (C left) (C right)) (low.disjunction f h (L left) (L right))
         (λ around to.
         ap (λ P. low.condition f around (lowered (C left)) P (low.alone f around (lowered (C right)) to)) (delivered h (λ site. effects.Put site (effects.Truth true)) to)
         ∙ (λ i. low.disjunction f h (same left i) (same right i) around to))
@@ -394,7 +394,7 @@ module _ (f : Frame) where
     same_form (tree.If c consequent otherwise) h s =
         scope h s (λ around to.
         code.condition around (C c) (code.alone around (C consequent) to)
-        (code.otherwise_unit f.items h (code.code_if_any f.items otherwise) around to))
+        (code.otherwise_unit h (code.code_if_any f.items otherwise) around to))
         (λ around to.
         low.condition f around (L c) (low.alone f around (L consequent) to)
         (low.otherwise_unit f h (low.lower_if_any f otherwise) around to))
@@ -406,12 +406,12 @@ module _ (f : Frame) where
     same_form (tree.IfLet pattern scrutinee consequent otherwise) h s =
         scope h s (λ around to.
         code.if_taken h around (C pattern) (C scrutinee) (code.alone around (C consequent) to)
-        (code.otherwise_unit f.items h (code.code_if_any f.items otherwise) around to))
+        (code.otherwise_unit h (code.code_if_any f.items otherwise) around to))
         (λ around to.
         low.if_taken f h around (L pattern) (L scrutinee) (low.alone f around (L consequent) to)
         (low.otherwise_unit f h (low.lower_if_any f otherwise) around to))
         (λ around to.
-        takes_if h around (C pattern) (C scrutinee) (code.alone around (C consequent) to) (code.otherwise_unit f.items h (code.code_if_any f.items otherwise) around to)
+        takes_if h around (C pattern) (C scrutinee) (code.alone around (C consequent) to) (code.otherwise_unit h (code.code_if_any f.items otherwise) around to)
         ∙ ap (low.if_taken f h around (lowered (C pattern)) (lowered (C scrutinee)) (low.alone f around (lowered (C consequent)) to)) (otherwise_is h (code.code_if_any f.items otherwise) around to)
         ∙ (λ i.
         low.if_taken f h around (same pattern i) (same scrutinee i) (low.alone f around (same consequent i) to)

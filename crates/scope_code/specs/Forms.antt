@@ -13,7 +13,7 @@ use Rattle.src_meaning.specs.Evaluation.{in_number_order, to_own_key}
 use Rattle.src_meaning.specs.Forms.{Destination, Into, Coerced, coerced, Around, in_loop, loop_destination, in_guard, entry_of, bound_entry, site_in, site_of_key, moved, is_never}
 use Rattle.src_meaning.specs.Locals.OfBody.{param_key, answer_key}
 use Rattle.src_meaning.specs.Scopes.{Entry, Breaks, Continues, Returns}
-use Rattle.src_meaning.specs.Shape.{Head, head, Shape, Bound, kind_of, shape, shape_of, site_at, operand_of_bound, operand_at}
+use Rattle.src_meaning.specs.Shape.{Head, head, Shape, PatternTests, Bound, kind_of, shape, shape_of, site_at, operand_of_bound, operand_at}
 use Rattle.cfg_code.specs.Code.{field_keys, moved_fields}
 use Rattle.scope_code.specs.Code.{ScopeAt, Innermost, AroundInnermost, NearestTemporary, NewScope, Pends, Completes, Enters, Names, Takes, IsTrue, Passes, Code, Nothing, Changes, From, Then, BackIn, Acts, InScope, Leaves, Branches, Loops, Exits, Panics, Replaces, Drops, Matches, Arms, no_arm, an_arm, Arm, Taken, Empty, Guard, no_guard, a_guard}
 
@@ -107,8 +107,11 @@ operands around [] = Nothing
 operands around (m ∷ ms) = Then (operand around m) (operands around ms)
 
 -- operands are made and taken, and then comes what a node does with them
+abbrev pub behind_operands : ℕ → Bool → Code → List ℕ → Code → Code
+behind_operands id own made keys code = InScope id own (Then made (From (Takes keys) code))
+
 abbrev pub acting : ℕ → Around → Bool → List NodeCode → Code → Code
-acting id around own ms code = InScope id own (Then (operands around ms) (From (Takes (keys_of ms)) code))
+acting id around own ms code = behind_operands id own (operands around ms) (keys_of ms) code
 
 abbrev pub dropping : ℕ → Around → Bool → NodeCode → Code → Code
 dropping id around own m code = InScope id own (Then (operand around m) code)
@@ -182,12 +185,16 @@ touched false site = Nothing
 abbrev pub scrutinised : Around → NodeCode → Code
 scrutinised around m = Then (m.reaches around) (touched m.shape.is_place (site_of m around))
 
+-- a scrutinee is reached, in the scope of the names that it gives to a pattern
+abbrev pub taken_if : ℕ → Code → PatternTests → List Bound → Code → Code → Code
+taken_if id reached tests bounds held otherwise =
+    From (NewScope id true) (Then reached
+    (Branches id (Passes tests) (Then (Then (bind Innermost bounds) held) Leaves) (Then Leaves otherwise)))
+
 abbrev pub if_taken : Head → Around → NodeCode → NodeCode → Code → Code → Code
 if_taken h around pattern scrutinee held otherwise =
-    From (NewScope h.id true) (Then (scrutinised around scrutinee)
-    (Branches h.id (Passes (pattern.shape.tests (place_in scrutinee around)))
-    (Then (Then (bind Innermost (pattern.shape.bindings (place_in scrutinee around))) held) Leaves)
-    (Then Leaves otherwise)))
+    taken_if h.id (scrutinised around scrutinee) (pattern.shape.tests (place_in scrutinee around))
+    (pattern.shape.bindings (place_in scrutinee around)) held otherwise
 
 abbrev pub taken_arm : Head → Around → List Bound → NodeCode → Destination → Code
 taken_arm h around bounds m to = InScope h.id false (Then (bind Innermost bounds) (alone around m to))
@@ -272,163 +279,175 @@ body_in m around = alone around m (Into m.head.id)
 
 -- The forms.
 
+-- what a form does: it makes a value, or is a statement or a pattern; it is a place, which is reached; it is an arm
+pub data FormCode : Type 0 where
+  Makes : (evaluates : Evaluates) → FormCode
+  IsPlace : (reaches : Reaches) → FormCode
+  IsArm : (arm : ArmOf) → FormCode
+
 abbrev pub not_an_arm : ArmOf
 not_an_arm matched around to = Empty
 
+abbrev pub arm_by : FormCode → ArmOf
+arm_by (Makes evaluates) = not_an_arm
+arm_by (IsPlace reaches) = not_an_arm
+arm_by (IsArm arm) = arm
+
+abbrev pub does : Reaches → FormCode
+does reaches = Makes (λ around own to. reaches around)
+
+abbrev pub does_nothing : FormCode
+does_nothing = does (λ around. Nothing)
+
+abbrev pub a_scope : Head → MakesInto → FormCode
+a_scope h makes = Makes (λ around own to. in_own_scope h.id own (makes around to))
+
+abbrev pub effect : Head → (Site → Action) → FormCode
+effect h action = a_scope h (λ around. deliver h.id action)
+
+abbrev pub on_operands : Head → List NodeCode → (Site → Action) → FormCode
+on_operands h ms action = Makes (λ around own to. acting h.id around own ms (deliver h.id action to))
+
+abbrev pub on_one : Head → NodeCode → (Site → Operand → Action) → FormCode
+on_one h m action = on_operands h (m ∷ []) (λ site. action site (moved h.id m.head.id))
+
+abbrev pub on_two : Head → NodeCode → NodeCode → (Site → Operand → Operand → Action) → FormCode
+on_two h m m' action =
+    on_operands h (m ∷ m' ∷ []) (λ site. action site (moved h.id m.head.id) (moved h.id m'.head.id))
+
+abbrev pub on_all : Head → List NodeCode → (Site → List Operand → Action) → FormCode
+on_all h ms action = on_operands h ms (λ site. action site (all_moved h.id ms))
+
+abbrev pub gives_unit : Head → NodeCode → (Operand → Action) → FormCode
+gives_unit h m action =
+    Makes (λ around own to.
+    acting h.id around own (m ∷ []) (unit_after h.id (action (moved h.id m.head.id)) to))
+
+abbrev pub shortcut : Head → Bool → Destination → Code
+shortcut h truth to = deliver h.id (λ site. effects.Put site (effects.Truth truth)) to
+
+abbrev pub conjunction : Head → NodeCode → NodeCode → MakesInto
+conjunction h left right around to = condition around left (alone around right to) (shortcut h false to)
+
+abbrev pub disjunction : Head → NodeCode → NodeCode → MakesInto
+disjunction h left right around to = condition around left (shortcut h true to) (alone around right to)
+
+abbrev pub otherwise_unit : Head → CodeIfAny → MakesInto
+otherwise_unit h otherwise around to = branch around to otherwise (put_unit h.id to)
+
 module _ (items : ItemTable) where
+  -- what is made by a node of type `!` is made nowhere, and so under its own key
   abbrev pub made_in : Head → Evaluates → Evaluates
   made_in h e around own to = e around own (to_own_key (is_never items h.ty) h.id to)
 
-  abbrev pub a_value : Head → Shape → Evaluates → NodeCode
-  a_value h s e = record {
+  abbrev pub evaluates_by : Head → Shape → FormCode → Evaluates
+  evaluates_by h s (Makes evaluates) = made_in h evaluates
+  evaluates_by h s (IsPlace reaches) = made_in h (use_of_place h s reaches)
+  evaluates_by h s (IsArm arm) = λ around own to. Nothing
+
+  abbrev pub reaches_by : Head → Shape → FormCode → Reaches
+  reaches_by h s (IsPlace reaches) = reaches
+  reaches_by h s does = temporary h s (evaluates_by h s does)
+
+  -- a node, by what its form does
+  abbrev pub node_code : Head → Shape → FormCode → NodeCode
+  node_code h s does = record {
     head = h;
     shape = s;
-    evaluates = made_in h e;
-    reaches = temporary h s (made_in h e);
-    arm = not_an_arm;
+    evaluates = evaluates_by h s does;
+    reaches = reaches_by h s does;
+    arm = arm_by does;
   }
-
-  abbrev pub a_place : Head → Shape → Reaches → NodeCode
-  a_place h s r = record {
-    head = h;
-    shape = s;
-    evaluates = made_in h (use_of_place h s r);
-    reaches = r;
-    arm = not_an_arm;
-  }
-
-  abbrev pub a_scope : Head → Shape → MakesInto → NodeCode
-  a_scope h s does = a_value h s (λ around own to. in_own_scope h.id own (does around to))
-
-  abbrev pub effect : Head → Shape → (Site → Action) → NodeCode
-  effect h s action = a_scope h s (λ around. deliver h.id action)
-
-  abbrev pub on_operands : Head → Shape → List NodeCode → (Site → Action) → NodeCode
-  on_operands h s ms action = a_value h s (λ around own to. acting h.id around own ms (deliver h.id action to))
-
-  abbrev pub on_one : Head → Shape → NodeCode → (Site → Operand → Action) → NodeCode
-  on_one h s m action = on_operands h s (m ∷ []) (λ site. action site (moved h.id m.head.id))
-
-  abbrev pub on_two : Head → Shape → NodeCode → NodeCode → (Site → Operand → Operand → Action) → NodeCode
-  on_two h s m m' action =
-      on_operands h s (m ∷ m' ∷ []) (λ site. action site (moved h.id m.head.id) (moved h.id m'.head.id))
-
-  abbrev pub on_all : Head → Shape → List NodeCode → (Site → List Operand → Action) → NodeCode
-  on_all h s ms action = on_operands h s ms (λ site. action site (all_moved h.id ms))
-
-  abbrev pub gives_unit : Head → Shape → NodeCode → (Operand → Action) → NodeCode
-  gives_unit h s m action =
-      a_value h s (λ around own to.
-      acting h.id around own (m ∷ []) (unit_after h.id (action (moved h.id m.head.id)) to))
-
-  abbrev pub a_statement : Head → Shape → Reaches → NodeCode
-  a_statement h s r = a_value h s (λ around own to. r around)
-
-  abbrev pub a_pattern : Head → Shape → NodeCode
-  a_pattern h s = a_value h s (λ around own to. Nothing)
-
-  abbrev pub shortcut : Head → Bool → Destination → Code
-  shortcut h truth to = deliver h.id (λ site. effects.Put site (effects.Truth truth)) to
-
-  abbrev pub conjunction : Head → NodeCode → NodeCode → MakesInto
-  conjunction h left right around to = condition around left (alone around right to) (shortcut h false to)
-
-  abbrev pub disjunction : Head → NodeCode → NodeCode → MakesInto
-  disjunction h left right around to = condition around left (shortcut h true to) (alone around right to)
-
-  abbrev pub otherwise_unit : Head → CodeIfAny → MakesInto
-  otherwise_unit h otherwise around to = branch around to otherwise (put_unit h.id to)
 
   abbrev mutual
     pub code : Node → NodeCode
-    code (node id at ty by form) = code_of_form form (head id ty by) (shape_of items form (head id ty by))
+    code (node id at ty by form) =
+        node_code (head id ty by) (shape_of items form (head id ty by))
+        (code_of_form form (head id ty by) (shape_of items form (head id ty by)))
 
-    pub code_of_form : Form → Head → Shape → NodeCode
+    pub code_of_form : Form → Head → Shape → FormCode
     code_of_form (tree.Number value) h s =
-        effect h s (λ site. effects.Put site (effects.Number value (kind_of items h.ty)))
-    code_of_form (tree.Truth value) h s = effect h s (λ site. effects.Put site (effects.Truth value))
-    code_of_form tree.UnitValue h s = effect h s (λ site. effects.Put site effects.UnitValue)
-    code_of_form (tree.Variable key) h s = a_place h s (λ around. Nothing)
-    code_of_form (tree.Captured closure part name) h s = a_place h s (λ around. Nothing)
-    code_of_form (tree.Field base part) h s = a_place h s (code base).reaches
-    code_of_form (tree.Index base index count) h s =
-        a_place h s (reach_element h s (code base) (code index) count)
-    code_of_form (tree.Deref base) h s = a_place h s (code base).reaches
-    code_of_form (tree.Not operand) h s = on_one h s (code operand) effects.Not
-    code_of_form (tree.Negate operand) h s = on_one h s (code operand) effects.Negate
+        effect h (λ site. effects.Put site (effects.Number value (kind_of items h.ty)))
+    code_of_form (tree.Truth value) h s = effect h (λ site. effects.Put site (effects.Truth value))
+    code_of_form tree.UnitValue h s = effect h (λ site. effects.Put site effects.UnitValue)
+    code_of_form (tree.Variable key) h s = IsPlace (λ around. Nothing)
+    code_of_form (tree.Captured closure part name) h s = IsPlace (λ around. Nothing)
+    code_of_form (tree.Field base part) h s = IsPlace (code base).reaches
+    code_of_form (tree.Index base index count) h s = IsPlace (reach_element h s (code base) (code index) count)
+    code_of_form (tree.Deref base) h s = IsPlace (code base).reaches
+    code_of_form (tree.Not operand) h s = on_one h (code operand) effects.Not
+    code_of_form (tree.Negate operand) h s = on_one h (code operand) effects.Negate
     code_of_form (tree.Arithmetic operator left right) h s =
-        on_two h s (code left) (code right) (λ site. effects.Compute site operator)
+        on_two h (code left) (code right) (λ site. effects.Compute site operator)
     code_of_form (tree.Comparison operator left right) h s =
-        on_two h s (code left) (code right) (λ site. effects.Compare site operator)
-    code_of_form (tree.And left right) h s = a_scope h s (conjunction h (code left) (code right))
-    code_of_form (tree.Or left right) h s = a_scope h s (disjunction h (code left) (code right))
-    code_of_form (tree.Assign place value) h s = a_value h s (assigning items h (code place) (code value))
-    code_of_form (tree.Call body args) h s = on_all h s (codes args) (λ site. effects.Call site body)
+        on_two h (code left) (code right) (λ site. effects.Compare site operator)
+    code_of_form (tree.And left right) h s = a_scope h (conjunction h (code left) (code right))
+    code_of_form (tree.Or left right) h s = a_scope h (disjunction h (code left) (code right))
+    code_of_form (tree.Assign place value) h s = Makes (assigning items h (code place) (code value))
+    code_of_form (tree.Call body args) h s = on_all h (codes args) (λ site. effects.Call site body)
     code_of_form (tree.MethodCall body receiver args) h s =
-        on_all h s (code receiver ∷ codes args) (λ site. effects.Call site body)
+        on_all h (code receiver ∷ codes args) (λ site. effects.Call site body)
     code_of_form (tree.VirtualCall trait_no method receiver args) h s =
-        on_all h s (code receiver ∷ codes args) (λ site. effects.CallVirtual site trait_no method)
+        on_all h (code receiver ∷ codes args) (λ site. effects.CallVirtual site trait_no method)
     code_of_form (tree.ClosureCall body callee args) h s =
-        on_all h s (code callee ∷ codes args) (λ site. effects.Call site body)
+        on_all h (code callee ∷ codes args) (λ site. effects.Call site body)
     code_of_form (tree.Make adt variant fields) h s =
-        on_operands h s (codes_of_fields fields)
+        on_operands h (codes_of_fields fields)
         (λ site. effects.Build site (OfVariant adt variant) (moved_fields h.id (in_number_order (field_keys fields))))
-    code_of_form (tree.Tuple parts) h s = on_all h s (codes parts) (λ site. effects.Build site OfTuple)
-    code_of_form (tree.Array elements) h s = on_all h s (codes elements) (λ site. effects.Build site OfArray)
+    code_of_form (tree.Tuple parts) h s = on_all h (codes parts) (λ site. effects.Build site OfTuple)
+    code_of_form (tree.Array elements) h s = on_all h (codes elements) (λ site. effects.Build site OfArray)
     code_of_form (tree.Closure closure captures) h s =
-        on_all h s (codes captures) (λ site. effects.Build site (OfClosure closure))
-    code_of_form (tree.NewBox content) h s = on_one h s (code content) effects.NewBox
-    code_of_form (tree.Print operand) h s = gives_unit h s (code operand) effects.Print
-    code_of_form tree.Ask h s = effect h s effects.Ask
+        on_all h (codes captures) (λ site. effects.Build site (OfClosure closure))
+    code_of_form (tree.NewBox content) h s = on_one h (code content) effects.NewBox
+    code_of_form (tree.Print operand) h s = gives_unit h (code operand) effects.Print
+    code_of_form tree.Ask h s = effect h effects.Ask
     code_of_form (tree.DropValue operand) h s =
-        a_value h s (λ around own to. dropping h.id around own (code operand) (put_unit h.id to))
-    code_of_form (tree.Forget operand) h s = gives_unit h s (code operand) effects.Forget
-    code_of_form tree.Panic h s = a_value h s (λ around own to. Panics h.id Why.Explicit)
-    code_of_form (tree.Borrow unique base) h s = a_value h s (borrowing h unique (code base))
+        Makes (λ around own to. dropping h.id around own (code operand) (put_unit h.id to))
+    code_of_form (tree.Forget operand) h s = gives_unit h (code operand) effects.Forget
+    code_of_form tree.Panic h s = Makes (λ around own to. Panics h.id Why.Explicit)
+    code_of_form (tree.Borrow unique base) h s = Makes (borrowing h unique (code base))
     code_of_form (tree.Unsize trait_no operand) h s =
-        a_value h s (λ around own to.
-        (code operand).evaluates around own (coerced (code operand).head.id trait_no to))
-    code_of_form (tree.Block stmts tail) h s = a_value h s (block items h (codes stmts) (code_if_any tail))
+        Makes (λ around own to. (code operand).evaluates around own (coerced (code operand).head.id trait_no to))
+    code_of_form (tree.Block stmts tail) h s = Makes (block items h (codes stmts) (code_if_any tail))
     code_of_form (tree.Let pattern initialiser) h s =
-        a_statement h s (letting items h (code pattern) (code_if_any initialiser))
-    code_of_form (tree.Evaluate expression) h s = a_statement h s (evaluating h (code expression))
+        does (letting items h (code pattern) (code_if_any initialiser))
+    code_of_form (tree.Evaluate expression) h s = does (evaluating h (code expression))
     code_of_form (tree.If c consequent otherwise) h s =
-        a_scope h s (λ around to.
+        a_scope h (λ around to.
         condition around (code c) (alone around (code consequent) to)
         (otherwise_unit h (code_if_any otherwise) around to))
     code_of_form (tree.IfLet pattern scrutinee consequent otherwise) h s =
-        a_scope h s (λ around to.
+        a_scope h (λ around to.
         if_taken h around (code pattern) (code scrutinee) (alone around (code consequent) to)
         (otherwise_unit h (code_if_any otherwise) around to))
-    code_of_form (tree.Match scrutinee arms) h s = a_value h s (matching h (code scrutinee) (codes arms))
-    code_of_form (tree.Arm pattern guarded m) h s =
-        record (a_pattern h s) { arm = arm h (code pattern) (code_if_any guarded) (code m) }
+    code_of_form (tree.Match scrutinee arms) h s = Makes (matching h (code scrutinee) (codes arms))
+    code_of_form (tree.Arm pattern guarded m) h s = IsArm (arm h (code pattern) (code_if_any guarded) (code m))
     code_of_form (tree.Loop m) h s =
-        a_scope h s (λ around to. Loops h.id (body_in (code m) (in_loop h.id to around)))
+        a_scope h (λ around to. Loops h.id (body_in (code m) (in_loop h.id to around)))
     code_of_form (tree.While c m) h s =
-        a_scope h s (λ around to. Loops h.id
+        a_scope h (λ around to. Loops h.id
         (condition (in_loop h.id to around) (code c) (body_in (code m) (in_loop h.id to around)) (ends_loop h.id to)))
     code_of_form (tree.WhileLet pattern scrutinee m) h s =
-        a_scope h s (λ around to. Loops h.id
+        a_scope h (λ around to. Loops h.id
         (if_taken h (in_loop h.id to around) (code pattern) (code scrutinee)
         (body_in (code m) (in_loop h.id to around)) (ends_loop h.id to)))
     code_of_form (tree.Break loop value) h s =
-        a_scope h s (λ around to.
+        a_scope h (λ around to.
         Then (value_of_jump h.id (code_if_any value) around (loop_destination loop around.loops))
         (Exits h.id (Breaks loop)))
-    code_of_form (tree.Continue loop) h s = a_value h s (λ around own to. Then Nothing (Exits h.id (Continues loop)))
+    code_of_form (tree.Continue loop) h s = does (λ around. Then Nothing (Exits h.id (Continues loop)))
     code_of_form (tree.Return value) h s =
-        a_scope h s (λ around to.
+        a_scope h (λ around to.
         Then (value_of_jump h.id (code_if_any value) around around.answer) (Exits h.id Returns))
-    code_of_form tree.Wildcard h s = a_pattern h s
-    code_of_form (tree.Binding name) h s = a_pattern h s
-    code_of_form (tree.NumberPattern value) h s = a_pattern h s
-    code_of_form (tree.TruthPattern value) h s = a_pattern h s
-    code_of_form (tree.StructPattern fields) h s = a_pattern h s
-    code_of_form (tree.VariantPattern variant is_test fields) h s = a_pattern h s
-    code_of_form (tree.TuplePattern parts) h s = a_pattern h s
-    code_of_form (tree.ArrayPattern elements) h s = a_pattern h s
-    code_of_form (tree.OrPattern alternatives) h s = a_pattern h s
+    code_of_form tree.Wildcard h s = does_nothing
+    code_of_form (tree.Binding name) h s = does_nothing
+    code_of_form (tree.NumberPattern value) h s = does_nothing
+    code_of_form (tree.TruthPattern value) h s = does_nothing
+    code_of_form (tree.StructPattern fields) h s = does_nothing
+    code_of_form (tree.VariantPattern variant is_test fields) h s = does_nothing
+    code_of_form (tree.TuplePattern parts) h s = does_nothing
+    code_of_form (tree.ArrayPattern elements) h s = does_nothing
+    code_of_form (tree.OrPattern alternatives) h s = does_nothing
 
     pub codes : Nodes → List NodeCode
     codes no_node = []
@@ -441,11 +460,6 @@ module _ (items : ItemTable) where
     pub code_if_any : MaybeNode → CodeIfAny
     code_if_any absent = no_code
     code_if_any (present value) = a_code (code value)
-
-  -- the code by which a place is reached, or in which a value is made
-  abbrev pub body_of : (is_place : Bool) → NodeCode → Around → Bool → Destination → Code
-  body_of true m around own to = m.reaches around
-  body_of false m around own to = m.evaluates around own to
 
   -- Bodies.
 

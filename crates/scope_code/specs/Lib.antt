@@ -1,3 +1,6 @@
 pub mod Code
 pub mod Forms
+pub mod Groups
+pub mod Ops
 pub mod View
+pub mod Wanted

@@ -1,26 +1,47 @@
--- What a contract sees of code: its plain tree.
-use Rattle.std.specs.Prelude.{ℕ, List, [], ◌∷◌, Option, Some, None, map}
+-- What a contract sees of code, and of what it is made of.
+use Rattle.std.specs.Prelude.{ℕ, Bool, List, Option, Some, None, map, reverse}
 use Rattle.cfg_graph.specs.Places.{named}
+use Rattle.mir_base.specs.declared.place_in_text.Key.{Key}
 use Rattle.cfg_meaning.specs.Actions.{site_of, operand_of, operands_of, action_of}
 use Rattle.store_model.specs.Effects as effects
-use Rattle.src_meaning.specs.Forms as forms
+use Rattle.src_meaning.specs.Forms as source
 use Rattle.src_meaning.specs.Scopes as scopes
 use Rattle.pattern_lower.specs.Seen.{tests_in}
 use Rattle.scope_code.specs.Code as plain
-use Rattle.src_meaning.specs.Shape.{Aliases}
+use Rattle.src_meaning.specs.Shape as shape
+use Rattle.src_meaning.specs.Shape.{Aliases, shape_of}
+use Rattle.mir_ty.specs.ItemTable.{ItemTable}
+use Rattle.store_model.specs.Places.Place.{Place}
+use Rattle.typed_tree.specs.Tree as tree
+use Rattle.typed_tree.specs.View.{tree_of}
+use Rattle.typed_tree.specs.declared.node.Node.{Node}
+use Rattle.scope_code.specs.Forms.{code_of_form, FormCode, Makes, IsPlace, IsArm}
+use Rattle.scope_code.specs.Wanted as wanted
 use Rattle.scope_code.specs.declared.around.Alias.{Alias}
 use Rattle.scope_code.specs.declared.around.Around.{Around}
 use Rattle.scope_code.specs.declared.around.LoopAround.{LoopAround}
+use Rattle.scope_code.specs.declared.context.Context.{Context}
+use Rattle.scope_code.specs.declared.context.Head.{Head}
+use Rattle.scope_code.specs.declared.context.Wanted.{Wanted}
+use Rattle.scope_code.specs.declared.operating.Built.{Built}
+use Rattle.scope_code.specs.declared.ordering.FieldNode.{FieldNode}
 use Rattle.scope_code.specs.declared.code.Action.{Action}
-use Rattle.scope_code.specs.declared.code.Arm.{Arm, Arm-F, fold-Arm}
 use Rattle.scope_code.specs.declared.code.Change.{Change}
-use Rattle.scope_code.specs.declared.code.Code.{Code, Code-F, fold-Code}
+use Rattle.scope_code.specs.declared.code.Code.{Code}
 use Rattle.scope_code.specs.declared.code.Condition.{Condition}
 use Rattle.scope_code.specs.declared.code.Destination.{Destination}
 use Rattle.scope_code.specs.declared.code.Entry.{Entry}
 use Rattle.scope_code.specs.declared.code.Exit.{Exit}
-use Rattle.scope_code.specs.declared.code.Guard.{Guard, Guard-F, fold-Guard}
+use Rattle.scope_code.specs.declared.code.Op.{Op}
 use Rattle.scope_code.specs.declared.code.ScopeAt.{ScopeAt}
+use Rattle.scope_code.specs.Ops as ops
+
+abbrev pub maybe_key : Option Key → Option ℕ
+maybe_key None = None
+maybe_key (Some key) = Some key.0
+
+abbrev pub keys_seen : List Key → List ℕ
+keys_seen = map (λ key. key.0)
 
 abbrev pub entry_of : Entry → scopes.Entry
 entry_of e = record { key = e.key.0; ty = e.ty }
@@ -36,7 +57,7 @@ change_of (Change.Pends at entry) = plain.Pends (at_of at) (entry_of entry)
 change_of (Change.Completes at entry) = plain.Completes (at_of at) (entry_of entry)
 change_of (Change.Enters at entry) = plain.Enters (at_of at) (entry_of entry)
 change_of (Change.Names entry) = plain.Names (entry_of entry)
-change_of (Change.Takes keys) = plain.Takes (map (λ key. key.0) keys)
+change_of (Change.Takes keys) = plain.Takes (keys_seen keys)
 
 abbrev pub exit_of : Exit → scopes.Exit
 exit_of (Exit.Breaks loop) = scopes.Breaks loop.0
@@ -59,63 +80,82 @@ abbrev pub condition_of : Condition → plain.Condition
 condition_of (Condition.IsTrue key) = plain.IsTrue key.0
 condition_of (Condition.Passes tests) = plain.Passes (tests_in tests)
 
-abbrev pub destination_of : Destination → forms.Destination
-destination_of (Destination.Into key) = forms.Into key.0
-destination_of (Destination.Coerced key trait_no to) = forms.Coerced key.0 trait_no to.0
+abbrev pub destination_of : Destination → source.Destination
+destination_of (Destination.Into key) = source.Into key.0
+destination_of (Destination.Coerced key trait_no to) = source.Coerced key.0 trait_no to.0
 
-abbrev pub guard_from : Option plain.Guard → plain.Guard
-guard_from None = plain.no_guard
-guard_from (Some guard) = guard
+-- a word, and the words of code, the last one first
+abbrev pub op_of : Op → ops.Op
+op_of Op.Nothing = ops.Nothing
+op_of (Op.Changes change) = ops.Changes (change_of change)
+op_of (Op.From change) = ops.From (change_of change)
+op_of Op.Then = ops.Then
+op_of Op.BackIn = ops.BackIn
+op_of (Op.Acts node action) = ops.Acts node.0 (effect_of node.0 action)
+op_of (Op.InScope node for_temporaries) = ops.InScope node.0 for_temporaries
+op_of Op.Leaves = ops.Leaves
+op_of (Op.Branches node on) = ops.Branches node.0 (condition_of on)
+op_of (Op.Loops id) = ops.Loops id.0
+op_of (Op.Exits node exit) = ops.Exits node.0 (exit_of exit)
+op_of (Op.Panics node why) = ops.Panics node.0 why
+op_of (Op.Replaces node place key) = ops.Replaces (record { node = node.0; place = named place }) key.0
+op_of (Op.Drops key) = ops.Drops key.0
+op_of Op.BeforeArms = ops.BeforeArms
+op_of (Op.Arm tests guard) = ops.IsArm (tests_in tests) (maybe_key guard)
+op_of Op.EmptyArm = ops.EmptyArm
+op_of (Op.Matches node) = ops.Matches node.0
 
-abbrev pub arms_from : List plain.Arm → plain.Arms
-arms_from [] = plain.no_arm
-arms_from (first ∷ rest) = plain.an_arm first (arms_from rest)
-
--- one layer, whose parts are plain already
-abbrev pub code_layer : Code-F plain.Arm plain.Code plain.Guard → plain.Code
-code_layer Code-F.Nothing = plain.Nothing
-code_layer (Code-F.Changes change) = plain.Changes (change_of change)
-code_layer (Code-F.From change code) = plain.From (change_of change) code.value
-code_layer (Code-F.Then one another) = plain.Then one.value another.value
-code_layer (Code-F.BackIn code) = plain.BackIn code.value
-code_layer (Code-F.Acts node action) = plain.Acts node.0 (effect_of node.0 action)
-code_layer (Code-F.InScope node for_temporaries code) = plain.InScope node.0 for_temporaries code.value
-code_layer Code-F.Leaves = plain.Leaves
-code_layer (Code-F.Branches node on held otherwise) =
-    plain.Branches node.0 (condition_of on) held.value otherwise.value
-code_layer (Code-F.Loops id turn) = plain.Loops id.0 turn.value
-code_layer (Code-F.Exits node exit) = plain.Exits node.0 (exit_of exit)
-code_layer (Code-F.Panics node why) = plain.Panics node.0 why
-code_layer (Code-F.Replaces node place key) = plain.Replaces (record { node = node.0; place = named place }) key.0
-code_layer (Code-F.Drops key) = plain.Drops key.0
-code_layer (Code-F.Matches node arms) = plain.Matches node.0 (arms_from arms)
-
-abbrev pub arm_layer : Arm-F plain.Arm plain.Code plain.Guard → plain.Arm
-arm_layer (Arm-F.Taken tests guard code) = plain.Taken (tests_in tests) (guard_from guard) code
-arm_layer Arm-F.Empty = plain.Empty
-
-abbrev pub guard_layer : Guard-F plain.Arm plain.Code plain.Guard → plain.Guard
-guard_layer guard = plain.a_guard guard.key.0 guard.code
-
-abbrev pub code_of : Code → plain.Code
-code_of = fold-Code plain.Arm plain.Code plain.Guard arm_layer code_layer guard_layer
-
-abbrev pub arm_of : Arm → plain.Arm
-arm_of = fold-Arm plain.Arm plain.Code plain.Guard arm_layer code_layer guard_layer
-
-abbrev pub guard_of : Guard → plain.Guard
-guard_of = fold-Guard plain.Arm plain.Code plain.Guard arm_layer code_layer guard_layer
+abbrev pub ops_of : Code → List ops.Op
+ops_of code = reverse (map op_of code.ops)
 
 -- what is around a node
-abbrev pub loops_of : List LoopAround → List (ℕ × forms.Destination)
+abbrev pub loops_of : List LoopAround → List (ℕ × source.Destination)
 loops_of = map (λ l. (l.id.0, destination_of l.to))
 
 abbrev pub aliases_of : List Alias → Aliases
 aliases_of = map (λ a. (a.key.0, named a.place))
 
-abbrev pub around_of : Around → forms.Around
+abbrev pub around_of : Around → source.Around
 around_of around = record {
   answer = destination_of around.answer;
   loops = loops_of around.loops.now;
   aliases = aliases_of around.aliases.now;
 }
+
+-- a node whose code is made
+abbrev pub head_of : Head → shape.Head
+head_of h = record { id = h.id.0; ty = h.ty; by = h.by }
+
+abbrev pub wanted_of : Wanted → wanted.Wanted
+wanted_of (Wanted.Value own to) = wanted.Value own (destination_of to)
+wanted_of Wanted.UnderOwnKey = wanted.UnderOwnKey
+wanted_of Wanted.AsOperand = wanted.AsOperand
+wanted_of (Wanted.Alone to) = wanted.Alone (destination_of to)
+wanted_of Wanted.AloneUnderOwnKey = wanted.AloneUnderOwnKey
+wanted_of Wanted.AsPlace = wanted.AsPlace
+
+-- what a form does, in a context
+abbrev pub done : FormCode → source.Around → Bool → source.Destination → plain.Code
+done (Makes evaluates) around own to = evaluates around own to
+done (IsPlace reaches) around own to = reaches around
+done (IsArm arm) around own to = plain.Nothing
+
+abbrev pub form_code : ItemTable → tree.Form → Context → plain.Code
+form_code items form c =
+    done (code_of_form items form (head_of c.head) (shape_of items form (head_of c.head)))
+    (around_of c.around) c.own (destination_of c.to)
+
+-- what is made of operands
+abbrev pub built_of : Built → effects.Kind
+built_of Built.Tuple = effects.OfTuple
+built_of Built.Array = effects.OfArray
+built_of (Built.Closure closure) = effects.OfClosure closure
+built_of (Built.Variant adt variant) = effects.OfVariant adt variant
+
+-- a field by its number
+abbrev pub numbered : FieldNode → ℕ × ℕ
+numbered field = (field.number, field.node.0)
+
+-- the place of a node
+abbrev pub place_seen : ItemTable → Node → Around → Place
+place_seen items n around = (shape.shape items (tree_of n)).place (aliases_of around.aliases.now)

@@ -1,13 +1,15 @@
-ghost use Rattle.std.specs.Prelude.{◌≡◌, IfOk, map};
+ghost use Rattle.std.specs.Prelude.{◌≡◌, ◌∷◌, IfOk, map};
 ghost use Rattle.cfg_graph.specs.Places.{named};
 ghost use Rattle.store_model.specs.Places.Place as places;
-ghost use Rattle.src_meaning.specs.Forms.{loop_destination};
+ghost use Rattle.src_meaning.specs.Forms.{loop_destination, aliases_with};
 ghost use Rattle.src_meaning.specs.Shape.{place_of_key};
+ghost use Rattle.pattern_lower.specs.Seen.{bound_of};
 ghost use Rattle.scope_code.specs.View.{destination_of, loops_of, aliases_of};
 
 use crate::Destination;
 use cfg_graph::Place;
-use mir_base::{Key, NoMemory, NodeId};
+use mir_base::{Key, List, NoMemory, NodeId};
+use pattern_lower::Binding;
 use std::alloc::Global;
 use store_model::Path;
 
@@ -76,4 +78,46 @@ pub fn place_under(alloc: Global, key: Key, aliases: &[Alias]) -> Result<Place, 
         }
     }
     Ok(whole(alloc, key))
+}
+
+/// The loops around the body of a loop: itself, and those around it.
+pub fn in_loop(
+    alloc: Global,
+    id: NodeId,
+    to: Destination,
+    loops: &[LoopAround],
+) -> Result<List<LoopAround>, NoMemory>
+    ensures { IfOk result (λ inner. loops_of inner ≡ (id.0, destination_of to) ∷ loops_of loops.now) }
+{
+    let mut inner = List::new(alloc);
+    inner.push(LoopAround { id, to })?;
+    for around in loops {
+        inner.push(*around)?;
+    }
+    Ok(inner)
+}
+
+/// The names of an arm stand for their parts in its guard, besides those that stand for parts around it.
+pub fn in_guard(
+    alloc: Global,
+    bindings: &[Binding],
+    aliases: &[Alias],
+) -> Result<List<Alias>, NoMemory>
+    ensures { IfOk result (λ inner.
+        aliases_of inner ≡ aliases_with (map bound_of bindings.now) (aliases_of aliases.now)) }
+{
+    let mut inner = List::new(alloc);
+    for binding in bindings {
+        inner.push(Alias {
+            key: binding.key,
+            place: copied(alloc, &binding.from)?,
+        })?;
+    }
+    for alias in aliases {
+        inner.push(Alias {
+            key: alias.key,
+            place: copied(alloc, &alias.place)?,
+        })?;
+    }
+    Ok(inner)
 }

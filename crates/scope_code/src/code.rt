@@ -1,5 +1,8 @@
+ghost use Rattle.std.specs.Prelude.{◌≡◌, [], ◌∷◌, OnOk};
+ghost use Rattle.scope_code.specs.View.{op_of, ops_of};
+
 use cfg_graph::{Operand, Place, Stmt};
-use mir_base::{Key, List, Math, NodeId, Why};
+use mir_base::{Key, List, Math, NoMemory, NodeId, Why};
 use mir_ty::TyId;
 use pattern_lower::Test;
 use std::alloc::Global;
@@ -87,17 +90,17 @@ pub enum Condition {
     Passes(List<Test>),
 }
 
-/// Code of a body: effects, scopes, branches, loops and exits.
+/// A word of code. What it is made of stands before it, as operands do in postfix notation.
 #[derive(Drop)]
-#[cycle(code)]
-pub enum Code {
+pub enum Op {
     Nothing,
     Changes(Change),
     /// Code in scopes that are changed first.
-    From(Change, Box<Code, Global>),
-    Then(Box<Code, Global>, Box<Code, Global>),
+    From(Change),
+    /// Two codes, one after the other.
+    Then,
     /// Code behind which the scopes are those before it.
-    BackIn(Box<Code, Global>),
+    BackIn,
     /// An effect of a node.
     Acts {
         node: NodeId,
@@ -107,20 +110,16 @@ pub enum Code {
     InScope {
         node: NodeId,
         for_temporaries: bool,
-        code: Box<Code, Global>,
     },
     /// The innermost scope is left.
     Leaves,
+    /// One of two codes: the first where the condition holds.
     Branches {
         node: NodeId,
         on: Condition,
-        held: Box<Code, Global>,
-        otherwise: Box<Code, Global>,
     },
-    Loops {
-        id: NodeId,
-        turn: Box<Code, Global>,
-    },
+    /// A loop, whose turn stands before it.
+    Loops(NodeId),
     Exits {
         node: NodeId,
         exit: Exit,
@@ -137,33 +136,41 @@ pub enum Code {
     },
     /// What stands under a key is dropped.
     Drops(Key),
-    /// The arms of a match in order.
-    Matches {
-        node: NodeId,
-        arms: List<Arm>,
-    },
-}
-
-/// An arm of a match.
-#[derive(Drop)]
-#[cycle(code)]
-pub enum Arm {
-    /// Its tests, its guard, and what it does where both hold.
-    Taken {
+    /// The arms of a match follow.
+    BeforeArms,
+    /// An arm: its tests, and the key of its guard, whose code stands before that of the arm.
+    Arm {
         tests: List<Test>,
-        guard: Option<Guard>,
-        code: Code,
+        guard: Option<Key>,
     },
-    /// A node that is no arm: it is taken, and does nothing.
-    Empty,
+    /// A node among arms that is none: it is taken, and does nothing.
+    EmptyArm,
+    /// A match; its arms stand before it, in order.
+    Matches(NodeId),
 }
 
-/// A guard: the key of its truth value, and its code.
+/// Code of a body: effects, scopes, branches, loops and exits, in postfix order.
 #[derive(Drop)]
-#[cycle(code)]
-pub struct Guard {
-    pub key: Key,
-    pub code: Code,
+pub struct Code {
+    pub ops: List<Op>,
+}
+
+impl Code {
+    /// No code.
+    pub fn new(alloc: Global) -> Code
+        ensures { ops_of result ≡ [] }
+    {
+        Code {
+            ops: List::new(alloc),
+        }
+    }
+
+    /// One more word.
+    pub fn push(&mut self, op: Op) -> Result<(), NoMemory>
+        ensures { OnOk result (ops_of self.new ≡ op_of op ∷ ops_of self.old) }
+    {
+        self.ops.push(op)
+    }
 }
 
 /// Where a value is made.

@@ -1,94 +1,48 @@
-//! The rules by which code is made of the code of parts.
-ghost use Rattle.std.specs.Prelude.{◌≡◌, IfOk};
-ghost use Rattle.scope_code.specs.Code as plain;
+//! The rules by which code is put behind the code of parts.
+ghost use Rattle.std.specs.Prelude.{◌≡◌, ◌∷◌, OnOk};
 ghost use Rattle.scope_code.specs.Forms as forms;
-ghost use Rattle.scope_code.specs.View.{code_of, change_of, at_of, entry_of, effect_of, destination_of};
+ghost use Rattle.scope_code.specs.Ops as ops;
+ghost use Rattle.scope_code.specs.Ops.{onto, own_scope_onto, pending_onto, made_entry_onto, thens};
+ghost use Rattle.scope_code.specs.View.{ops_of, at_of, entry_of, effect_of, destination_of};
 
 use crate::around::whole;
-use crate::{Action, Change, Code, Destination, Entry, ScopeAt};
+use crate::{Action, Change, Code, Destination, Entry, Op, ScopeAt};
 use cfg_graph::{Operand, Stmt};
 use mir_base::{Key, NoMemory, NodeId};
 use std::alloc::Global;
 
-/// One after the other.
-pub fn then(alloc: Global, one: Code, another: Code) -> Result<Code, NoMemory>
-    ensures { IfOk result (λ made. code_of made ≡ plain.Then (code_of one) (code_of another)) }
-{
-    Ok(Code::Then(Box::new(alloc, one)?, Box::new(alloc, another)?))
-}
-
-/// Code in scopes that are changed first.
-pub fn from(alloc: Global, change: Change, code: Code) -> Result<Code, NoMemory>
-    ensures { IfOk result (λ made. code_of made ≡ plain.From (change_of change) (code_of code)) }
-{
-    Ok(Code::From(change, Box::new(alloc, code)?))
-}
-
-/// Code behind which the scopes are those before it.
-pub fn back_in(alloc: Global, code: Code) -> Result<Code, NoMemory>
-    ensures { IfOk result (λ made. code_of made ≡ plain.BackIn (code_of code)) }
-{
-    Ok(Code::BackIn(Box::new(alloc, code)?))
-}
-
-/// Code in a scope of its own.
-pub fn in_scope(
-    alloc: Global,
-    node: NodeId,
-    for_temporaries: bool,
-    code: Code,
-) -> Result<Code, NoMemory>
-    ensures { IfOk result (λ made. code_of made ≡ plain.InScope node.0 for_temporaries (code_of code)) }
-{
-    Ok(Code::InScope {
-        node,
-        for_temporaries,
-        code: Box::new(alloc, code)?,
-    })
-}
-
-/// Code in a scope for temporaries, or as it is.
-pub fn in_own_scope(alloc: Global, node: NodeId, own: bool, code: Code) -> Result<Code, NoMemory>
-    ensures { IfOk result (λ made. code_of made ≡ forms.in_own_scope node.0 own (code_of code)) }
+/// What stands before is in a scope for temporaries of its own, or as it is.
+pub fn in_own_scope(node: NodeId, own: bool, code: &mut Code) -> Result<(), NoMemory>
+    ensures { OnOk result (ops_of code.new ≡ own_scope_onto node.0 own (ops_of code.old)) }
 {
     if own {
-        in_scope(alloc, node, true, code)
+        code.push(Op::InScope {
+            node,
+            for_temporaries: true,
+        })
     } else {
-        Ok(code)
+        Ok(())
     }
 }
 
-/// Code before which a destination is pending, if it is.
-pub fn from_pending(
-    alloc: Global,
-    pends: bool,
-    at: ScopeAt,
-    entry: Entry,
-    code: Code,
-) -> Result<Code, NoMemory>
-    ensures { IfOk result (λ made.
-        code_of made ≡ forms.from_pending pends (at_of at) (entry_of entry) (code_of code)) }
+/// Before what stands there a destination is pending, if it is.
+pub fn from_pending(pends: bool, at: ScopeAt, entry: Entry, code: &mut Code) -> Result<(), NoMemory>
+    ensures { OnOk result (ops_of code.new ≡ pending_onto pends (at_of at) (entry_of entry) (ops_of code.old)) }
 {
     if pends {
-        from(alloc, Change::Pends(at, entry), code)
+        code.push(Op::From(Change::Pends(at, entry)))
     } else {
-        Ok(code)
+        Ok(())
     }
 }
 
-/// Code whose destination is an entry behind it, and is pending meanwhile, if it has to be.
-pub fn made_entry(
-    alloc: Global,
-    pends: bool,
-    at: ScopeAt,
-    entry: Entry,
-    code: Code,
-) -> Result<Code, NoMemory>
-    ensures { IfOk result (λ made.
-        code_of made ≡ forms.made_entry pends (at_of at) (entry_of entry) (code_of code)) }
+/// The destination of what stands before is an entry behind it, and is pending meanwhile, if it has to be.
+pub fn made_entry(pends: bool, at: ScopeAt, entry: Entry, code: &mut Code) -> Result<(), NoMemory>
+    ensures { OnOk result (ops_of code.new ≡ made_entry_onto pends (at_of at) (entry_of entry) (ops_of code.old)) }
 {
-    let code = then(alloc, code, Code::Changes(Change::Completes(at, entry)))?;
-    from_pending(alloc, pends, at, entry, code)
+    code.push(Op::Changes(Change::Completes(at, entry)))?;
+    code.push(Op::Then)?;
+    from_pending(pends, at, entry, code)
 }
 
 /// The key under which a value is made first.
@@ -107,26 +61,39 @@ pub fn delivers(
     id: NodeId,
     action: Action,
     to: Destination,
-) -> Result<Code, NoMemory>
-    ensures { IfOk result (λ made.
-        code_of made ≡ forms.delivers number.0 id.0 (effect_of number.0 action) (destination_of to)) }
+    code: &mut Code,
+) -> Result<(), NoMemory>
+    ensures { OnOk result (ops_of code.new ≡
+        onto (forms.delivers number.0 id.0 (effect_of number.0 action) (destination_of to)) (ops_of code.old)) }
 {
-    let acts = Code::Acts {
+    code.push(Op::Acts {
         node: number,
         action,
-    };
+    })?;
     match to {
-        Destination::Into(_) => Ok(acts),
+        Destination::Into(_) => Ok(()),
         Destination::Coerced { key, trait_no, to } => {
-            let unsizes = Code::Acts {
-                node: id,
-                action: Action::Stmt(Stmt::Unsize {
-                    to: whole(alloc, to),
-                    trait_no,
-                    from: Operand::Moved(whole(alloc, key)),
-                }),
+            let stmt = Stmt::Unsize {
+                to: whole(alloc, to),
+                trait_no,
+                from: Operand::Moved(whole(alloc, key)),
             };
-            then(alloc, acts, unsizes)
+            let action = Action::Stmt(stmt);
+            code.push(Op::Acts { node: id, action })?;
+            code.push(Op::Then)
         }
     }
+}
+
+/// So many codes, one after the other, and nothing behind them.
+pub fn joined(count: usize, code: &mut Code) -> Result<(), NoMemory>
+    ensures { OnOk result (ops_of code.new ≡ thens count (ops.Nothing ∷ ops_of code.old)) }
+{
+    code.push(Op::Nothing)?;
+    let mut done = 0;
+    while done < count {
+        code.push(Op::Then)?;
+        done += 1;
+    }
+    Ok(())
 }

@@ -1,13 +1,12 @@
 //! The names that a pattern makes.
-ghost use Rattle.std.specs.Prelude.{◌≡◌, IfOk, map};
-ghost use Rattle.scope_code.specs.Code as plain;
+ghost use Rattle.std.specs.Prelude.{◌≡◌, ◌∷◌, OnOk, map};
 ghost use Rattle.scope_code.specs.Forms as forms;
-ghost use Rattle.scope_code.specs.View.{code_of, at_of};
+ghost use Rattle.scope_code.specs.Ops.{onto, entered_onto};
+ghost use Rattle.scope_code.specs.View.{ops_of, at_of};
 ghost use Rattle.pattern_lower.specs.Seen.{bound_of};
 
 use crate::around::{copied, whole};
-use crate::making::{from, then};
-use crate::{Action, Change, Code, Entry, ScopeAt};
+use crate::{Action, Change, Code, Entry, Op, ScopeAt};
 use cfg_graph::{Operand, Stmt};
 use mir_base::{NoMemory, NodeId};
 use pattern_lower::Binding;
@@ -15,25 +14,26 @@ use std::alloc::Global;
 use typed_tree::Use;
 
 /// What a name takes, stored under its key.
-fn takes(alloc: Global, binding: &Binding) -> Result<Code, NoMemory>
-    ensures { IfOk result (λ made. code_of made ≡ forms.takes (bound_of binding.now)) }
+fn takes(alloc: Global, binding: &Binding, code: &mut Code) -> Result<(), NoMemory>
+    ensures { OnOk result (ops_of code.new ≡ onto (forms.takes (bound_of binding.now)) (ops_of code.old)) }
 {
     let part = copied(alloc, &binding.from)?;
     let part = match binding.by {
         Use::Move => Operand::Moved(part),
         _ => Operand::Copied(part),
     };
-    Ok(Code::Acts {
+    let action = Action::Stmt(Stmt::Put(whole(alloc, binding.key), part));
+    code.push(Op::Acts {
         node: NodeId(binding.key.0),
-        action: Action::Stmt(Stmt::Put(whole(alloc, binding.key), part)),
+        action,
     })
 }
 
-/// The names of a pattern in order, each an entry as soon as it holds its part.
-pub fn bind(alloc: Global, at: ScopeAt, bindings: &[Binding]) -> Result<Code, NoMemory>
-    ensures { IfOk result (λ made. code_of made ≡ forms.bind (at_of at) (map bound_of bindings.now)) }
+/// Behind what names take, each is an entry from there on.
+pub fn entered(at: ScopeAt, bindings: &[Binding], code: &mut Code) -> Result<(), NoMemory>
+    ensures { OnOk result (ops_of code.new ≡ entered_onto (at_of at) (map bound_of bindings.now) (ops_of code.old)) }
 {
-    let mut code = Code::Nothing;
+    code.push(Op::Nothing)?;
     let mut left = bindings.len();
     while left > 0 {
         left -= 1;
@@ -42,8 +42,23 @@ pub fn bind(alloc: Global, at: ScopeAt, bindings: &[Binding]) -> Result<Code, No
             key: binding.key,
             ty: binding.ty,
         };
-        code = from(alloc, Change::Enters(at, entry), code)?;
-        code = then(alloc, takes(alloc, binding)?, code)?;
+        code.push(Op::From(Change::Enters(at, entry)))?;
+        code.push(Op::Then)?;
     }
-    Ok(code)
+    Ok(())
+}
+
+/// The names of a pattern in order, each an entry as soon as it holds its part.
+pub fn bind(
+    alloc: Global,
+    at: ScopeAt,
+    bindings: &[Binding],
+    code: &mut Code,
+) -> Result<(), NoMemory>
+    ensures { OnOk result (ops_of code.new ≡ onto (forms.bind (at_of at) (map bound_of bindings.now)) (ops_of code.old)) }
+{
+    for binding in bindings {
+        takes(alloc, binding, code)?;
+    }
+    entered(at, bindings, code)
 }

@@ -1,19 +1,19 @@
-//! The rules of evaluation that need no recursion, over the code of parts.
-ghost use Rattle.std.specs.Prelude.{◌≡◌, ℕ, IfOk, map};
+//! Destinations, entries and operands of nodes.
+ghost use Rattle.std.specs.Prelude.{◌≡◌, ℕ, OnOk};
 ghost use Rattle.cfg_meaning.specs.Actions.{operand_of};
 ghost use Rattle.src_meaning.specs.Evaluation.{to_own_key};
 ghost use Rattle.src_meaning.specs.Forms as source;
 ghost use Rattle.src_meaning.specs.Forms.{coerced, is_never, moved};
 ghost use Rattle.src_meaning.specs.Shape.{head};
-ghost use Rattle.scope_code.specs.Code as plain;
 ghost use Rattle.scope_code.specs.Forms as forms;
-ghost use Rattle.scope_code.specs.View.{code_of, entry_of, destination_of};
+ghost use Rattle.scope_code.specs.Ops.{onto};
+ghost use Rattle.scope_code.specs.View.{ops_of, entry_of, destination_of};
 
 use crate::around::whole;
-use crate::making::{delivers, from, in_scope, key_in, then};
-use crate::{Action, Change, Code, Destination, Entry};
+use crate::making::{delivers, key_in};
+use crate::{Action, Code, Destination, Entry};
 use cfg_graph::{Operand, Stmt};
-use mir_base::{Key, List, NoMemory, NodeId};
+use mir_base::{Key, NoMemory, NodeId};
 use mir_ty::{Items, Ty, TyId};
 use std::alloc::Global;
 use typed_tree::Node;
@@ -66,27 +66,10 @@ pub fn moved_from(alloc: Global, key: NodeId) -> Operand
     Operand::Moved(whole(alloc, Key(key.0)))
 }
 
-/// Operands are made and taken, and then comes what a node does with them.
-pub fn acting(
-    alloc: Global,
-    id: NodeId,
-    own: bool,
-    operands: Code,
-    keys: List<Key>,
-    code: Code,
-) -> Result<Code, NoMemory>
-    ensures { IfOk result (λ made. code_of made ≡ plain.InScope id.0 own
-        (plain.Then (code_of operands) (plain.From (plain.Takes (map (λ key. key.0) keys)) (code_of code)))) }
-{
-    let code = from(alloc, Change::Takes(keys), code)?;
-    let code = then(alloc, operands, code)?;
-    in_scope(alloc, id, own, code)
-}
-
 /// `()` goes to the destination of a node.
-pub fn put_unit(alloc: Global, id: NodeId, to: Destination) -> Result<Code, NoMemory>
-    ensures { IfOk result (λ made. code_of made ≡ forms.put_unit id.0 (destination_of to)) }
+pub fn put_unit(alloc: Global, id: NodeId, to: Destination, code: &mut Code) -> Result<(), NoMemory>
+    ensures { OnOk result (ops_of code.new ≡ onto (forms.put_unit id.0 (destination_of to)) (ops_of code.old)) }
 {
     let action = Action::Stmt(Stmt::Put(whole(alloc, key_in(to)), Operand::Unit));
-    delivers(alloc, id, id, action, to)
+    delivers(alloc, id, id, action, to, code)
 }

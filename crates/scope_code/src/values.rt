@@ -1,5 +1,5 @@
-//! The rules of evaluation of values, places and jumps, over the code of parts.
-ghost use Rattle.std.specs.Prelude.{◌≡◌, IfOk};
+//! The rules of evaluation of values, places and jumps.
+ghost use Rattle.std.specs.Prelude.{◌≡◌, ◌∷◌, OnOk};
 ghost use Rattle.cfg_graph.specs.Places.{named};
 ghost use Rattle.cfg_meaning.specs.Actions.{operand_of};
 ghost use Rattle.store_model.specs.Effects as effects;
@@ -8,13 +8,15 @@ ghost use Rattle.src_meaning.specs.Shape.{head, shape, operand_at};
 ghost use Rattle.typed_tree.specs.View.{tree_of};
 ghost use Rattle.scope_code.specs.Code as plain;
 ghost use Rattle.scope_code.specs.Forms as forms;
-ghost use Rattle.scope_code.specs.View.{code_of, effect_of, destination_of, exit_of};
+ghost use Rattle.scope_code.specs.Ops as ops;
+ghost use Rattle.scope_code.specs.Ops.{onto, own_scope_onto, made_entry_onto};
+ghost use Rattle.scope_code.specs.View.{ops_of, effect_of, destination_of, exit_of};
 
-use crate::around::whole;
-use crate::making::{delivers, in_own_scope, key_in, made_entry, then};
+use crate::context::{Context, result_place};
+use crate::making::{delivers, in_own_scope, made_entry};
 use crate::parts::{entry_at, put_unit};
 use crate::placing::is_made_in_destination;
-use crate::{Action, Code, Destination, Exit, ScopeAt};
+use crate::{Action, Code, Destination, Exit, Op, ScopeAt};
 use cfg_graph::{Operand, Place, Stmt};
 use mir_base::{NoMemory, NodeId};
 use mir_ty::Items;
@@ -22,43 +24,33 @@ use std::alloc::Global;
 use typed_tree::{Node, Use};
 
 /// An effect of a node, in a scope of its own or not.
-pub fn effect(
-    alloc: Global,
-    id: NodeId,
-    own: bool,
-    action: Action,
-    to: Destination,
-) -> Result<Code, NoMemory>
-    ensures { IfOk result (λ made. code_of made ≡
-        forms.in_own_scope id.0 own (forms.delivers id.0 id.0 (effect_of id.0 action) (destination_of to))) }
+pub fn effect(alloc: Global, at: Context, action: Action, code: &mut Code) -> Result<(), NoMemory>
+    ensures { OnOk result (ops_of code.new ≡ own_scope_onto at.entry.head.id.0 at.entry.own
+        (onto (forms.delivers at.entry.head.id.0 at.entry.head.id.0 (effect_of at.entry.head.id.0 action) (destination_of at.entry.to))
+        (ops_of code.old))) }
 {
-    let code = delivers(alloc, id, id, action, to)?;
-    in_own_scope(alloc, id, own, code)
+    delivers(alloc, at.head.id, at.head.id, action, at.to, code)?;
+    in_own_scope(at.head.id, at.own, code)
 }
 
 /// A value without operands goes to the destination.
-pub fn leaf(
-    alloc: Global,
-    id: NodeId,
-    own: bool,
-    value: Operand,
-    to: Destination,
-) -> Result<Code, NoMemory>
-    ensures { IfOk result (λ made. code_of made ≡ forms.in_own_scope id.0 own
-        (forms.deliver id.0 (λ site. effects.Put site (operand_of id.0 value)) (destination_of to))) }
+pub fn leaf(alloc: Global, at: Context, value: Operand, code: &mut Code) -> Result<(), NoMemory>
+    ensures { OnOk result (ops_of code.new ≡ own_scope_onto at.entry.head.id.0 at.entry.own
+        (onto (forms.deliver at.entry.head.id.0 (λ site. effects.Put site (operand_of at.entry.head.id.0 value)) (destination_of at.entry.to))
+        (ops_of code.old))) }
 {
-    let action = Action::Stmt(Stmt::Put(whole(alloc, key_in(to)), value));
-    effect(alloc, id, own, action, to)
+    let action = Action::Stmt(Stmt::Put(result_place(alloc, at.to), value));
+    effect(alloc, at, action, code)
 }
 
-/// A node made as an operand: an entry of the innermost scope.
-pub fn as_operand(alloc: Global, items: &Items, node: &Node, code: Code) -> Result<Code, NoMemory>
-    ensures { IfOk result (λ made. code_of made ≡
-        forms.made_entry (shape items.now (tree_of node.now)).in_destination plain.Innermost
-        (source.entry_of (head node.now.id.0 node.now.ty node.now.by)) (code_of code)) }
+/// What a node made is an entry of the innermost scope.
+pub fn as_operand(items: &Items, node: &Node, code: &mut Code) -> Result<(), NoMemory>
+    ensures { OnOk result (ops_of code.new ≡
+        made_entry_onto (shape items.now (tree_of node.now)).in_destination plain.Innermost
+        (source.entry_of (head node.now.id.0 node.now.ty node.now.by)) (ops_of code.old)) }
 {
     let pends = is_made_in_destination(items, node);
-    made_entry(alloc, pends, ScopeAt::Innermost, entry_at(node), code)
+    made_entry(pends, ScopeAt::Innermost, entry_at(node), code)
 }
 
 /// An action, and `()` behind it.
@@ -67,11 +59,14 @@ pub fn unit_after(
     id: NodeId,
     action: Action,
     to: Destination,
-) -> Result<Code, NoMemory>
-    ensures { IfOk result (λ made. code_of made ≡ forms.unit_after id.0 (effect_of id.0 action) (destination_of to)) }
+    code: &mut Code,
+) -> Result<(), NoMemory>
+    ensures { OnOk result (ops_of code.new ≡
+        onto (forms.unit_after id.0 (effect_of id.0 action) (destination_of to)) (ops_of code.old)) }
 {
-    let acts = Code::Acts { node: id, action };
-    then(alloc, acts, put_unit(alloc, id, to)?)
+    code.push(Op::Acts { node: id, action })?;
+    put_unit(alloc, id, to, code)?;
+    code.push(Op::Then)
 }
 
 /// How a node uses its place: its value is moved out, or copied.
@@ -85,42 +80,43 @@ pub fn operand_from(node: &Node, place: Place) -> Operand
     }
 }
 
-/// A place that has been reached, and the use of its value.
+/// The value of a place that has been reached is used.
 pub fn use_of_place(
     alloc: Global,
     node: &Node,
     own: bool,
     to: Destination,
-    reached: Code,
     place: Place,
-) -> Result<Code, NoMemory>
-    ensures { IfOk result (λ made. code_of made ≡ forms.in_own_scope node.now.id.0 own
-        (plain.Then (code_of reached) (forms.deliver node.now.id.0
-        (λ site. effects.Put site (operand_at (head node.now.id.0 node.now.ty node.now.by) (named place))) (destination_of to)))) }
+    code: &mut Code,
+) -> Result<(), NoMemory>
+    ensures { OnOk result (ops_of code.new ≡ own_scope_onto node.now.id.0 own
+        (ops.Then ∷ onto (forms.deliver node.now.id.0
+        (λ site. effects.Put site (operand_at (head node.now.id.0 node.now.ty node.now.by) (named place))) (destination_of to))
+        (ops_of code.old))) }
 {
-    let action = Action::Stmt(Stmt::Put(whole(alloc, key_in(to)), operand_from(node, place)));
-    let put = delivers(alloc, node.id, node.id, action, to)?;
-    let code = then(alloc, reached, put)?;
-    in_own_scope(alloc, node.id, own, code)
+    let stmt = Stmt::Put(result_place(alloc, to), operand_from(node, place));
+    delivers(alloc, node.id, node.id, Action::Stmt(stmt), to, code)?;
+    code.push(Op::Then)?;
+    in_own_scope(node.id, own, code)
 }
 
 /// A jump behind what it gives.
-pub fn jump(alloc: Global, id: NodeId, exit: Exit, code: Code) -> Result<Code, NoMemory>
-    ensures { IfOk result (λ made. code_of made ≡ plain.Then (code_of code) (plain.Exits id.0 (exit_of exit))) }
+pub fn jump(id: NodeId, exit: Exit, code: &mut Code) -> Result<(), NoMemory>
+    ensures { OnOk result (ops_of code.new ≡ ops.Then ∷ ops.Exits id.0 (exit_of exit) ∷ ops_of code.old) }
 {
-    then(alloc, code, Code::Exits { node: id, exit })
+    code.push(Op::Exits { node: id, exit })?;
+    code.push(Op::Then)
 }
 
 /// A place is read as a whole, if it is one.
-pub fn touched(is_place: bool, node: NodeId, place: Place) -> Code
-    ensures { code_of result ≡ forms.touched is_place (record { node = node.0; place = named place }) }
+pub fn touched(is_place: bool, node: NodeId, place: Place, code: &mut Code) -> Result<(), NoMemory>
+    ensures { OnOk result (ops_of code.new ≡
+        onto (forms.touched is_place (record { node = node.0; place = named place })) (ops_of code.old)) }
 {
     if is_place {
-        Code::Acts {
-            node,
-            action: Action::Stmt(Stmt::Touch(place)),
-        }
+        let action = Action::Stmt(Stmt::Touch(place));
+        code.push(Op::Acts { node, action })
     } else {
-        Code::Nothing
+        code.push(Op::Nothing)
     }
 }

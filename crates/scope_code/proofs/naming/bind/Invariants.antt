@@ -1,12 +1,10 @@
-use Rattle.std.proofs.Common.{◌≡◌, ◌≤◌, map, drop, length}
+use Rattle.std.proofs.Common.{◌≡◌, map, drop}
 use Rattle.pattern_lower.specs.Seen.{bound_of}
-use Rattle.scope_code.specs.Forms.{bind}
-use Rattle.scope_code.specs.View.{code_of, at_of}
+use Rattle.scope_code.specs.View.{ops_of}
+use Rattle.scope_code.proofs.Following.{taken_onto}
 use Rattle.scope_code.proofs.naming.bind.Given as goal
 
-abbrev pub invariant-loop-left : goal.invariant-loop-left
-invariant-loop-left l =
-    (l.left ≤ length l.bindings) × (code_of l.code ≡ bind (at_of l.at) (map bound_of (drop l.left l.bindings)))
-
-abbrev pub decreases-loop-left : goal.decreases-loop-left
-decreases-loop-left l = l.left
+abbrev pub invariant-loop-binding : goal.invariant-loop-binding
+invariant-loop-binding l =
+    taken_onto (map bound_of (drop l.binding-index l.bindings)) (ops_of l.code)
+    ≡ taken_onto (map bound_of l.bindings) (ops_of l.fn.code)

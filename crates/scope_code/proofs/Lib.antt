@@ -1,0 +1,4 @@
+mod Following
+mod Nodes
+mod Ordered
+mod Wanting

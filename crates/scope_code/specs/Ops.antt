@@ -1,0 +1,100 @@
+-- Code in postfix order: what it is made of stands before it. So it can be built, and read from its end, without a tree.
+use Rattle.std.specs.Prelude.{ℕ, zero, suc, Bool, true, false, List, [], ◌∷◌, Option, Some, None}
+use Rattle.mir_base.specs.declared.trace.Why.{Why}
+use Rattle.store_model.specs.Effects.{Site, Action}
+use Rattle.src_meaning.specs.Scopes.{Entry, Exit}
+use Rattle.src_meaning.specs.Shape.{PatternTests, Bound}
+use Rattle.scope_code.specs.Code as code
+use Rattle.src_meaning.specs.Forms.{bound_entry}
+use Rattle.src_meaning.specs.Locals.OfBody.{param_key}
+use Rattle.typed_tree.specs.Tree.{ParamTree}
+use Rattle.scope_code.specs.Code.{ScopeAt, Innermost, Change, Pends, Completes, Enters, Takes, Condition, Code, Arms, no_arm, an_arm, Arm, Taken, Empty, Guard, no_guard, a_guard}
+
+-- one word of it; an arm has the key of its guard
+pub data Op : Type 0 where
+  Nothing : Op
+  Changes : (change : Change) → Op
+  From : (change : Change) → Op
+  Then : Op
+  BackIn : Op
+  Acts : (node : ℕ) (action : Action) → Op
+  InScope : (node : ℕ) (for_temporaries : Bool) → Op
+  Leaves : Op
+  Branches : (node : ℕ) (on : Condition) → Op
+  Loops : (id : ℕ) → Op
+  Exits : (node : ℕ) (exit : Exit) → Op
+  Panics : (node : ℕ) (why : Why) → Op
+  Replaces : (site : Site) (key : ℕ) → Op
+  Drops : (key : ℕ) → Op
+  BeforeArms : Op
+  IsArm : (tests : PatternTests) (guard : Option ℕ) → Op
+  EmptyArm : Op
+  Matches : (node : ℕ) → Op
+
+abbrev pub guard_key : Guard → Option ℕ
+guard_key no_guard = None
+guard_key (a_guard key code) = Some key
+
+abbrev mutual
+  -- code behind what stands before it; the last word comes first
+  pub onto : Code → List Op → List Op
+  onto code.Nothing before = Nothing ∷ before
+  onto (code.Changes change) before = Changes change ∷ before
+  onto (code.From change inner) before = From change ∷ onto inner before
+  onto (code.Then one another) before = Then ∷ onto another (onto one before)
+  onto (code.BackIn inner) before = BackIn ∷ onto inner before
+  onto (code.Acts node action) before = Acts node action ∷ before
+  onto (code.InScope node for_temporaries inner) before = InScope node for_temporaries ∷ onto inner before
+  onto code.Leaves before = Leaves ∷ before
+  onto (code.Branches node on held otherwise) before = Branches node on ∷ onto otherwise (onto held before)
+  onto (code.Loops id turn) before = Loops id ∷ onto turn before
+  onto (code.Exits node exit) before = Exits node exit ∷ before
+  onto (code.Panics node why) before = Panics node why ∷ before
+  onto (code.Replaces site key) before = Replaces site key ∷ before
+  onto (code.Drops key) before = Drops key ∷ before
+  onto (code.Matches node arms) before = Matches node ∷ arms_onto arms (BeforeArms ∷ before)
+
+  pub arms_onto : Arms → List Op → List Op
+  arms_onto no_arm before = before
+  arms_onto (an_arm first rest) before = arms_onto rest (arm_onto first before)
+
+  pub arm_onto : Arm → List Op → List Op
+  arm_onto (Taken tests guard inner) before = IsArm tests (guard_key guard) ∷ onto inner (guard_onto guard before)
+  arm_onto Empty before = EmptyArm ∷ before
+
+  pub guard_onto : Guard → List Op → List Op
+  guard_onto no_guard before = before
+  guard_onto (a_guard key inner) before = onto inner before
+
+-- as many times one thing behind another
+abbrev pub thens : ℕ → List Op → List Op
+thens zero before = before
+thens (suc n) before = Then ∷ thens n before
+
+-- Words behind others that say how these are taken.
+
+abbrev pub own_scope_onto : ℕ → Bool → List Op → List Op
+own_scope_onto id true before = InScope id true ∷ before
+own_scope_onto id false before = before
+
+abbrev pub pending_onto : Bool → ScopeAt → Entry → List Op → List Op
+pending_onto true at e before = From (Pends at e) ∷ before
+pending_onto false at e before = before
+
+abbrev pub made_entry_onto : Bool → ScopeAt → Entry → List Op → List Op
+made_entry_onto pends at e before = pending_onto pends at e (Then ∷ Changes (Completes at e) ∷ before)
+
+-- operands are taken before what their node does with them
+abbrev pub operated_onto : ℕ → Bool → List ℕ → List Op → List Op
+operated_onto id own keys before = InScope id own ∷ Then ∷ From (Takes keys) ∷ before
+
+-- names that are entries each from where it takes its part
+abbrev pub entered_onto : ScopeAt → List Bound → List Op → List Op
+entered_onto at [] before = Nothing ∷ before
+entered_onto at (b ∷ bounds) before = Then ∷ From (Enters at (bound_entry b)) ∷ entered_onto at bounds before
+
+-- parameters that are entries each from before its names
+abbrev pub params_onto : List ParamTree → List Op → List Op
+params_onto [] before = Nothing ∷ before
+params_onto (param ∷ params) before =
+    From (Enters Innermost (record { key = param_key param; ty = param.ty })) ∷ Then ∷ params_onto params before
