@@ -141,10 +141,10 @@ module _ (items : ItemTable) where
 
 -- In a run.
 
-same_number : (n : ℕ) → (n == n) ≡ true
+pub same_number : (n : ℕ) → (n == n) ≡ true
 same_number n = (Decides-eqb n n).1 refl
 
-cell_stored : (key : ℕ) (value : Datum) (cells : Cells) → cell key (with_cell key value cells) ≡ value
+pub cell_stored : (key : ℕ) (value : Datum) (cells : Cells) → cell key (with_cell key value cells) ≡ value
 cell_stored key value [] = rw (same_number key) refl
 cell_stored key value (c ∷ cells) = go (cell_stored key value cells) (key == c.0) refl
   where
@@ -152,7 +152,7 @@ cell_stored key value (c ∷ cells) = go (cell_stored key value cells) (key == c
     go ih true e = rw (e, same_number key) refl
     go ih false e = rw (e, e) ih
 
-as_many : (depth key : ℕ) (value : Datum) (acts : List Activation) → length (with_cell_at depth key value acts) ≡ length acts
+pub as_many : (depth key : ℕ) (value : Datum) (acts : List Activation) → length (with_cell_at depth key value acts) ≡ length acts
 as_many depth key value [] = refl
 as_many depth key value (a ∷ older) = go (as_many depth key value older) (depth == length older) refl
   where
@@ -160,7 +160,7 @@ as_many depth key value (a ∷ older) = go (as_many depth key value older) (dept
     go ih true e = rw e refl
     go ih false e = rw e (ap suc ih)
 
-stored_in : (depth key : ℕ) (value : Datum) (acts : List Activation) (a : Activation) → at_depth depth acts ≡ Some a →
+pub stored_in : (depth key : ℕ) (value : Datum) (acts : List Activation) (a : Activation) → at_depth depth acts ≡ Some a →
     at_depth depth (with_cell_at depth key value acts) ≡ Some (record a { cells = with_cell key value a.cells })
 stored_in depth key value [] a is = absurd (cc)
 stored_in depth key value (b ∷ older) a is = go (stored_in depth key value older a) (depth == length older) refl

@@ -39,12 +39,12 @@ halts_through true halt w = refl
 halts_through false halt w = refl
 
 -- an aggregate of which a part before a number was replaced
-record PartReplaced (next k : ℕ) (below : List At) (new : Datum) (variant : ℕ) (serial : Option ℕ) (now : Data) : Type 0 where
+pub record PartReplaced (next k : ℕ) (below : List At) (new : Datum) (variant : ℕ) (serial : Option ℕ) (now : Data) : Type 0 where
   pub later : Data
   pub is : replaced (Part k ∷ below) new (Aggregate variant serial now) ≡ Aggregate variant serial later
   pub same : from_part next later ≡ from_part next now
 
-part_replaced : (next k : ℕ) (below : List At) (new : Datum) (variant : ℕ) (serial : Option ℕ) (now : Data) → k < next → PartReplaced next k below new variant serial now
+pub part_replaced : (next k : ℕ) (below : List At) (new : Datum) (variant : ℕ) (serial : Option ℕ) (now : Data) → k < next → PartReplaced next k below new variant serial now
 part_replaced next k below new variant serial now l = go (part_at k now) refl
   where
     go : (o : Option Datum) → part_at k now ≡ o → PartReplaced next k below new variant serial now

@@ -8,6 +8,8 @@ use Rattle.drop_glue.specs.declared.reading.Kind.{Kind}
 use Rattle.drop_glue.specs.declared.reading.OwnDrop.{OwnDrop}
 use Rattle.drop_glue.specs.Left.{Level, PartsOf, ContentOf, own_impl, type_of_number, expected_if, is_still, is_expected, told_serial, finished, found_as, HasLeft, LeavesLeft, GoesLeft, ClearsLeft, VisitsLeft, ReadLeft, AwaitsLeft, EntersLeft, Again}
 use Rattle.drop_glue.specs.Reading.{ShowsValue, FindsIt, IsFound, pair_of}
+use Rattle.drop_glue.specs.Swept.{SweptAt}
+use Rattle.drop_glue.proofs.SweptValues.{read_swept}
 use Rattle.drop_glue.specs.Turns.{level_of, within, levels_of, mode_by, stage_by, TurnLeft, IsOf, GoesOn, Begins, GoesOnPart, IsContainer, enters_of, expected_by, left_if, Clears, Frees, IsDropOf}
 use Rattle.drop_glue.proofs.Below.{into_is, into_untyped, stands_at}
 use Rattle.drop_glue.proofs.DropSteps.{still_is, clear_goes, clear_halts, free_goes, free_halts, leave_ends, leave_goes, leave_has_step, go_content, go_end, go_untyped, go_part, visit_nothing, visit_unexpected, visit_reads, read_gone, read_plain, read_parts, read_enters, read_box_untyped, read_box, await_returns, await_unwinds, await_aborts}
@@ -231,6 +233,14 @@ module _ (setting : Setting) (run : Bodies) (w : State) (out : Out State) (drops
       ReadLeft setting run depth key (levels_of drops.levels) w drops.address.path (mode_by drops.unwinds) drops.panicked out (stage_by has_run) s
   visited_reads s e f =
       visit_reads setting run depth key (levels_of drops.levels) (mode_by drops.unwinds) drops.panicked out w drops.address.path (stage_by has_run) (option_map dynamic_of expected) h s e f
+
+  -- what is swept leaves the address
+  pub visited_swept : (v : State) → SweptAt setting drops.address w v → ((s : Located) → located_at setting w drops.address ≡ Some s → is_expected setting.items (option_map dynamic_of expected) s.dynamic ≡ true) →
+      TurnLeft setting run v out drops Turn.Leaves
+  visited_swept v swept is =
+      subst (λ v. TurnLeft setting run v out drops Turn.Leaves) (sym swept.is)
+      (read_swept setting run depth key (mode_by drops.unwinds) drops.panicked out (levels_of drops.levels) w drops.address.path (stage_by has_run) swept.s swept.there swept.swept swept.of_parts
+      (visited_reads swept.s swept.there (is swept.s swept.there)))
 
 -- What clears and frees.
 

@@ -6,6 +6,7 @@ mod around;
 mod drops;
 mod level;
 mod reading;
+mod sweeping;
 mod turns;
 
 pub use drops::{Drops, Turn};
