@@ -3,3 +3,4 @@ pub mod Laws
 pub mod Left
 pub mod Runs
 pub mod Tasks
+pub mod Ways

@@ -240,8 +240,8 @@ abbrev pub DoesStmts : List Stmt → World → Outcome → World → Type 0
 DoesStmts stmts old outcome new =
     (run : Bodies) (fuel : ℕ) (name : Halt → Halt) (rest : State → Out State) (before : Trace) →
     StmtsEnd name rest
-    (stmts_do (naming name (concrete_effects (run_setting old) run fuel)) (λ line. 0) 0 stmts rest (state_of before old))
-    outcome (state_of before new)
+    (stmts_do (naming name (concrete_effects (run_setting old) run fuel)) (λ line. 0) 0 stmts rest
+    (state_of before old)) outcome (state_of before new)
 
 -- the body of a trait's method by the row of the trait object that an argument names
 abbrev pub row_of_object : ItemTable → ℕ → ℕ → DynamicType → Option ℕ

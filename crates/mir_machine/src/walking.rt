@@ -4,6 +4,7 @@ ghost use Rattle.cfg_graph.specs.declared.graph.Graph.{Graph as a_graph};
 ghost use Rattle.cfg_graph.specs.declared.terminator.Term.{Term as a_term};
 ghost use Rattle.mir_base.specs.Trace.{Trace};
 ghost use Rattle.mir_machine.specs.Tasks.{AtBlock, AtTerm, BeginsSo, DoesStmts, Keeps, Next, TakesResult, chosen_doing, target_of};
+ghost use Rattle.mir_machine.specs.Ways.{post_of, ways_of};
 ghost use Rattle.mir_machine.specs.declared.tasks.Task.{Task as a_task};
 ghost use Rattle.mir_steps.specs.Worlds.{state_of, run_setting};
 ghost use Rattle.mir_steps.specs.declared.actions.Outcome.{Outcome as an_outcome};
@@ -215,6 +216,35 @@ fn resume(world: &mut World<'_>, number: u32, block: u32) -> Result<Doing, NoMem
     Ok(Doing::Unwound)
 }
 
+/// The block in which a body goes on after its terminator, and where a panic of it goes on.
+fn ways(term: &Term) -> (u32, Unwind)
+    ensures { result ≡ ways_of term.now }
+{
+    match term {
+        Term::Math { then, unwind, .. }
+        | Term::Negate { then, unwind, .. }
+        | Term::Bounds { then, unwind, .. }
+        | Term::Call { then, unwind, .. }
+        | Term::Virtual { then, unwind, .. }
+        | Term::Ask { then, unwind, .. }
+        | Term::DropAt { then, unwind, .. } => (*then, *unwind),
+        _ => (0, Unwind::Resume),
+    }
+}
+
+/// A block that waits for what its terminator does.
+fn post_at(number: u32, block: u32, term: &Term) -> Post
+    ensures { result ≡ post_of number block term.now }
+{
+    let (onward, unwind) = ways(term);
+    Post {
+        number,
+        block,
+        onward,
+        unwind,
+    }
+}
+
 /// Does what the terminator of a block does.
 fn terminate(
     alloc: Global,
@@ -228,6 +258,7 @@ fn terminate(
     ensures { IfOk result (λ doing. Keeps graph.now world.old world.new
         (AtTerm graph.now tasks.old number block term.now) (Next graph.now tasks.new doing)) }
 {
+    let post = post_at(number, block, term);
     match term {
         Term::Goto(to) => Ok(Doing::Walks { number, block: *to }),
         Term::If { on, yes, no } => branch_if(alloc, world, number, block, on, *yes, *no),
@@ -242,96 +273,30 @@ fn terminate(
             op,
             left,
             right,
-            then,
-            unwind,
-        } => compute(
-            alloc,
-            world,
-            post_at(number, block, *then, *unwind),
-            to,
-            *op,
-            left,
-            right,
-        ),
-        Term::Negate {
-            to,
-            of,
-            then,
-            unwind,
-        } => negate(alloc, world, post_at(number, block, *then, *unwind), to, of),
-        Term::Bounds {
-            index,
-            length,
-            then,
-            unwind,
-        } => check_index(
-            alloc,
-            world,
-            post_at(number, block, *then, *unwind),
-            index,
-            *length,
-        ),
-        Term::Call {
-            to,
-            body,
-            args,
-            then,
-            unwind,
-        } => call(
-            alloc,
-            graph,
-            world,
-            tasks,
-            post_at(number, block, *then, *unwind),
-            to,
-            *body,
-            args.as_slice(),
-        ),
+            ..
+        } => compute(alloc, world, post, to, *op, left, right),
+        Term::Negate { to, of, .. } => negate(alloc, world, post, to, of),
+        Term::Bounds { index, length, .. } => check_index(alloc, world, post, index, *length),
+        Term::Call { to, body, args, .. } => {
+            call(alloc, graph, world, tasks, post, to, *body, args.as_slice())
+        }
         Term::Virtual {
             to,
             trait_no,
             method,
             args,
-            then,
-            unwind,
-        } => call_virtual(
-            alloc,
-            graph,
-            world,
-            tasks,
-            post_at(number, block, *then, *unwind),
-            to,
-            *trait_no,
-            *method,
-            args.as_slice(),
-        ),
-        Term::Ask { to, then, unwind } => {
-            ask(alloc, world, post_at(number, block, *then, *unwind), to)
+            ..
+        } => {
+            let args = args.as_slice();
+            call_virtual(
+                alloc, graph, world, tasks, post, to, *trait_no, *method, args,
+            )
         }
-        Term::DropAt {
-            place,
-            then,
-            unwind,
-        } => drop_place(alloc, world, post_at(number, block, *then, *unwind), place),
+        Term::Ask { to, .. } => ask(alloc, world, post, to),
+        Term::DropAt { place, .. } => drop_place(alloc, world, post, place),
         Term::Panic { why, unwind } => panic(world, number, block, *why, *unwind),
         Term::Return => give(alloc, world, number, block),
         Term::Resume => resume(world, number, block),
-    }
-}
-
-fn post_at(number: u32, block: u32, onward: u32, unwind: Unwind) -> Post
-    ensures { result ≡ record {
-      number = number;
-      block = block;
-      onward = onward;
-      unwind = unwind;
-    } }
-{
-    Post {
-        number,
-        block,
-        onward,
-        unwind,
     }
 }
 
