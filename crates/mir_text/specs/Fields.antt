@@ -1,5 +1,5 @@
 -- The numbers of a graph are such as their fields hold: 32 bits, and for constants a sign and 127.
-use Rattle.std.specs.Prelude.{ℕ, ◌<◌, ◌≤◌, ◌^◌, All, ⊤, IfSome, nat_abs}
+use Rattle.std.specs.Prelude.{ℕ, ◌<◌, ◌^◌, All, ⊤, IfSome, ℤ, pos, negsuc}
 use Rattle.mir_ty.specs.declared.ty.Ty.{Ty}
 use Rattle.mir_ty.specs.ItemTable.{ItemTable}
 use Rattle.cfg_graph.specs.declared.place.Operand.{Operand}
@@ -24,10 +24,14 @@ StepFits (Step.Index local) = Fits local
 abbrev pub PlaceFits : Place → Type 0
 PlaceFits place = Fits place.local × All StepFits place.steps
 
+abbrev pub ConstantFits : ℤ → Type 0
+ConstantFits (pos n) = n < 2 ^ 127
+ConstantFits (negsuc n) = n < 2 ^ 127
+
 abbrev pub OperandFits : Operand → Type 0
 OperandFits (Operand.Copied place) = PlaceFits place
 OperandFits (Operand.Moved place) = PlaceFits place
-OperandFits (Operand.Number value kind) = nat_abs value ≤ 2 ^ 127
+OperandFits (Operand.Number value kind) = ConstantFits value
 OperandFits (Operand.Truth value) = ⊤
 OperandFits Operand.Unit = ⊤
 

@@ -5,4 +5,5 @@ pub mod Lines
 pub mod Lists
 pub mod Listing
 pub mod Parts
+pub mod Reading
 pub mod Types

@@ -7,29 +7,8 @@ use Rattle.std.specs.Str.Parse.{AllDigits, digits_value}
 use Rattle.std.proofs.lemmas.Fmt.{decimal_is_IsNumeral_wide}
 use Rattle.std.proofs.lemmas.Str.Parse.{digit_from_value}
 use Rattle.std.proofs.lemmas.Bool.{and_parts, and_from, false≢true}
-
--- what a reader answers: what it found, and what is behind it
-abbrev pub Found : Type 0 → Type 0
-Found X = Option (X × List ℕ)
-
-abbrev pub bind : {X Y : Type 0} → Option X → (X → Option Y) → Option Y
-bind None go = None
-bind (Some x) go = go x
-
-abbrev pub or_else : {X : Type 0} → Option X → Option X → Option X
-or_else None other = other
-or_else (Some x) other = Some x
-
--- behind a word
-abbrev pub strip : List ℕ → List ℕ → Option (List ℕ)
-strip [] t = Some t
-strip (a ∷ more) [] = None
-strip (a ∷ more) (b ∷ bs) = if nat_eq a b then strip more bs else None
-
--- the longest beginning of bytes that pass
-abbrev pub span : (ℕ → Bool) → List ℕ → List ℕ × List ℕ
-span p [] = ([], [])
-span p (b ∷ bs) = if p b then (b ∷ (span p bs).0, (span p bs).1) else ([], b ∷ bs)
+use Rattle.mir_text.specs.Fields.{Fits, ConstantFits}
+pub use Rattle.mir_text.specs.Reading.Words.{Found, bind, or_else, chosen, as_, strip, said, span, is_digit, limited, valued, number, negative, signed}
 
 abbrev pub stops : (ℕ → Bool) → List ℕ → Bool
 stops p [] = true
@@ -65,9 +44,6 @@ one_of P b (x ∷ xs) all h = by (nat_eq b x) refl (one_of P b xs all.1)
     by true e others = subst P (sym (eqb-true b x e)) all.0
     by false e others = others (subst (λ (t : Bool). (t || list_any (nat_eq b) xs) ≡ true) e h)
 
-abbrev pub is_digit : ℕ → Bool
-is_digit b = nat_lt 47 b && nat_lt b 58
-
 digits_pass : (ds : List ℕ) → AllDigits 10 ds → list_all is_digit ds ≡ true
 digits_pass [] h = refl
 digits_pass (d ∷ ds) h =
@@ -93,40 +69,31 @@ no_decimal c cs n r small h =
     no_digit c cs (decimal n) r h (decimal_digits n small) own.0.0
 
 -- a number, from its digits
-abbrev valued : List ℕ × List ℕ → Found ℕ
-valued ([], r) = None
-valued (d ∷ ds, r) = Some (digits_value 10 (d ∷ ds), r)
+limited_of : (limit n : ℕ) → n < limit → limited limit n ≡ Some n
+limited_of limit n small = rw (lt-ltb n limit small) refl
 
-abbrev pub number : List ℕ → Found ℕ
-number t = valued (span is_digit t)
+valued_of : (limit : ℕ) (ds r : List ℕ) → 0 < length ds → digits_value 10 ds < limit → valued limit (ds, r) ≡ Some (digits_value 10 ds, r)
+valued_of limit [] r some small = absurd (omega arith)
+valued_of limit (d ∷ ds) r some small = ap (λ (o : Option ℕ). bind o (λ n. Some (n, r))) (limited_of limit (digits_value 10 (d ∷ ds)) small)
 
-valued_of : (ds r : List ℕ) → 0 < length ds → valued (ds, r) ≡ Some (digits_value 10 ds, r)
-valued_of [] r some = absurd (omega arith)
-valued_of (d ∷ ds) r some = refl
+valued_reads : (limit n : ℕ) (r : List ℕ) → n < limit → n < 10 ^ 64 → stops is_digit r ≡ true → valued limit (span is_digit (decimal n ++ r)) ≡ Some (n, r)
+valued_reads limit n r small wide s =
+    let own = decimal_is_IsNumeral_wide n wide in
+    ap (valued limit) (span_run is_digit (decimal n) r (decimal_digits n wide) s)
+    ∙ valued_of limit (decimal n) r own.0.0 (subst (λ (k : ℕ). k < limit) (sym own.1) small) ∙ ap (λ (k : ℕ). Some (k, r)) own.1
 
-pub number_reads : (n : ℕ) (r : List ℕ) → n < 10 ^ 64 → stops is_digit r ≡ true → number (decimal n ++ r) ≡ Some (n, r)
-number_reads n r small s =
-    let own = decimal_is_IsNumeral_wide n small in
-    ap valued (span_run is_digit (decimal n) r (decimal_digits n small) s)
-    ∙ valued_of (decimal n) r own.0.0 ∙ ap (λ (k : ℕ). Some (k, r)) own.1
+pub number_reads : (n : ℕ) (r : List ℕ) → Fits n → stops is_digit r ≡ true → number (decimal n ++ r) ≡ Some (n, r)
+number_reads n r small s = valued_reads (2 ^ 32) n r small (omega (arith, small)) s
 
 -- a number with its sign
-abbrev negative : ℕ → ℤ
-negative zero = pos 0
-negative (suc n) = negsuc n
-
-abbrev signed_from : Option (List ℕ) → List ℕ → Found ℤ
-signed_from None t = bind (number t) (λ f. Some (pos f.0, f.1))
-signed_from (Some r) t = bind (number r) (λ f. Some (negative f.0, f.1))
-
-abbrev pub signed : List ℕ → Found ℤ
-signed t = signed_from (strip (codes "-") t) t
-
-pub signed_reads : (z : ℤ) (r : List ℕ) → nat_abs z < 10 ^ 64 → stops is_digit r ≡ true → signed (signed_decimal z ++ r) ≡ Some (z, r)
+pub signed_reads : (z : ℤ) (r : List ℕ) → ConstantFits z → stops is_digit r ≡ true → signed (signed_decimal z ++ r) ≡ Some (z, r)
 signed_reads (pos n) r small s =
-    ap (λ (o : Option (List ℕ)). signed_from o (decimal n ++ r)) (no_decimal 45 [] n r small refl)
-    ∙ ap (λ (f : Found ℕ). bind f (λ f. Some (pos f.0, f.1))) (number_reads n r small s)
-signed_reads (negsuc n) r small s = ap (λ (f : Found ℕ). bind f (λ f. Some (negative f.0, f.1))) (number_reads (suc n) r small s)
+    let wide : n < 10 ^ 64 = omega (arith, small) in
+    ap (λ (o : Option (List ℕ)). chosen o (λ t. as_ negative (valued (2 ^ 127 + 1) (span is_digit t))) (as_ pos (valued (2 ^ 127) (span is_digit (decimal n ++ r)))))
+    (no_decimal 45 [] n r wide refl)
+    ∙ ap (as_ pos) (valued_reads (2 ^ 127) n r small wide s)
+signed_reads (negsuc n) r small s =
+    ap (as_ negative) (valued_reads (2 ^ 127 + 1) (suc n) r (omega (arith, small)) (omega (arith, small)) s)
 
 -- words that are written one after the other, and what is behind them
 pub behind3 : (a b c r : List ℕ) → (a ++ b ++ c) ++ r ≡ a ++ (b ++ (c ++ r))

@@ -22,7 +22,8 @@ use Rattle.mir_text.specs.Types.{trait_name, type_text}
 use Rattle.mir_text.proofs.Reading.Basics.{Found, Every, bind, or_else, strip, span, span_run, is_digit, any_decimal, number, behind3, behind4, behind6}
 use Rattle.mir_text.proofs.Reading.Rows.{EveryFrom, many, many_reads, numbered_reads, flat_counted, none_before}
 use Rattle.mir_text.proofs.Reading.Types.{AreNamed, type_reader, type_reads}
-use Rattle.mir_text.proofs.Reading.Parts.{number_of, said, as_}
+use Rattle.mir_text.specs.Reading.Words.{said, as_}
+use Rattle.mir_text.proofs.Reading.Parts.{number_of}
 use Rattle.mir_text.proofs.Reading.Lines.{ended, stmt_read, term_read, Named, TermNamed, stmt_reads, term_reads, no_stmt}
 
 line_some : (words : List ℕ) → 0 < length (line words)

@@ -21,9 +21,10 @@ use Rattle.mir_text.specs.Items.{types_text, variant_text, copy_text, drop_text,
 use Rattle.mir_text.specs.Lists.{in_braces, joined}
 use Rattle.mir_text.specs.Types.{trait_name, type_text}
 use Rattle.mir_text.proofs.Reading.Basics.{Found, Every, bind, or_else, strip, span, span_run, stops, is_digit, any_decimal, number, behind3, behind4, behind5, behind6}
-use Rattle.mir_text.proofs.Reading.Rows.{many, many_reads, row, row_of_none, row_reads, flat_counted}
-use Rattle.mir_text.proofs.Reading.Types.{AreNamed, closes, type_reader, type_reads, types_read, in_row}
-use Rattle.mir_text.proofs.Reading.Parts.{number_of, said, as_}
+use Rattle.mir_text.proofs.Reading.Rows.{many, many_reads, row, row_of_none, row_reads, flat_counted, in_row}
+use Rattle.mir_text.proofs.Reading.Types.{AreNamed, closes, type_reader, type_reads, types_read}
+use Rattle.mir_text.specs.Reading.Words.{said, as_}
+use Rattle.mir_text.proofs.Reading.Parts.{number_of}
 use Rattle.mir_text.proofs.Reading.Lines.{ended}
 
 -- things in braces

@@ -18,11 +18,12 @@ use Rattle.mir_text.specs.Items.{adt_line, trait_line, impl_line, closure_line, 
 use Rattle.mir_text.specs.Lists.{line}
 use Rattle.mir_text.specs.Listing.{whole_body_text, listing}
 use Rattle.mir_text.specs.Types.{type_text}
+use Rattle.mir_text.specs.Reading.Words.{place_in}
 use Rattle.mir_text.proofs.Reading.Basics.{Found, strip, behind3, behind4}
 use Rattle.mir_text.proofs.Reading.Rows.{EveryFrom, many, flat_counted, none_before}
 use Rattle.mir_text.proofs.Reading.Bodies.{BodyRead, body_read_seen, body_read, bodies_read}
 use Rattle.mir_text.proofs.Reading.Items.{adt_read, adts_read, trait_read, traits_read, impl_read, impls_read, closure_read, closures_read}
-use Rattle.mir_text.proofs.Reading.Listed.{place_in, every_from_by, are_named, good_adts, good_traits, good_impls, good_closures, good_bodies, adt_no, trait_no, adts_told, traits_told, sig_holds}
+use Rattle.mir_text.proofs.Reading.Listed.{every_from_by, are_named, good_adts, good_traits, good_impls, good_closures, good_bodies, adt_no, trait_no, adts_told, traits_told, sig_holds}
 
 none_flat : {X Z : Type 0} (read : List ℕ → Found Z) (text : X → List ℕ) → ((x : X) (t : List ℕ) → read (text x ++ t) ≡ None)
     → (xs : List X) (r : List ℕ) → read r ≡ None → read (flat_map text xs ++ r) ≡ None

@@ -34,6 +34,7 @@ use Rattle.cfg_graph.proofs.NoFaults.{first_empty, second_empty, map_empty, of_e
 use Rattle.mir_text.specs.Compared.{IsListed, AdtSeen, SigSeen, adt_seen, trait_seen}
 use Rattle.mir_text.specs.Fields.{Fits, TyFits, BodyFits, BlockFits, StmtFits}
 use Rattle.mir_text.specs.Types.{trait_name, name_of_trait}
+use Rattle.mir_text.specs.Reading.Words.{place_in}
 use Rattle.mir_text.proofs.Reading.Basics.{Every}
 use Rattle.mir_text.proofs.Reading.Rows.{EveryFrom}
 use Rattle.mir_text.proofs.Reading.Types.{HasNumbers, AreNamed, every_of, name_stands, adt_name_stands, not_true, or_parts}
@@ -64,10 +65,6 @@ found_at (x ∷ xs) zero h = (x, refl)
 found_at (x ∷ xs) (suc n) h = let k : suc n < suc (length xs) = ltb-true (suc n) (suc (length xs)) h in found_at xs n (lt-ltb n (length xs) (omega arith))
 
 -- names
-abbrev pub place_in : List (List ℕ) → List ℕ → ℕ
-place_in [] name = 0
-place_in (x ∷ xs) name = if same_name name x then 0 else suc (place_in xs name)
-
 pub same_as_itself : (name : List ℕ) → same_name name name ≡ true
 same_as_itself [] = refl
 same_as_itself (b ∷ bs) = and_from (nat_eq b b) _ (eq-eqb b b refl) (same_as_itself bs)

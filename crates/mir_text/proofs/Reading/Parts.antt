@@ -10,24 +10,17 @@ use Rattle.cfg_graph.specs.declared.terminator.Unwind.{Unwind}
 use Rattle.mir_text.specs.Fields.{Fits, StepFits, PlaceFits, OperandFits, UnwindFits, WaysFit}
 use Rattle.mir_text.specs.Parts.{step_text, place_text, operand_text, operands_text, unwind_text, ways_text}
 use Rattle.mir_text.specs.Types.{kind_text}
-use Rattle.mir_text.proofs.Reading.Basics.{Found, Every, bind, or_else, strip, stops, is_digit, number, number_reads, signed, signed_reads, no_decimal, behind3}
+use Rattle.mir_text.specs.Reading.Parts.{part_from, behind_dot, index_from, step_read, steps_from, place_read, kind_read, constant_from, other_constant, operand_read, operands_read, unwind_from, unwind_read, ways_read}
+use Rattle.mir_text.proofs.Reading.Basics.{Found, Every, bind, or_else, chosen, as_, said, strip, stops, is_digit, number, number_reads, signed, signed_reads, no_decimal, behind3}
 use Rattle.mir_text.proofs.Reading.Rows.{many, many_reads, flat_counted}
-use Rattle.mir_text.proofs.Reading.Types.{in_row, in_row_reads}
+use Rattle.mir_text.proofs.Reading.Types.{in_row_reads}
 
 pub every_from_all : {X : Type 0} (P : X → Type 0) (xs : List X) → All P xs → Every P xs
 every_from_all P [] h = tt
 every_from_all P (x ∷ xs) h = (h 0 x (omega arith), every_from_all P xs (λ k d lt. h (suc k) d (omega arith)))
 
 pub number_of : (n : ℕ) (r : List ℕ) → Fits n → stops is_digit r ≡ true → number (decimal n ++ r) ≡ Some (n, r)
-number_of n r small s = number_reads n r (omega arith) s
-
--- a word that says something
-abbrev pub said : {X : Type 0} → List ℕ → X → List ℕ → Found X
-said word x t = bind (strip word t) (λ r. Some (x, r))
-
--- what was found, made into something else
-abbrev pub as_ : {X Y : Type 0} → (X → Y) → Found X → Found Y
-as_ make found = bind found (λ f. Some (make f.0, f.1))
+number_of n r small s = number_reads n r small s
 
 abbrev pub goes_on : ℕ → Bool
 goes_on b = is_digit b || nat_eq b 58
@@ -48,35 +41,23 @@ ends_digits (b ∷ bs) h = by (is_digit b) refl
     by true e = absurd (false≢true (subst (λ (t : Bool). not (t || nat_eq b 58) ≡ true) e h))
     by false e = rw e refl
 
-abbrev part_from : ℕ × List ℕ → Found Step
-part_from q = or_else (bind (strip (codes ":") q.1) (λ t. as_ (Step.Field q.0) (number t))) (Some (Step.Part q.0, q.1))
-
-abbrev index_from : ℕ × List ℕ → Found Step
-index_from f = bind (strip (codes "]") f.1) (λ r. Some (Step.Index f.0, r))
-
-abbrev behind_dot : List ℕ → Found Step
-behind_dot t = or_else (said (codes "*") Step.Inside t) (bind (number t) part_from)
-
-abbrev pub step_read : List ℕ → Found Step
-step_read t = or_else (bind (strip (codes ".") t) behind_dot) (bind (strip (codes "[_") t) (λ t. bind (number t) index_from))
-
 dotted : (t : List ℕ) (f : Step × List ℕ) → behind_dot t ≡ Some f → step_read (codes "." ++ t) ≡ Some f
-dotted t f h = rw h refl
+dotted t f h = h
 
 numbered : (n : ℕ) (r : List ℕ) (f : Step × List ℕ) → Fits n → stops is_digit r ≡ true → part_from (n, r) ≡ Some f → behind_dot (decimal n ++ r) ≡ Some f
 numbered n r f small s h =
-    ap (λ (o : Option (List ℕ)). or_else (bind o (λ r. Some (Step.Inside, r))) (bind (number (decimal n ++ r)) part_from)) (no_decimal 42 [] n r (omega arith) refl)
+    ap (λ (o : Option (List ℕ)). chosen o (λ r. Some (Step.Inside, r)) (bind (number (decimal n ++ r)) part_from)) (no_decimal 42 [] n r (omega arith) refl)
     ∙ ap (λ (f : Found ℕ). bind f part_from) (number_of n r small s) ∙ h
 
 step_reads : (step : Step) → StepFits step → (r : List ℕ) → stops goes_on r ≡ true → step_read (step_text step ++ r) ≡ Some (step, r)
 step_reads (Step.Part n) fits r e =
     dotted (decimal n ++ r) (Step.Part n, r) (numbered n r (Step.Part n, r) fits (ends_digits r e)
-    (ap (λ (o : Option (List ℕ)). or_else (bind o (λ t. as_ (Step.Field n) (number t))) (Some (Step.Part n, r))) (no_colon r e)))
+    (ap (λ (o : Option (List ℕ)). chosen o (λ t. as_ (Step.Field n) (number t)) (Some (Step.Part n, r))) (no_colon r e)))
 step_reads (Step.Field variant part) fits r e =
     let rest : List ℕ = codes ":" ++ (decimal part ++ r) in
     ap step_read (ap (λ (w : List ℕ). codes "." ++ w) (behind3 (decimal variant) (codes ":") (decimal part) r))
     ∙ dotted (decimal variant ++ rest) (Step.Field variant part, r) (numbered variant rest (Step.Field variant part, r) fits.0 refl
-    (ap (λ (f : Found ℕ). or_else (as_ (Step.Field variant) f) (Some (Step.Part variant, rest))) (number_of part r fits.1 (ends_digits r e))))
+    (ap (as_ (Step.Field variant)) (number_of part r fits.1 (ends_digits r e))))
 step_reads Step.Inside fits r e = refl
 step_reads (Step.Index local) fits r e =
     ap (λ (t : List ℕ). bind (number t) index_from) (append_assoc (decimal local) (codes "]") r)
@@ -86,12 +67,6 @@ step_reads (Step.Index local) fits r e =
 pub record IsPlaceEnd (r : List ℕ) : Type 0 where
   pub over : stops goes_on r ≡ true
   pub none : step_read r ≡ None
-
-abbrev steps_from : ℕ × List ℕ → Found Place
-steps_from f = Some (record { local = f.0; steps = (many step_read f.1).0 }, (many step_read f.1).1)
-
-abbrev pub place_read : List ℕ → Found Place
-place_read t = bind (strip (codes "_") t) (λ t. bind (number t) steps_from)
 
 steps_next : (step : Step) (r : List ℕ) → stops goes_on (step_text step ++ r) ≡ true
 steps_next (Step.Part n) r = refl
@@ -123,11 +98,6 @@ place_reads place fits r e =
     ∙ ap (λ (q : List Step × List ℕ). Some (record { local = place.local; steps = q.0 }, q.1)) (steps_read place.steps (every_from_all StepFits place.steps fits.1) r e)
 
 -- operands
-abbrev pub kind_read : List ℕ → Found IntKind
-kind_read t =
-    or_else (said (codes "i32") IntKind.I32 t) (or_else (said (codes "i64") IntKind.I64 t) (or_else (said (codes "u32") IntKind.U32 t)
-    (or_else (said (codes "u64") IntKind.U64 t) (said (codes "usize") IntKind.Usize t))))
-
 kind_reads : (kind : IntKind) (r : List ℕ) → kind_read (kind_text kind ++ r) ≡ Some (kind, r)
 kind_reads IntKind.I32 r = refl
 kind_reads IntKind.I64 r = refl
@@ -135,33 +105,17 @@ kind_reads IntKind.U32 r = refl
 kind_reads IntKind.U64 r = refl
 kind_reads IntKind.Usize r = refl
 
-abbrev constant_from : ℤ × List ℕ → Found Operand
-constant_from f = bind (strip (codes "_") f.1) (λ t. as_ (Operand.Number f.0) (kind_read t))
-
-abbrev other_constant : List ℕ → Found Operand
-other_constant t =
-    or_else (said (codes "true") (Operand.Truth true) t) (or_else (said (codes "false") (Operand.Truth false) t) (said (codes "()") Operand.Unit t))
-
-abbrev pub operand_read : List ℕ → Found Operand
-operand_read t =
-    or_else (bind (strip (codes "copy ") t) (λ t. as_ Operand.Copied (place_read t)))
-    (or_else (bind (strip (codes "move ") t) (λ t. as_ Operand.Moved (place_read t)))
-    (bind (strip (codes "const ") t) (λ t. or_else (bind (signed t) constant_from) (other_constant t))))
-
 pub operand_reads : (operand : Operand) → OperandFits operand → (r : List ℕ) → IsPlaceEnd r → operand_read (operand_text operand ++ r) ≡ Some (operand, r)
-operand_reads (Operand.Copied place) fits r e = ap (λ (f : Found Place). or_else (as_ Operand.Copied f) None) (place_reads place fits r e)
-operand_reads (Operand.Moved place) fits r e = ap (λ (f : Found Place). or_else (as_ Operand.Moved f) None) (place_reads place fits r e)
+operand_reads (Operand.Copied place) fits r e = ap (as_ Operand.Copied) (place_reads place fits r e)
+operand_reads (Operand.Moved place) fits r e = ap (as_ Operand.Moved) (place_reads place fits r e)
 operand_reads (Operand.Number value kind) fits r e =
     let rest : List ℕ = codes "_" ++ (kind_text kind ++ r) in
     ap (λ (t : List ℕ). or_else (bind (signed t) constant_from) (other_constant t)) (behind3 (signed_decimal value) (codes "_") (kind_text kind) r)
-    ∙ ap (λ (f : Found ℤ). or_else (bind f constant_from) (other_constant (signed_decimal value ++ rest))) (signed_reads value rest (omega arith) refl)
+    ∙ ap (λ (f : Found ℤ). or_else (bind f constant_from) (other_constant (signed_decimal value ++ rest))) (signed_reads value rest fits refl)
     ∙ ap (λ (f : Found IntKind). or_else (as_ (Operand.Number value) f) (other_constant (signed_decimal value ++ rest))) (kind_reads kind r)
 operand_reads (Operand.Truth true) fits r e = refl
 operand_reads (Operand.Truth false) fits r e = refl
 operand_reads Operand.Unit fits r e = refl
-
-abbrev pub operands_read : List ℕ → Found (List Operand)
-operands_read = in_row operand_read
 
 pub operands_reads : (operands : List Operand) → All OperandFits operands → (r : List ℕ) → operands_read (operands_text operands ++ r) ≡ Some (operands, r)
 operands_reads operands fits r =
@@ -170,21 +124,12 @@ operands_reads operands fits r =
     ∙ ap (λ (xs : List Operand). Some (xs, r)) (map-id operands)
 
 -- ways out
-abbrev pub unwind_read : List ℕ → Found Unwind
-unwind_read t = or_else (as_ Unwind.Block (number t)) (or_else (said (codes "resume") Unwind.Resume t) (said (codes "abort") Unwind.Abort t))
-
 pub unwind_reads : (unwind : Unwind) → UnwindFits unwind → (r : List ℕ) → stops is_digit r ≡ true → unwind_read (unwind_text unwind ++ r) ≡ Some (unwind, r)
 unwind_reads (Unwind.Block block) fits r e =
     ap (λ (f : Found ℕ). or_else (as_ Unwind.Block f) (or_else (said (codes "resume") Unwind.Resume (decimal block ++ r)) (said (codes "abort") Unwind.Abort (decimal block ++ r))))
     (number_of block r fits e)
 unwind_reads Unwind.Resume fits r e = refl
 unwind_reads Unwind.Abort fits r e = refl
-
-abbrev unwind_from : ℕ × List ℕ → Found (ℕ × Unwind)
-unwind_from f = bind (strip (codes " unwind ") f.1) (λ t. as_ (λ u. (f.0, u)) (unwind_read t))
-
-abbrev pub ways_read : List ℕ → Found (ℕ × Unwind)
-ways_read t = bind (strip (codes " then ") t) (λ t. bind (number t) unwind_from)
 
 pub ways_reads : (next : ℕ) (unwind : Unwind) → WaysFit next unwind → (r : List ℕ) → stops is_digit r ≡ true → ways_read (ways_text next unwind ++ r) ≡ Some ((next, unwind), r)
 ways_reads next unwind fits r e =

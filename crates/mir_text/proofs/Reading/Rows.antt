@@ -5,18 +5,7 @@ use Rattle.mir_text.specs.Compared.{numbered}
 use Rattle.mir_text.specs.Items.{counted}
 use Rattle.mir_text.specs.Lists.{behind_commas, joined}
 use Rattle.mir_text.proofs.Reading.Basics.{Found, Every, bind, strip}
-
-abbrev after : {X : Type 0} → Found X → (List ℕ → List X × List ℕ) → List ℕ → List X × List ℕ
-after None go t = ([], t)
-after (Some found) go t = (found.0 ∷ (go found.1).0, (go found.1).1)
-
-abbrev many_within : {X : Type 0} → ℕ → (List ℕ → Found X) → List ℕ → List X × List ℕ
-many_within zero read t = ([], t)
-many_within (suc k) read t = after (read t) (many_within k read) t
-
--- as many as there are
-abbrev pub many : {X : Type 0} → (List ℕ → Found X) → List ℕ → List X × List ℕ
-many read t = many_within (length t) read t
+pub use Rattle.mir_text.specs.Reading.Rows.{after, many_within, many, comma, row_from, row, closed_row, in_row}
 
 abbrev pub EveryFrom : {X : Type 0} → (ℕ → X → Type 0) → ℕ → List X → Type 0
 EveryFrom Good n [] = ⊤
@@ -72,18 +61,6 @@ pub none_before : {X Z : Type 0} (read : List ℕ → Found Z) (text : ℕ → X
     → (n : ℕ) (xs : List X) (r : List ℕ) → read r ≡ None → read (counted text n xs ++ r) ≡ None
 none_before read text never n [] r h = h
 none_before read text never n (x ∷ xs) r h = ap read (append_assoc (text n x) (counted text (suc n) xs) r) ∙ never n x (counted text (suc n) xs ++ r)
-
--- one more behind a comma
-abbrev pub comma : {Z : Type 0} → (List ℕ → Found Z) → List ℕ → Found Z
-comma read t = bind (strip (codes ", ") t) read
-
-abbrev row_from : {Z : Type 0} → (List ℕ → Found Z) → Found Z → List ℕ → List Z × List ℕ
-row_from read None t = ([], t)
-row_from read (Some found) t = (found.0 ∷ (many (comma read) found.1).0, (many (comma read) found.1).1)
-
--- a row of things with commas between them, maybe of none
-abbrev pub row : {Z : Type 0} → (List ℕ → Found Z) → List ℕ → List Z × List ℕ
-row read t = row_from read (read t) t
 
 behind_map : {X : Type 0} (text : X → List ℕ) (xs : List X) → behind_commas (map text xs) ≡ counted (λ (k : ℕ) x. codes ", " ++ text x) 0 xs
 behind_map text xs = by 0 xs

@@ -17,7 +17,7 @@ use Rattle.cfg_graph.specs.WellFormed.TypeFaults.{own_number_exists, existing, t
 use Rattle.mir_text.specs.Lists.{joined, in_parentheses}
 use Rattle.mir_text.specs.Types.{kind_text, trait_name, tuple_text, form_text, found_text, type_within, type_text, deepest}
 use Rattle.mir_text.proofs.Reading.Basics.{Found, Every, bind, or_else, strip, span, stops, span_run, one_of, is_digit, decimal_digits, behind4}
-use Rattle.mir_text.proofs.Reading.Rows.{row, row_of_none, row_reads}
+use Rattle.mir_text.proofs.Reading.Rows.{row, row_of_none, row_reads, closed_row, in_row}
 
 -- what stands behind a type: the end of the text, a mark that closes, or a blank before a brace
 abbrev begins_brace : List ℕ → Bool
@@ -462,13 +462,6 @@ known items names id h = by (length items.types) refl h
                 ∙ ap (λ (shape : Shape). Some shape) (shape_same items (type_within items (deepest - 1)) (type_within items deepest) ty same);
           },
         )
-
-abbrev closed_row : {Z : Type 0} → List Z × List ℕ → Found (List Z)
-closed_row q = bind (strip (codes ")") q.1) (λ r. Some (q.0, r))
-
--- things in parentheses
-abbrev pub in_row : {Z : Type 0} → (List ℕ → Found Z) → List ℕ → Found (List Z)
-in_row read t = bind (strip (codes "(") t) (λ t. closed_row (row read t))
 
 pub in_row_reads : {X Z : Type 0} (read : List ℕ → Found Z) (text : X → List ℕ) (seen : X → Z) (Good : X → Type 0) (Ends : List ℕ → Type 0)
     → ((x : X) → Good x → (r : List ℕ) → Ends r → read (text x ++ r) ≡ Some (seen x, r)) → ((t : List ℕ) → Ends (codes ", " ++ t)) → ((t : List ℕ) → Ends (codes ")" ++ t))

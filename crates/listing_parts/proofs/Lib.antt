@@ -1,0 +1,4 @@
+pub mod Law
+pub mod Rows
+pub mod Spans
+pub mod Values

@@ -1,0 +1,10 @@
+use Rattle.std.proofs.Common.{◌≡◌, ◌-◌, ◌++◌, length}
+use Rattle.mir_text.specs.Reading.Parts.{operand_read}
+use Rattle.mir_text.specs.Reading.Rows.{comma, many_within}
+use Rattle.listing_parts.proofs.Rows.{so_far}
+use Rattle.listing_parts.proofs.operands.more_operands.Given as goal
+
+abbrev pub invariant-loop : goal.invariant-loop
+invariant-loop l =
+    so_far (comma operand_read) (length l.text) l.initial.parts l.text
+    ≡ so_far (comma operand_read) (length l.text - l.counter) l.parts l.rest

@@ -1,0 +1,21 @@
+//! Readers of the parts of a listing: words, numbers, places, operands, statements and terminators.
+#![tactic(auto)]
+
+mod error;
+mod law;
+mod names;
+mod operands;
+mod places;
+mod statements;
+mod terminators;
+mod ways;
+mod words;
+
+pub use error::ReadError;
+pub use law::law_of_parts;
+pub use names::{adt_number, trait_number};
+pub use operands::{read_operand, read_operands};
+pub use places::read_place;
+pub use statements::read_stmt;
+pub use terminators::read_term;
+pub use words::{name, number, strip};

@@ -1,0 +1,308 @@
+//! Terminators.
+ghost use Rattle.std.specs.Prelude.{◌≡◌};
+ghost use Rattle.mir_text.specs.Reading.Lines as reading;
+ghost use Rattle.listing_parts.specs.Found.{Finds, seen};
+ghost use Rattle.listing_parts.specs.Numbers.{adt_no, trait_no};
+
+use crate::ReadError;
+use crate::names::trait_number;
+use crate::operands::read_operand;
+use crate::places::{place_behind, read_place};
+use crate::statements::{numbered_operands, two_operands};
+use crate::ways::{unwind, ways};
+use crate::words::{name, number, strip};
+use cfg_graph::{Place, Term};
+use mir_base::{Math, Why};
+use mir_ty::Items;
+use std::alloc::Global;
+
+fn math(text: &[u8]) -> Option<(Math, &[u8])>
+    ensures { seen result ≡ reading.math_read text.now }
+{
+    if let Some(rest) = strip(text, "add ") {
+        Some((Math::Add, rest))
+    } else if let Some(rest) = strip(text, "sub ") {
+        Some((Math::Sub, rest))
+    } else if let Some(rest) = strip(text, "mul ") {
+        Some((Math::Mul, rest))
+    } else if let Some(rest) = strip(text, "div ") {
+        Some((Math::Div, rest))
+    } else {
+        Some((Math::Rem, strip(text, "rem ")?))
+    }
+}
+
+fn why(text: &[u8]) -> Option<(Why, &[u8])>
+    ensures { seen result ≡ reading.why_read text.now }
+{
+    if let Some(rest) = strip(text, "explicit") {
+        Some((Why::Explicit, rest))
+    } else if let Some(rest) = strip(text, "overflow") {
+        Some((Why::Overflow, rest))
+    } else if let Some(rest) = strip(text, "divide") {
+        Some((Why::Divide, rest))
+    } else if let Some(rest) = strip(text, "index") {
+        Some((Why::Index, rest))
+    } else if let Some(rest) = strip(text, "ask") {
+        Some((Why::Ask, rest))
+    } else {
+        Some((Why::Match, strip(text, "match")?))
+    }
+}
+
+/// A blank and a number.
+fn blank_number(text: &[u8]) -> Option<(u32, &[u8])>
+    ensures { seen result ≡ reading.blank_number text.now }
+{
+    number(strip(text, " ")?)
+}
+
+/// Two numbers, each behind a blank.
+fn two_numbers(text: &[u8]) -> Option<((u32, u32), &[u8])>
+    ensures { seen result ≡ reading.two_numbers text.now }
+{
+    let (first, rest) = blank_number(text)?;
+    let (second, rest) = blank_number(rest)?;
+    Some(((first, second), rest))
+}
+
+fn calculated(alloc: Global, to: Place, op: Math, text: &[u8]) -> Result<(Term, &[u8]), ReadError>
+    ensures { Finds result (reading.calculated to op text.now) }
+{
+    let ((left, right), rest) = two_operands(alloc, text)?;
+    let ((then, unwind), rest) = ways(rest).ok_or(ReadError::Unreadable)?;
+    Ok((
+        Term::Math {
+            to,
+            op,
+            left,
+            right,
+            then,
+            unwind,
+        },
+        rest,
+    ))
+}
+
+fn negated(alloc: Global, to: Place, text: &[u8]) -> Result<(Term, &[u8]), ReadError>
+    ensures { Finds result (reading.negated to text.now) }
+{
+    let (of, rest) = read_operand(alloc, text)?;
+    let ((then, unwind), rest) = ways(rest).ok_or(ReadError::Unreadable)?;
+    Ok((
+        Term::Negate {
+            to,
+            of,
+            then,
+            unwind,
+        },
+        rest,
+    ))
+}
+
+fn call(alloc: Global, to: Place, text: &[u8]) -> Result<(Term, &[u8]), ReadError>
+    ensures { Finds result (reading.call_read to text.now) }
+{
+    let ((body, args), rest) = numbered_operands(alloc, text)?;
+    let ((then, unwind), rest) = ways(rest).ok_or(ReadError::Unreadable)?;
+    Ok((
+        Term::Call {
+            to,
+            body,
+            args,
+            then,
+            unwind,
+        },
+        rest,
+    ))
+}
+
+fn virtual_call<'a>(
+    alloc: Global,
+    items: &Items,
+    to: Place,
+    text: &'a [u8],
+) -> Result<(Term, &'a [u8]), ReadError>
+    ensures { Finds result (reading.virtual_read (adt_no items.now) (trait_no items.now) to text.now) }
+{
+    let (name, rest) = name(text);
+    let rest = strip(rest, " ").ok_or(ReadError::Unreadable)?;
+    let ((method, args), rest) = numbered_operands(alloc, rest)?;
+    let ((then, unwind), rest) = ways(rest).ok_or(ReadError::Unreadable)?;
+    let trait_no = trait_number(items, name);
+    Ok((
+        Term::Virtual {
+            to,
+            trait_no,
+            method,
+            args,
+            then,
+            unwind,
+        },
+        rest,
+    ))
+}
+
+fn ask(to: Place, text: &[u8]) -> Option<(Term, &[u8])>
+    ensures { seen result ≡ reading.ask_read to text.now }
+{
+    let ((then, unwind), rest) = ways(text)?;
+    Some((Term::Ask { to, then, unwind }, rest))
+}
+
+/// What a call stores.
+fn called<'a>(
+    alloc: Global,
+    items: &Items,
+    to: Place,
+    text: &'a [u8],
+) -> Result<(Term, &'a [u8]), ReadError>
+    ensures { Finds result (reading.called (adt_no items.now) (trait_no items.now) to text.now) }
+{
+    if let Some(rest) = strip(text, "call ") {
+        return call(alloc, to, rest);
+    }
+    if let Some(rest) = strip(text, "virtual ") {
+        return virtual_call(alloc, items, to, rest);
+    }
+    let rest = strip(text, "ask").ok_or(ReadError::Unreadable)?;
+    ask(to, rest).ok_or(ReadError::Unreadable)
+}
+
+/// What may panic and stores a result.
+fn returned<'a>(
+    alloc: Global,
+    items: &Items,
+    to: Place,
+    text: &'a [u8],
+) -> Result<(Term, &'a [u8]), ReadError>
+    ensures { Finds result (reading.returned (adt_no items.now) (trait_no items.now) to text.now) }
+{
+    if let Some((op, rest)) = math(text) {
+        return calculated(alloc, to, op, rest);
+    }
+    match strip(text, "neg ") {
+        Some(rest) => negated(alloc, to, rest),
+        None => called(alloc, items, to, text),
+    }
+}
+
+fn if_read(alloc: Global, text: &[u8]) -> Result<(Term, &[u8]), ReadError>
+    ensures { Finds result (reading.if_read text.now) }
+{
+    let (on, rest) = read_operand(alloc, text)?;
+    let ((yes, no), rest) = two_numbers(rest).ok_or(ReadError::Unreadable)?;
+    Ok((Term::If { on, yes, no }, rest))
+}
+
+fn case(alloc: Global, text: &[u8]) -> Result<(Term, &[u8]), ReadError>
+    ensures { Finds result (reading.case_read text.now) }
+{
+    let (on, rest) = read_place(alloc, text)?;
+    let (variant, rest) = blank_number(rest).ok_or(ReadError::Unreadable)?;
+    let ((yes, no), rest) = two_numbers(rest).ok_or(ReadError::Unreadable)?;
+    Ok((
+        Term::Case {
+            on,
+            variant,
+            yes,
+            no,
+        },
+        rest,
+    ))
+}
+
+fn bounds(alloc: Global, text: &[u8]) -> Result<(Term, &[u8]), ReadError>
+    ensures { Finds result (reading.bounds_read text.now) }
+{
+    let (index, rest) = read_operand(alloc, text)?;
+    let (length, rest) = blank_number(rest).ok_or(ReadError::Unreadable)?;
+    let ((then, unwind), rest) = ways(rest).ok_or(ReadError::Unreadable)?;
+    Ok((
+        Term::Bounds {
+            index,
+            length,
+            then,
+            unwind,
+        },
+        rest,
+    ))
+}
+
+fn drop_at(alloc: Global, text: &[u8]) -> Result<(Term, &[u8]), ReadError>
+    ensures { Finds result (reading.drop_read text.now) }
+{
+    let (place, rest) = read_place(alloc, text)?;
+    let ((then, unwind), rest) = ways(rest).ok_or(ReadError::Unreadable)?;
+    Ok((
+        Term::DropAt {
+            place,
+            then,
+            unwind,
+        },
+        rest,
+    ))
+}
+
+fn panic(text: &[u8]) -> Option<(Term, &[u8])>
+    ensures { seen result ≡ reading.panic_read text.now }
+{
+    let (why, rest) = why(text)?;
+    let (unwind, rest) = unwind(strip(rest, " unwind ")?)?;
+    Some((Term::Panic { why, unwind }, rest))
+}
+
+/// Where a body ends, or goes on in a block.
+fn leaving(text: &[u8]) -> Option<(Term, &[u8])>
+    ensures { seen result ≡ reading.leaving text.now }
+{
+    if let Some(rest) = strip(text, "goto ") {
+        let (block, rest) = number(rest)?;
+        return Some((Term::Goto(block), rest));
+    }
+    if let Some(rest) = strip(text, "panic ") {
+        return panic(rest);
+    }
+    if let Some(rest) = strip(text, "return") {
+        return Some((Term::Return, rest));
+    }
+    Some((Term::Resume, strip(text, "resume")?))
+}
+
+/// A terminator that stores no result.
+fn without_result(alloc: Global, text: &[u8]) -> Result<(Term, &[u8]), ReadError>
+    ensures { Finds result (reading.without_result text.now) }
+{
+    if let Some(rest) = strip(text, "if ") {
+        return if_read(alloc, rest);
+    }
+    if let Some(rest) = strip(text, "case ") {
+        return case(alloc, rest);
+    }
+    if let Some(rest) = strip(text, "bounds ") {
+        return bounds(alloc, rest);
+    }
+    match strip(text, "drop ") {
+        Some(rest) => drop_at(alloc, rest),
+        None => leaving(text).ok_or(ReadError::Unreadable),
+    }
+}
+
+/// A terminator at the front of a text, and what stands behind it. A name that no trait of the items has is read as the
+/// number of them.
+pub fn read_term<'a>(
+    alloc: Global,
+    items: &Items,
+    text: &'a [u8],
+) -> Result<(Term, &'a [u8]), ReadError>
+    ensures { Finds result (reading.term_read (adt_no items.now) (trait_no items.now) text.now) }
+{
+    match strip(text, "_") {
+        Some(rest) => {
+            let (to, rest) = place_behind(alloc, rest)?;
+            let rest = strip(rest, " = ").ok_or(ReadError::Unreadable)?;
+            returned(alloc, items, to, rest)
+        }
+        None => without_result(alloc, text),
+    }
+}
