@@ -1,4 +1,5 @@
-pub mod Law
+pub mod EachIsRead
+pub mod Numbers
 pub mod Rows
 pub mod Spans
 pub mod Values

@@ -1,3 +1,5 @@
+ghost use Rattle.std.specs.Prelude.{◌≡◌};
+
 use mir_base::NoMemory;
 use std::error::Error;
 use std::fmt;
@@ -23,6 +25,8 @@ impl fmt::Display for ReadError {
 impl Error for ReadError {}
 
 impl From<NoMemory> for ReadError {
+    ghost use Rattle.listing_parts.specs.declared.error.ReadError.{ReadError};
+
     ghost from_gives = { λ refused error. error ≡ ReadError.NoMemory };
 
     fn from(_refused: NoMemory) -> ReadError {

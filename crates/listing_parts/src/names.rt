@@ -9,7 +9,7 @@ pub fn adt_number(items: &Items, name: &[u8]) -> u32
 {
     let mut n: u32 = 0;
     while let Some(adt) = items.adt(n) {
-        if adt.name.as_bytes() == name {
+        if name == adt.name.as_bytes() {
             return n;
         }
         n += 1;
@@ -23,7 +23,7 @@ pub fn trait_number(items: &Items, name: &[u8]) -> u32
 {
     let mut n: u32 = 0;
     while let Some(def) = items.trait_def(n) {
-        if def.name.as_bytes() == name {
+        if name == def.name.as_bytes() {
             return n;
         }
         n += 1;
