@@ -1,7 +1,6 @@
 -- Each part that is written is found.
-use Rattle.std.proofs.Common.{◌≡◌, ℕ, ◌<◌, Bool, true, false, not, ◌||◌, nat_eq, nat_lt, List, [], ◌∷◌, length, codes, Some, None, refl, ap, sym, subst, ◌∙◌, eqb-true, ltb-true}
-use Rattle.std.specs.Prelude.{⊤}
-use Rattle.std.specs.List.{list_any, list_all}
+use Rattle.std.proofs.Common.{◌≡◌, ℕ, Bool, true, false, not, ◌||◌, nat_eq, nat_lt, List, [], ◌∷◌, length, refl, sym, ◌∙◌, eqb-true, ltb-true}
+use Rattle.std.specs.List.{list_all}
 use Rattle.std.proofs.lemmas.Bool.{false≢true, eq-eqb, lt-ltb}
 use Rattle.mir_ty.specs.ItemTable.{ItemTable}
 use Rattle.mir_ty.specs.Named.{adt_name}
@@ -9,10 +8,8 @@ use Rattle.cfg_graph.specs.WellFormed.NameFaults.{stands_in_names}
 use Rattle.cfg_graph.specs.declared.statement.Stmt.{Stmt}
 use Rattle.cfg_graph.specs.declared.terminator.Term.{Term}
 use Rattle.mir_text.specs.Types.{trait_name}
-use Rattle.mir_text.specs.Reading.Parts.{step_read}
-use Rattle.mir_text.specs.Reading.Words.{is_digit, strip}
-use Rattle.mir_text.proofs.Reading.Basics.{stops}
-use Rattle.mir_text.proofs.Reading.Parts.{goes_on, IsPlaceEnd, place_reads, operand_reads, operands_reads}
+use Rattle.mir_text.specs.Reading.Words.{is_digit}
+use Rattle.mir_text.proofs.Reading.Parts.{IsPlaceEnd, place_reads, operand_reads, operands_reads}
 use Rattle.mir_text.proofs.Reading.Lines.{Named, TermNamed, stmt_reads, term_reads, no_stmt}
 use Rattle.listing_parts.specs.Numbers.{adt_no, trait_no}
 use Rattle.listing_parts.specs.Reads.{ends_place, AreTold, StmtNames, TermNames, PlacesAreRead, OperandsAreRead, RowsAreRead, StmtsAreRead, TermsAreRead, TermsAreNoStmts}

@@ -1,5 +1,5 @@
 -- Things read one after the other, each with a byte less to go.
-use Rattle.std.proofs.Common.{◌≡◌, ℕ, zero, suc, List, [], ◌∷◌, ◌++◌, Some, None, refl, ap, sym, ◌∙◌, append_assoc, append-nil}
+use Rattle.std.proofs.Common.{◌≡◌, ℕ, zero, suc, List, [], ◌∷◌, ◌++◌, Some, None, ap, sym, ◌∙◌, append_assoc, append-nil}
 use Rattle.mir_text.specs.Reading.Rows.{after, many_within}
 use Rattle.mir_text.specs.Reading.Words.{Found}
 

@@ -1,5 +1,5 @@
 -- What a reader answers, as definitions see it.
-use Rattle.std.specs.Prelude.{◌≡◌, List, ℕ, Option, None, Some, option_map, Result, Ok, Err, IfOk}
+use Rattle.std.specs.Prelude.{◌≡◌, List, ℕ, Option, None, Some, option_map, Result, Err, IfOk}
 use Rattle.std.specs.Borrow.{Bor}
 use Rattle.mir_text.specs.Reading.Words.{Found}
 use Rattle.listing_parts.specs.declared.error.ReadError.{ReadError}

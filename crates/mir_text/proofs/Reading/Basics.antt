@@ -1,5 +1,5 @@
 -- Reading what was written: the words and numbers of a text, and rows of things that are written one after the other.
-use Rattle.std.proofs.Common.{◌≡◌, ℕ, zero, suc, ◌+◌, ◌/◌, ◌%◌, ◌^◌, ◌==◌, ◌<◌, Bool, true, false, not, ◌&&◌, ◌||◌, if◌then◌else◌, nat_eq, nat_lt, List, [], ◌∷◌, ◌++◌, length, codes, Option, Some, None, decimal, ℤ, pos, negsuc, nat_abs, refl, ap, sym, subst, ◌∙◌, arith, append_assoc, eqb-true, lt-ltb}
+use Rattle.std.proofs.Common.{◌≡◌, ℕ, zero, suc, ◌+◌, ◌/◌, ◌%◌, ◌^◌, ◌==◌, ◌<◌, Bool, true, false, not, ◌||◌, if◌then◌else◌, nat_eq, nat_lt, List, [], ◌∷◌, ◌++◌, length, Option, Some, None, decimal, ℤ, pos, negsuc, refl, ap, sym, subst, ◌∙◌, arith, append_assoc, eqb-true, lt-ltb}
 use Rattle.std.specs.Prelude.{⊤}
 use Rattle.std.specs.Fmt.{signed_decimal, digit_glyph, digits, digits_onto}
 use Rattle.std.specs.List.{list_all, list_any}

@@ -1,5 +1,5 @@
 -- Statements and terminators, read as their lines are written. The names of structs, enums and traits are read as numbers.
-use Rattle.std.proofs.Common.{◌≡◌, ℕ, true, false, List, [], ◌∷◌, ◌++◌, length, codes, Some, None, decimal, nat_lt, refl, ap, ◌∙◌, append_assoc}
+use Rattle.std.proofs.Common.{◌≡◌, ℕ, true, false, List, ◌∷◌, ◌++◌, length, codes, Some, None, decimal, nat_lt, refl, ap, ◌∙◌, append_assoc}
 use Rattle.std.specs.Prelude.{⊤, All}
 use Rattle.std.specs.List.{list_all}
 use Rattle.mir_base.specs.declared.operator.Cmp.{Cmp}
@@ -17,11 +17,11 @@ use Rattle.cfg_graph.specs.declared.terminator.Unwind.{Unwind}
 use Rattle.mir_text.specs.Fields.{Fits, PlaceFits, OperandFits, StmtFits, TermFits}
 use Rattle.mir_text.specs.Parts.{place_text, operand_text, operands_text, comparison_text, math_text, stmt_text, term_text, ways_text, unwind_text}
 use Rattle.mir_text.specs.Types.{trait_name}
-use Rattle.mir_text.proofs.Reading.Basics.{Found, bind, or_else, strip, span, span_run, number, behind3, behind4, behind5, behind6, behind7, behind8}
+use Rattle.mir_text.proofs.Reading.Basics.{Found, bind, span_run, behind3, behind4, behind5, behind6, behind7, behind8}
 use Rattle.mir_text.specs.Reading.Words.{as_}
-use Rattle.mir_text.specs.Reading.Parts.{place_read, operand_read, operands_read, unwind_read, ways_read}
+use Rattle.mir_text.specs.Reading.Parts.{operand_read}
 pub use Rattle.mir_text.specs.Reading.Lines.{ended, stmt_read, term_read}
-use Rattle.mir_text.specs.Reading.Lines.{comparison_read, math_read, why_read, second_operand, two_operands, operands_from, numbered_operands, second_number, two_numbers, make_from, unsize_from, assigned, assigned_to, math_of, calculated, negated_of, call_of, if_of, if_read, case_ways, case_of, case_read, count_of, bounds_of, bounds_read, drop_of, drop_read, panic_of, panic_read, virtual_from, sent_of, returned, returned_to}
+use Rattle.mir_text.specs.Reading.Lines.{why_read, second_operand, two_operands, operands_from, numbered_operands, second_number, two_numbers, make_from, unsize_from, assigned, assigned_to, math_of, calculated, negated_of, call_of, if_of, if_read, case_ways, case_of, case_read, count_of, bounds_of, bounds_read, drop_of, drop_read, panic_of, panic_read, virtual_from, sent_of, returned, returned_to}
 use Rattle.mir_text.proofs.Reading.Parts.{number_of, IsPlaceEnd, place_reads, operand_reads, operands_reads, unwind_reads, ways_reads}
 
 space : (t : List ℕ) → IsPlaceEnd (codes " " ++ t)

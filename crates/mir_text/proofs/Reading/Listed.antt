@@ -1,6 +1,6 @@
 -- What holds of each line of a well formed graph: its names stand in a listing, its types exist, and the numbers of structs, enums and
 -- traits are told by their names.
-use Rattle.std.proofs.Common.{◌≡◌, ℕ, zero, suc, ◌+◌, ◌<◌, true, false, ◌&&◌, if◌then◌else◌, List, [], ◌∷◌, ◌++◌, map, flat_map, take, length, Option, Some, None, All, IfSome, is_some, nat_eq, nat_lt, slice_get, refl, ap, sym, subst, ◌∙◌, arith, eq-eqb, lt-ltb, ltb-true}
+use Rattle.std.proofs.Common.{◌≡◌, ℕ, zero, suc, ◌+◌, ◌<◌, true, false, ◌&&◌, List, [], ◌∷◌, ◌++◌, map, flat_map, take, length, Option, Some, None, All, IfSome, is_some, nat_eq, nat_lt, slice_get, refl, ap, sym, subst, ◌∙◌, arith, eq-eqb, lt-ltb, ltb-true}
 use Rattle.std.specs.Prelude.{option_map, option_and_then}
 use Rattle.std.specs.List.{list_all}
 use Rattle.std.specs.Option.{option_map_or}

@@ -8,7 +8,6 @@ use Rattle.cfg_graph.specs.declared.place.Operand.{Operand}
 use Rattle.cfg_graph.specs.declared.place.Place.{Place}
 use Rattle.cfg_graph.specs.declared.statement.Stmt.{Stmt}
 use Rattle.cfg_graph.specs.declared.terminator.Term.{Term}
-use Rattle.cfg_graph.specs.declared.terminator.Unwind.{Unwind}
 use Rattle.mir_text.specs.Reading.Parts.{place_from, place_read, operand_read, operands_read, unwind_read, ways_read}
 use Rattle.mir_text.specs.Reading.Words.{Found, bind, or_else, chosen, as_, strip, said, span, number}
 

@@ -1,5 +1,5 @@
 -- Places, operands and ways out.
-use Rattle.std.specs.Prelude.{ℕ, true, false, List, codes, Option, Some, None, ℤ}
+use Rattle.std.specs.Prelude.{ℕ, true, false, List, codes, Some, ℤ}
 use Rattle.mir_base.specs.declared.int_kind.IntKind.{IntKind}
 use Rattle.cfg_graph.specs.declared.place.Operand.{Operand}
 use Rattle.cfg_graph.specs.declared.place.Place.{Place}

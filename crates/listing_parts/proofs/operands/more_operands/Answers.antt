@@ -1,5 +1,5 @@
 -- One operand more, and no more operands.
-use Rattle.std.proofs.Common.{rules, ◌≡◌, ◌-◌, ◌+◌, List, [], ◌∷◌, ℕ, length, Some, None, ap, sym, ◌∙◌, arith}
+use Rattle.std.proofs.Common.{rules, ◌≡◌, ◌-◌, ◌+◌, List, ℕ, length, Some, None, ap, sym, ◌∙◌, arith}
 use Rattle.cfg_graph.specs.declared.place.Operand.{Operand}
 use Rattle.mir_text.specs.Reading.Parts.{operand_read}
 use Rattle.mir_text.specs.Reading.Rows.{comma}
