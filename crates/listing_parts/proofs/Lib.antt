@@ -1,4 +1,5 @@
 pub mod EachIsRead
+pub mod LineByLine
 pub mod Numbers
 pub mod Rows
 pub mod Spans

@@ -1,3 +1,4 @@
 pub mod Found
+pub mod LinesFound
 pub mod Numbers
 pub mod Reads

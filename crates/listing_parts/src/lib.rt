@@ -3,6 +3,7 @@
 
 mod error;
 mod law;
+mod lines;
 mod names;
 mod operands;
 mod places;
@@ -13,6 +14,7 @@ mod words;
 
 pub use error::ReadError;
 pub use law::law_of_parts;
+pub use lines::{stmt_line, term_line};
 pub use names::{adt_number, trait_number};
 pub use operands::{read_operand, read_operands};
 pub use places::read_place;

@@ -19,11 +19,18 @@ const NUMBERS: u128 = 4294967296;
 /// One more than the greatest number that a sign and 127 bits hold.
 const CONSTANTS: u128 = 170141183460469231731687303715884105728;
 
+/// What stands behind some bytes, where the text begins with them.
+pub fn strip_bytes<'a>(text: &'a [u8], word: &[u8]) -> Option<&'a [u8]>
+    ensures { option_copied result ≡ reading.strip word.now text.now }
+{
+    text.strip_prefix(word)
+}
+
 /// What stands behind a word, where the text begins with it.
 pub fn strip<'a>(text: &'a [u8], word: &str) -> Option<&'a [u8]>
     ensures { option_copied result ≡ reading.strip word.now text.now }
 {
-    text.strip_prefix(word.as_bytes())
+    strip_bytes(text, word.as_bytes())
 }
 
 fn is_digit(byte: u8) -> bool

@@ -10,4 +10,6 @@ mod types;
 mod words;
 
 pub use laws::law_of_listings;
-pub use listing::{body_text, items_text, operand_text, place_text, stmt_text, write_listing};
+pub use listing::{
+    body_text, items_text, operand_text, place_text, stmt_text, term_text, write_listing,
+};

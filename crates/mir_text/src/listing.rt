@@ -14,7 +14,7 @@ use crate::parts::{put_operand, put_place};
 use crate::statements::{put_stmt, put_term};
 use crate::types::put_type;
 use crate::words::{put, put_number, word_of_kind};
-use cfg_graph::{Block, Body, Graph, Operand, Place, Stmt};
+use cfg_graph::{Block, Body, Graph, Operand, Place, Stmt, Term};
 use mir_base::{List, NoMemory};
 use mir_ty::{Items, TyId};
 use std::alloc::{AllocError, Global};
@@ -190,6 +190,15 @@ pub fn stmt_text(alloc: Global, items: &Items, stmt: &Stmt) -> Result<List<u8>, 
 {
     let mut out = String::new(alloc);
     put_stmt(&mut out, items, stmt)?;
+    Ok(List::from_vec(out.into_bytes()))
+}
+
+/// A terminator, without a line feed.
+pub fn term_text(alloc: Global, items: &Items, term: &Term) -> Result<List<u8>, NoMemory>
+    ensures { IfOk result (λ text. text ≡ parts_of_text.term_text items.now term.now) }
+{
+    let mut out = String::new(alloc);
+    put_term(&mut out, items, term)?;
     Ok(List::from_vec(out.into_bytes()))
 }
 
