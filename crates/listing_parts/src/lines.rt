@@ -48,8 +48,8 @@ fn behind_term<'a>(
     behind_line(text, words.as_slice()).ok_or(ReadError::Unreadable)
 }
 
-/// The statement whose line a text begins with, and what stands behind that line. `Unreadable` comes exactly where it
-/// begins with the line of no statement.
+/// The statement whose line a text begins with, and what stands behind that line. `Unreadable` comes where the text does
+/// not begin with the line of a statement, or with one that names a struct, enum or trait that the items do not have.
 pub fn stmt_line<'a>(
     alloc: Global,
     items: &Items,
@@ -68,8 +68,8 @@ pub fn stmt_line<'a>(
     }
 }
 
-/// The terminator whose line a text begins with, and what stands behind that line. `Unreadable` comes exactly where it
-/// begins with the line of no terminator.
+/// The terminator whose line a text begins with, and what stands behind that line. `Unreadable` comes where the text does
+/// not begin with the line of a terminator, or with one that names a trait that the items do not have.
 pub fn term_line<'a>(
     alloc: Global,
     items: &Items,
