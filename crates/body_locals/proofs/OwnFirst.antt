@@ -1,0 +1,50 @@
+-- The locals of a node are its own, and then those of its parts.
+use Rattle.std.proofs.Common.{◌≡◌, ◌++◌, ℕ, Bool, true, false, Option, refl, rules}
+use Rattle.std.specs.Prelude.{Box}
+use Rattle.std.specs.declared.alloc.Global.{Global}
+use Rattle.mir_base.specs.declared.place_in_text.Pos.{Pos}
+use Rattle.mir_ty.specs.declared.ty.TyId.{TyId}
+use Rattle.mir_ty.specs.ItemTable.{ItemTable}
+use Rattle.src_meaning.specs.Forms.{is_never}
+use Rattle.src_meaning.specs.Locals.OfBody.{cells_in}
+use Rattle.typed_tree.specs.declared.node.Use.{Use}
+use Rattle.typed_tree.specs.declared.node.Form.{WhileLet, the_lemmas}
+use Rattle.typed_tree.specs.declared.node.Node.{Node}
+use Rattle.typed_tree.specs.View.{tree_of, form_of}
+use Rattle.typed_tree.specs.Tree.{node, Form, MaybeNode, absent, present}
+use Rattle.typed_tree.specs.Tree as tree
+use Rattle.src_meaning.specs.Locals.OfBody as of_body
+use Rattle.body_locals.specs.Own.{own_local}
+use Rattle.body_locals.specs.View.{locals_of, locals_if_any, asked_of_initialiser}
+use Rattle.body_locals.specs.declared.own.Asked.{Asked}
+
+module _ (items : ItemTable) (id : ℕ) (at : Pos) (ty : TyId) (by : Option Use) where
+  by_type : (asked : Asked) (never : Bool) (form : Form) → is_never items ty ≡ never → locals_of items asked (node id at ty by form) ≡ own_local items asked id ty form ++ cells_in items form
+  by_type Asked.Reached never (tree.Variable key) e = refl
+  by_type Asked.Reached never (tree.Captured closure part name) e = refl
+  by_type Asked.Reached never (tree.Field base part) e = refl
+  by_type Asked.Reached never (tree.Index base index length) e = refl
+  by_type Asked.Reached never (tree.Deref base) e = refl
+  by_type Asked.Own true (tree.Variable key) e = rw e refl
+  by_type Asked.Own true form e = rw e refl
+  by_type Asked.Own false (tree.Variable key) e = rw e refl
+  by_type Asked.Own false form e = rw e refl
+  by_type Asked.Around true (tree.Variable key) e = rw e refl
+  by_type Asked.Around true form e = rw e refl
+  by_type Asked.Around false (tree.Variable key) e = rw e refl
+  by_type Asked.Around false form e = rw e refl
+  by_type Asked.Reached true form e = rw e refl
+  by_type Asked.Reached false form e = rw e refl
+
+  pub own_first : (asked : Asked) (form : Form) → locals_of items asked (node id at ty by form) ≡ own_local items asked id ty form ++ cells_in items form
+  own_first asked form = by_type asked (is_never items ty) form refl
+
+-- the value of a `let`
+pub initialiser : (items : ItemTable) (id : ℕ) (at : Pos) (ty : TyId) (by : Option Use) (form : Form) (value : MaybeNode) → of_body.initial_cells items (node id at ty by form) value ≡ locals_if_any items (asked_of_initialiser form) value
+initialiser items id at ty by (tree.Binding name) absent = refl
+initialiser items id at ty by form absent = refl
+initialiser items id at ty by (tree.Binding name) (present value) = refl
+initialiser items id at ty by form (present value) = refl
+
+pub form_of-WhileLet : (pattern scrutinee body : Box Node Global) → form_of (WhileLet pattern scrutinee body) ≡ tree.WhileLet (tree_of pattern.value) (tree_of scrutinee.value) (tree_of body.value)
+form_of-WhileLet pattern scrutinee body = search (rules, the_lemmas)
