@@ -86,14 +86,14 @@ pub record IsStep (all_ : ℕ → List Adt_ → Check (Unit {0})) (one : ℕ →
   pub on_some : (n : ℕ) (a : Adt_) (as_ : List Adt_) (s : State) → all_ n (a ∷ as_) s ≡ and_then (one n (Some a) s) (λ m. all_ m as_)
 
 module _ (all_ : ℕ → List Adt_ → Check (Unit {0})) (one : ℕ → Option Adt_ → Check ℕ) (step : IsStep all_ one) where
-  abbrev of_all : ℕ → List Piece → Check (Unit {0})
+  abbrev pub of_all : ℕ → List Piece → Check (Unit {0})
   of_all n ps = all_ n (filter_map adt_item (item_syns (items_of (parts_in ps))))
 
   one_first : (n : ℕ) (o : Option Adt_) (rest : List Adt_) (s : State) → all_ n (listed o ++ rest) s ≡ and_then (one n o s) (λ m. all_ m rest)
   one_first n None rest s = ap (λ r. and_then r (λ m. all_ m rest)) (sym (step.on_none n s))
   one_first n (Some a) rest s = step.on_some n a rest s
 
-  numbered_at : (n : ℕ) (ps : List Piece) (i : ℕ) (p : Piece) (s : State) → i < length ps → p ≡ get_or ps i p →
+  pub numbered_at : (n : ℕ) (ps : List Piece) (i : ℕ) (p : Piece) (s : State) → i < length ps → p ≡ get_or ps i p →
       of_all n (drop i ps) s ≡ and_then (one n (told_by adt_item (piece_of p)) s) (λ m. of_all m (drop (i + 1) ps))
   numbered_at n ps i p s h is =
       ap (λ z. all_ n z s) (told_at adt_item ps i p h is)

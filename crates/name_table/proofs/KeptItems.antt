@@ -1,21 +1,21 @@
 -- What adding items keeps: the types that are there; and a trait more where the item is one.
-use Rattle.std.proofs.Common.{◌≡◌, ℕ, ◌+◌, List, [], ◌∷◌, ◌++◌, length, length-append, Option, Some, None, Result, Ok, Err, refl, ap, sym, subst, ◌∙◌}
+use Rattle.std.proofs.Common.{◌≡◌, ℕ, suc, ◌+◌, Bool, List, [], ◌∷◌, ◌++◌, length, length-append, Option, Some, None, Result, Ok, Err, refl, ap, sym, subst, ◌∙◌}
 use Rattle.std.specs.Prelude.{option_and_then, is_some, ◌||◌}
 use Rattle.mir_base.specs.declared.place_in_text.Pos.{Pos}
 use Rattle.mir_base.specs.declared.rule.Rule.{Rule}
-use Rattle.mir_ty.specs.ItemTable.{with_adt}
+use Rattle.mir_ty.specs.ItemTable.{with_adt, with_body, with_trait}
 use Rattle.mir_ty.specs.declared.adt.Adt.{Adt}
 use Rattle.mir_ty.specs.declared.def.Sig.{Sig}
 use Rattle.mir_ty.specs.declared.ty.Ty.{Ty}
 use Rattle.mir_ty.specs.declared.ty.TyId.{TyId}
 use Rattle.src_ast.specs.Syntax.{Word, Named, Syn, syn, Syns, list_of, MaybeSyn, MoveOf, StructItem, EnumItem, VariantDecl, TraitItem, ImplItem, FnItem, ParamOf}
-use Rattle.typing_rules.specs.Check.{Check, State, Broken, pure, interned, known, obeys, each_checked}
+use Rattle.typing_rules.specs.Check.{Check, State, Broken, and_then, pure, interned, known, obeys, each_checked, ◌>>=◌, ◌>>◌}
 use Rattle.typing_rules.specs.Collected as walk
 use Rattle.typing_rules.specs.Collected.{item_head, derives_known, is_derivable, variant_of, declared_variant, adt_of, added, names_alone, field_type, own_ty, sig_of, body_added, closure_param, closure_params, closure_head, body_sig, body_sigs, answer_ty, impl_head, is_drop, trait_head}
 use Rattle.typing_rules.specs.Items.{trait_name, impl_owner, full_name, closure_name, ItemSyn}
 use Rattle.typing_rules.specs.Places.{unit}
 use Rattle.typing_rules.specs.Written.{Around, written, or_unit, or_unit_in, number_of}
-use Rattle.item_heads.proofs.Kept.{Keeps, keeps_self, Kept, kept_bind, kept_pure, kept_breaks, kept_obeys, kept_known, kept_interned, kept_each, kept_written, state_in}
+use Rattle.item_heads.proofs.Kept.{Keeps, keeps_self, keeps_on, Kept, kept_bind, kept_pure, kept_breaks, kept_obeys, kept_known, kept_interned, kept_each, kept_written, state_in}
 use Rattle.name_table.specs.Forms.{one_more, item_added, trait_by}
 use Rattle.name_table.proofs.TraitHeads.{bound, kept_sig, kept_answer, kept_trait_head}
 

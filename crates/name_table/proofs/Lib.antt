@@ -6,3 +6,4 @@ pub mod ItemWalk
 pub mod EachItem
 pub mod HeldTypes
 pub mod Stages
+pub mod Numbered

@@ -9,7 +9,7 @@ use Rattle.src_tree.specs.Layout.{Parts}
 use Rattle.name_table.specs.Collects.{Collects, stages, declared, tested, plain_scalars, int_scalars}
 use Rattle.name_table.specs.Forms.{each_done}
 use Rattle.name_table.proofs.EachItem.{done_then}
-use Rattle.typing_rules.specs.Check.{State, Broken, and_then, each_checked, ◌>>◌}
+use Rattle.typing_rules.specs.Check.{Check, State, Broken, and_then, each_checked, ◌>>◌}
 use Rattle.typing_rules.specs.Collected as walk
 use Rattle.typing_rules.specs.Collected.{collected, collecting, items_in, heads_collected, impl_of, item_name, names_differ, starting_with}
 use Rattle.typing_rules.specs.Items.{ItemSyn, item_syns, items_of}

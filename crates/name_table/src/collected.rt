@@ -14,7 +14,7 @@ ghost use Rattle.typing_rules.specs.Items.{items_of};
 ghost use Rattle.typing_rules.specs.Written.{number_of};
 
 use crate::derived::derive;
-use crate::finite::one_by_one;
+use crate::finite_size::finite;
 use crate::impl_walk::impls;
 use crate::item_names::names_differ;
 use crate::item_walk::heads;
@@ -79,7 +79,7 @@ fn declared(items: &mut Items, known: &Known, pieces: &[Piece]) -> Result<(), Ru
 fn tested(items: &mut Items, known: &Known, pieces: &[Piece], end: Pos) -> Result<(), RuleError>
     ensures { Answers (tested_by (known_of known.now) (items_of (parts_in pieces.now)) end (starting_with items.old)) result items.new }
 {
-    one_by_one(items, known.alloc, pieces)?;
+    finite(items, known.alloc, pieces)?;
     derive(items, pieces)?;
     has_main(items, known, end)
 }

@@ -1,4 +1,4 @@
-//! Whether a type holds itself, and orders of types in which each stands behind what it holds.
+//! Whether a type holds itself, and orders of types in which none stands before what it holds.
 ghost use Rattle.std.specs.Prelude.{◌≡◌, ◌<◌, ◌^◌, length, count_by, not, nat_lt, IfOk, IfErr};
 ghost use Rattle.std.specs.Bool.{OnTrue, OnFalse};
 ghost use Rattle.std.specs.List.{list_any};
@@ -6,7 +6,7 @@ ghost use Rattle.mir_base.specs.declared.rule.RuleError.{RuleError};
 ghost use Rattle.mir_ty.specs.Known.{IsAllShown, IsNews, IsSettledAt, IsShown, known_by};
 ghost use Rattle.mir_ty.specs.Parts.{held_by};
 ghost use Rattle.mir_ty.specs.declared.ty.TyId.{TyId};
-ghost use Rattle.name_table.specs.Holding.{IsOrder, hold_rule, meets as met_by, place_of as placed_at};
+ghost use Rattle.name_table.specs.Holding.{IsBehind, IsOrder, hold_rule, meets as met_by, place_of as placed_at};
 ghost use Rattle.typing_rules.specs.Collected.{holds as held_in};
 
 use mir_base::{List, RuleError};
@@ -18,6 +18,8 @@ use std::alloc::Global;
 pub enum Question<'a> {
     /// It is this type, or known to hold it.
     Holds { part: TyId, known: &'a [bool] },
+    /// Its place in an order is past this one.
+    Past { order: &'a [u32], place: u32 },
     /// Its place in an order is not before this one.
     NotBefore { order: &'a [u32], place: u32 },
 }
@@ -31,7 +33,7 @@ fn is_known(known: &[bool], id: TyId) -> bool
     }
 }
 
-/// The place of a type in an order; the first one past its end.
+/// The place of a type in an order; past its end the first place.
 fn place_of(order: &[u32], id: TyId) -> u32
     ensures { result ≡ placed_at order.now id }
 {
@@ -46,6 +48,7 @@ fn meets(question: &Question, id: TyId) -> bool
 {
     match question {
         Question::Holds { part, known } => id.0 == part.0 || is_known(known, id),
+        Question::Past { order, place } => *place < place_of(order, id),
         Question::NotBefore { order, place } => !(place_of(order, id) < *place),
     }
 }
@@ -140,8 +143,8 @@ pub fn type_count(items: &Items) -> usize
     n as usize
 }
 
-/// Whether a type holds itself, at any depth but not through a box. It takes rounds over all types.
-pub fn holds_itself(items: &Items, alloc: Global, id: TyId) -> Result<bool, RuleError>
+/// Whether a type holds itself, at any depth but not through a box, by rounds over all types.
+fn holds_in_rounds(items: &Items, alloc: Global, id: TyId) -> Result<bool, RuleError>
     ensures holds { IfOk result (λ holds. holds ≡ held_in items.now id id) }
     ensures short { IfErr result (λ e. e ≡ RuleError.Memory) }
 {
@@ -152,15 +155,43 @@ pub fn holds_itself(items: &Items, alloc: Global, id: TyId) -> Result<bool, Rule
     Ok(is_known(known.as_slice(), id))
 }
 
-/// Whether the type with a number stands behind what it holds.
-fn is_placed(items: &Items, order: &[u32], id: TyId, ty: &Ty) -> bool
-    ensures { result ≡ not (list_any (λ h. not (nat_lt (placed_at order.now h) (placed_at order.now id))) (held_by items.now ty.now)) }
+/// Whether a type stands behind all that it holds.
+fn is_behind(items: &Items, order: &[u32], id: TyId) -> bool
+    ensures { OnTrue result (IsBehind items.now order.now id) }
 {
     let place = place_of(order, id);
-    !any_held(items, &Question::NotBefore { order, place }, ty)
+    match items.ty(id) {
+        Some(ty) => !any_held(items, &Question::NotBefore { order, place }, ty),
+        None => false,
+    }
 }
 
-/// Whether each type stands behind what it holds.
+/// Whether a type holds itself: told at once where it stands behind all that it holds, and else by rounds.
+pub fn holds_itself(
+    items: &Items,
+    alloc: Global,
+    order: &[u32],
+    id: TyId,
+) -> Result<bool, RuleError>
+    requires { IsOrder items.now order.now }
+    ensures holds { IfOk result (λ holds. holds ≡ held_in items.now id id) }
+    ensures short { IfErr result (λ e. e ≡ RuleError.Memory) }
+{
+    if is_behind(items, order, id) {
+        return Ok(false);
+    }
+    holds_in_rounds(items, alloc, id)
+}
+
+/// The type with a number stands before nothing that it holds.
+fn is_placed(items: &Items, order: &[u32], id: TyId, ty: &Ty) -> bool
+    ensures { result ≡ not (list_any (λ h. nat_lt (placed_at order.now id) (placed_at order.now h)) (held_by items.now ty.now)) }
+{
+    let place = place_of(order, id);
+    !any_held(items, &Question::Past { order, place }, ty)
+}
+
+/// Whether no type stands before what it holds.
 pub fn is_order(items: &Items, order: &[u32]) -> bool
     ensures { OnTrue result (IsOrder items.now order.now) }
 {

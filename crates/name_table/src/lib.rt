@@ -3,12 +3,13 @@
 
 mod collected;
 mod derived;
-mod finite;
+mod finite_size;
 mod holding;
 mod impl_walk;
 mod item_names;
 mod item_walk;
 mod items;
 mod known_names;
+mod order;
 
 pub use collected::collect;

@@ -5,7 +5,8 @@ use Rattle.typing_rules.specs.Collected.{adt_item, all_derive, starting_with}
 use Rattle.typing_rules.specs.Items.{item_syns, items_of}
 use Rattle.item_heads.specs.Answers.{Refuses}
 use Rattle.name_table.specs.AdtForms.{adt_seen}
-use Rattle.name_table.proofs.EachItem.{on_derived, stopped_derived}
+use Rattle.name_table.specs.Forms.{derives_by}
+use Rattle.name_table.proofs.EachItem.{derive_steps, on_derived, stopped_derived}
 use Rattle.name_table.proofs.derived.derive.Goals as goal
 
 pub loop-piece-preserved : goal.loop-piece-preserved

@@ -1,3 +1,4 @@
+use Rattle.std.proofs.Common.{ap}
 use Rattle.src_ast.specs.ItemForms.{kind_seen}
 use Rattle.src_ast.specs.Seen.{nodes_of, syn_of}
 use Rattle.src_ast.specs.View.{idents, named}

@@ -1,14 +1,15 @@
-use Rattle.std.proofs.Common.{◌≡◌, ◌≤◌, length, drop}
+use Rattle.std.proofs.Common.{◌≡◌, drop}
 use Rattle.std.specs.List.{filter_map}
 use Rattle.src_tree.specs.View.{parts_in}
 use Rattle.typing_rules.specs.Collected.{adt_item, all_finite, starting_with}
 use Rattle.typing_rules.specs.Items.{item_syns, items_of}
-use Rattle.name_table.proofs.finite.one_by_one.Given as goal
+use Rattle.name_table.specs.Holding.{IsOrderOf}
+use Rattle.name_table.proofs.finite_size.one_by_one.Given as goal
 
 abbrev pub invariant-loop-piece : goal.invariant-loop-piece
 invariant-loop-piece l =
     record {
       answers : all_finite 0 (filter_map adt_item (item_syns (items_of (parts_in l.pieces)))) (starting_with l.initial.items)
           ≡ all_finite l.number (filter_map adt_item (item_syns (items_of (parts_in (drop l.piece-index l.pieces))))) (starting_with l.items);
-      grows : length l.initial.items.types ≤ length l.items.types;
+      ordered : IsOrderOf l.items l.order l.number (filter_map adt_item (item_syns (items_of (parts_in (drop l.piece-index l.pieces)))));
     }

@@ -6,20 +6,28 @@ use Rattle.typing_rules.specs.Items.{item_syns, items_of}
 use Rattle.item_heads.specs.Answers.{Refuses}
 use Rattle.name_table.specs.AdtForms.{adt_seen}
 use Rattle.name_table.proofs.EachItem.{on_finite, stopped_finite}
-use Rattle.name_table.proofs.finite.one_by_one.Goals as goal
+use Rattle.name_table.proofs.Numbered.{order_here, order_next}
+use Rattle.name_table.proofs.finite_size.one_by_one.Goals as goal
 
 pub loop-piece-preserved : goal.loop-piece-preserved
 loop-piece-preserved c =
     record {
       answers =
           on_finite _ c.loop-piece.number c.in_ok-number.number c.args.pieces.now c.loop-piece.piece-index c.piece-item.result (adt_seen c.adt_at.result) (starting_with c.loop-piece.items) _
-          c.loop-piece-test.true c.piece-item.is c.loop-piece.invariant.answers c.adt_at.ensures c.in_ok-number.ensures.answers;
-      grows = omega arith;
+          c.loop-piece-test.true c.piece-item.is c.loop-piece.invariant.answers c.adt_at.ensures c.in_ok-number.ensures;
+      ordered =
+          order_next c.loop-piece.number c.in_ok-number.number c.args.pieces.now c.loop-piece.piece-index c.piece-item.result (adt_seen c.adt_at.result) c.loop-piece.items _ c.args.order.now
+          c.loop-piece-test.true c.piece-item.is c.adt_at.ensures c.in_ok-number.ensures c.loop-piece.invariant.ordered;
     }
 
-pub returns-in_err-number-clause-answers : goal.returns-in_err-number-clause-answers
-returns-in_err-number-clause-answers c =
+pub returns-in_err-number : goal.returns-in_err-number
+returns-in_err-number c =
     let refused : Refuses (all_finite 0 (filter_map adt_item (item_syns (items_of (parts_in c.args.pieces.now)))) (starting_with c.args.items.now)) c.in_err-number.field-0.0 =
     stopped_finite _ c.loop-piece.number c.args.pieces.now c.loop-piece.piece-index c.piece-item.result (adt_seen c.adt_at.result) (starting_with c.loop-piece.items) c.in_err-number.field-0.0
-    c.loop-piece-test.true c.piece-item.is c.loop-piece.invariant.answers c.adt_at.ensures c.in_err-number.ensures.answers in
+    c.loop-piece-test.true c.piece-item.is c.loop-piece.invariant.answers c.adt_at.ensures c.in_err-number.ensures in
     grind (arith, refused)
+
+pub finite_at-requires : goal.finite_at-requires
+finite_at-requires c =
+    order_here c.loop-piece.number c.args.pieces.now c.loop-piece.piece-index c.piece-item.result c.adt_at.result c.loop-piece.items c.args.order.now
+    c.loop-piece-test.true c.piece-item.is c.adt_at.ensures c.loop-piece.invariant.ordered
