@@ -3,4 +3,6 @@
 #![tactic(auto)]
 
 #[cfg(test)]
+mod items;
+#[cfg(test)]
 mod trees;

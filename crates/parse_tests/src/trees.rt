@@ -133,7 +133,7 @@ ok fn f() { let x = if a { 1 } else { 2 } + 3; 1 + {2}; x = {1} - 2; }\n\
 6:1:30 fn f() { match a { _ => {} } == 1 }";
 
 /// A job queue, as a whole text.
-const JOB_QUEUE: &str = "\
+pub const JOB_QUEUE: &str = "\
 struct Buf(i32);\n\
 impl Drop for Buf {\n\
 \x20   fn drop(&mut self) { print(self.0); }\n\

@@ -1,0 +1,124 @@
+//! Texts with what `collect` gives of their items: `ok`, or the rule that is broken with its line and column.
+use crate::trees::JOB_QUEUE;
+use mir_base::{Rule, RuleError};
+use mir_pipeline::read_tree;
+use name_table::collect;
+use std::alloc::{AllocError, Global};
+use std::test::Fail;
+
+/// One row for each way in which a rule on items is broken, most beside the nearest text that stands; for each pair of
+/// rules the one that comes first; and for what is asked of bodies alone, which stands here.
+const ROWS: &str = "\
+ok fn main() {}\n\
+1:1:1 \n\
+1:1:10 fn f() {}\n\
+1:1:13 struct main;\n\
+1:1:34 struct S; impl S { fn main() {} }\n\
+1:1:9 fn f(x: E) {} fn main() {}\n\
+ok struct E; fn f(x: E) {} fn main() {}\n\
+1:1:10 struct S(E); fn main() {}\n\
+ok struct S(E); struct E; fn main() {}\n\
+1:1:19 struct S { a: Box<E> } fn main() {}\n\
+ok struct S { a: Box<S> } fn main() {}\n\
+1:1:12 enum S { A(E) } fn main() {}\n\
+1:1:11 fn f() -> E { } fn main() {}\n\
+1:1:10 #[derive(Eq)] struct S; fn main() {}\n\
+ok #[derive(Debug, Clone)] struct S; fn main() {}\n\
+1:1:6 impl S {} fn main() {}\n\
+ok struct S; impl S {} fn main() {}\n\
+1:1:16 struct S; impl Tr for S {} fn main() {}\n\
+ok struct S; trait Tr {} impl Tr for S {} fn main() {}\n\
+1:1:25 trait Tr {} impl Tr for S {} fn main() {}\n\
+1:1:15 impl Drop for S {} fn main() {}\n\
+1:1:17 fn f(b: Box<dyn Tr>) {} fn main() {}\n\
+ok trait Tr {} fn f(b: Box<dyn Tr>) {} fn main() {}\n\
+1:1:9 fn f(b: Vec<i32>) {} fn main() {}\n\
+1:1:9 fn f(b: Box) {} fn main() {}\n\
+1:1:9 fn f(b: Self) {} fn main() {}\n\
+ok struct S; impl S { fn f(b: Self) {} } fn main() {}\n\
+1:1:27 trait Tr { fn m(&self, x: Self); } fn main() {}\n\
+ok trait Tr { fn m(&self, x: i32); } fn main() {}\n\
+2:1:14 struct S; fn S() {} fn main() {}\n\
+ok struct S; fn s() {} fn main() {}\n\
+2:1:17 fn main() {} fn main() {}\n\
+2:1:17 struct S; trait S {} fn main() {}\n\
+2:1:8 struct Box; fn main() {}\n\
+2:1:4 fn drop() {} fn main() {}\n\
+ok struct S; impl Drop for S { fn drop(&mut self) {} } fn main() {}\n\
+9:1:1 struct S { a: S } fn main() {}\n\
+9:1:14 struct A(B); struct B(i32, [B; 0]); fn main() {}\n\
+ok struct A(B); struct B(i32); fn main() {}\n\
+9:1:1 enum E { V(F) } struct F(E); fn main() {}\n\
+9:1:1 struct S((i32, S)); fn main() {}\n\
+9:1:14 struct Z(A); struct A(B); struct B(C); struct C(Box<Z>, A); fn main() {}\n\
+9:1:1 struct A(A); struct B(B); fn main() {}\n\
+9:1:27 struct X(Y, Y); struct Y; enum A { U(B), V(X) } enum B { W, T(X, A) } fn main() {}\n\
+ok struct X(Y, Y); struct Y; enum A { U(Box<B>), V(X) } enum B { W, T(X, A) } fn main() {}\n\
+10:1:1 #[derive(Copy)] struct S; fn main() {}\n\
+ok #[derive(Copy, Clone)] struct S; fn main() {}\n\
+10:1:11 struct D; #[derive(Clone, Copy)] struct S(D); fn main() {}\n\
+ok #[derive(Clone, Copy)] struct D; #[derive(Clone, Copy)] struct S(D, [D; 2]); fn main() {}\n\
+10:1:1 #[derive(Clone, Copy)] struct S(Box<i32>); fn main() {}\n\
+10:1:1 #[derive(Clone, Copy)] struct S; impl Drop for S { fn drop(&mut self) {} } fn main() {}\n\
+2:1:18 fn f(x: E) {} fn f() {} fn main() {}\n\
+1:1:22 struct S(S); fn f(x: E) {} fn main() {}\n\
+9:1:27 #[derive(Copy)] struct T; struct S { a: S } fn main() {}\n\
+10:1:1 #[derive(Copy)] struct T; fn f() {}\n\
+ok struct S { a: i32, a: i32 } enum E { V, V } fn f(a: i32, a: i32) {} fn main() { x; }\n\
+ok fn main() { let c = move [] |n: E| {}; }";
+
+fn number(rule: Rule) -> u32 {
+    match rule {
+        Rule::T01 => 1,
+        Rule::T02 => 2,
+        Rule::T09 => 9,
+        Rule::T10 => 10,
+        _ => 0,
+    }
+}
+
+fn answer(alloc: Global, text: &[u8]) -> Result<String, AllocError> {
+    if text.len() > 200_000 {
+        return format!(in alloc; "long");
+    }
+    let Ok(tree) = read_tree(alloc, text) else {
+        return format!(in alloc; "no tree");
+    };
+    match collect(alloc, &tree) {
+        Ok(_) => format!(in alloc; "ok"),
+        Err(RuleError::Broken { rule, at }) => {
+            format!(in alloc; "{}:{}:{}", number(rule), at.line, at.col)
+        }
+        Err(RuleError::Memory) => format!(in alloc; "memory"),
+    }
+}
+
+#[test]
+fn items_of_each_row(rt: HostRuntime) -> Result<(), Fail> {
+    for row in ROWS.lines() {
+        if let Some((expected, text)) = row.split_once(' ') {
+            let found = answer(rt.alloc(), text.as_bytes())?;
+            assert_eq!(rt; found.as_str(), expected, "{text}");
+        }
+    }
+    Ok(())
+}
+
+/// Five structs and enums, a trait with two impls, and nine bodies.
+#[test]
+fn items_of_the_job_queue(rt: HostRuntime) -> Result<(), Fail> {
+    let text = JOB_QUEUE.as_bytes();
+    if text.len() > 200_000 {
+        return Ok(());
+    }
+    let tree = read_tree(rt.alloc(), text)?;
+    let Ok(items) = collect(rt.alloc(), &tree) else {
+        assert!(rt; false);
+        return Ok(());
+    };
+    assert!(rt; items.adt(4).is_some() && items.adt(5).is_none());
+    assert!(rt; items.trait_def(0).is_some() && items.trait_def(1).is_none());
+    assert!(rt; items.impl_def(1).is_some() && items.impl_def(2).is_none());
+    assert!(rt; items.body_sig(8).is_some() && items.body_sig(9).is_none());
+    Ok(())
+}
