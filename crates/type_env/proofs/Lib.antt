@@ -1,0 +1,4 @@
+pub mod Slots
+pub mod Keys
+pub mod LoopsAround
+pub mod ImplPairs
