@@ -57,7 +57,7 @@ or_false false = refl
 some_none : {X : Type 0} (x : X) → ◌≡◌ {A = Option X} (Some x) None → ⊥
 some_none x h = absurd (cc)
 
-with_next : (impls : List ImplDef) (n : ℕ) (def : ImplDef) → slice_get impls n ≡ Some def → take (n + 1) impls ≡ take n impls ++ def ∷ []
+pub with_next : {X : Type 0} (impls : List X) (n : ℕ) (def : X) → slice_get impls n ≡ Some def → take (n + 1) impls ≡ take n impls ++ def ∷ []
 with_next impls n def at =
     ap (λ k. take k impls) (add-one n) ∙ take-suc impls n def (slice_get_within impls n def at)
     ∙ ap (λ x. take n impls ++ x ∷ []) (get_or_from_slice_get impls n def def at)

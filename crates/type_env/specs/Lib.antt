@@ -1,2 +1,4 @@
 pub mod Scope
 pub mod Coerced
+pub mod Members
+pub mod Walked
