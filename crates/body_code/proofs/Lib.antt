@@ -1,0 +1,9 @@
+mod Elements
+mod Grouped
+mod Nodes
+mod OfOperands
+mod Params
+mod Statements
+mod Wanting
+mod Ways
+mod Whole

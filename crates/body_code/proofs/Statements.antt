@@ -1,0 +1,52 @@
+-- The code of blocks, of `let`, and of matches.
+use Rattle.std.proofs.Common.{rules, map, Box, ◌≡◌, ◌∙◌, ◌∷◌, ℕ, Bool, List, ap, sym}
+use Rattle.mir_ty.specs.ItemTable.{ItemTable}
+use Rattle.src_meaning.specs.Forms.{Around, Destination}
+use Rattle.src_meaning.specs.Shape.{Head, Bound, shape}
+use Rattle.store_model.specs.Places.Place.{Place, whole_local}
+use Rattle.std.specs.declared.alloc.Global.{Global}
+use Rattle.typed_tree.specs.Tree as tree
+use Rattle.typed_tree.specs.View.{tree_of, form_of, nodes_from}
+use Rattle.typed_tree.specs.declared.node.Form
+use Rattle.typed_tree.specs.declared.node.Form.{the_lemmas}
+use Rattle.typed_tree.specs.declared.node.Node.{Node}
+use Rattle.scope_code.specs.Code as plain
+use Rattle.scope_code.specs.Code.{Code}
+use Rattle.scope_code.specs.Forms.{NodeCode, no_code, code, statements, declared, letting, arms, matching, scrutinised, touched}
+use Rattle.scope_code.specs.Ops.{Op, InScope, Then, Matches, BeforeArms, onto, arms_onto, own_scope_onto}
+use Rattle.scope_code.specs.Wanted.{UnderOwnKey, codes_for}
+use Rattle.body_code.proofs.Ways.{in_own}
+use Rattle.body_code.proofs.Nodes.{as_statements}
+
+-- statements are made one after the other, and then a tail
+pub of_block : (id : ℕ) (own : Bool) (around : Around) (ms : List NodeCode) (tail : Code) (before made all after : List Op) → after ≡ InScope id own ∷ Then ∷ all → all ≡ onto tail made → made ≡ onto (codes_for UnderOwnKey ms around) before → after ≡ onto (plain.InScope id own (plain.Then (statements around ms) tail)) before
+of_block id own around ms tail before made all after scoped behind is =
+    scoped ∙ ap (λ (rest : List Op). InScope id own ∷ Then ∷ rest)
+    (behind ∙ ap (onto tail) (is ∙ ap (λ (c : Code). onto c before) (as_statements ms around)))
+
+module _ (items : ItemTable) (h : Head) (around : Around) (bounds : List Bound) (before : List Op) where
+  pub of_declared : (pattern : tree.Node) (after : List Op) → after ≡ onto (declared items bounds) before → bounds ≡ (shape items pattern).bindings (whole_local 0) → after ≡ onto (letting items h (code items pattern) no_code around) before
+  of_declared (tree.node id at ty by form) after made are =
+      made ∙ ap (λ (names : List Bound). onto (declared items names) before) are
+
+module _ (items : ItemTable) (h : Head) (around : Around) (own : Bool) (to : Destination) (ms : List NodeCode) (place : Place) (before : List Op) where
+  -- a scrutinee is reached and looked at, and then come its arms
+  pub of_match : (scrutinee : tree.Node) (reached looked made all : List Op) → all ≡ Then ∷ Matches h.id ∷ made → made ≡ arms_onto (arms ms place around to) (BeforeArms ∷ looked) → looked ≡ Then ∷ onto (touched (shape items scrutinee).is_place (record { node = (code items scrutinee).head.id; place = place })) reached → reached ≡ onto ((code items scrutinee).reaches around) before → place ≡ (shape items scrutinee).place around.aliases → own_scope_onto h.id own all ≡ onto (matching h (code items scrutinee) ms around own to) before
+  of_match (tree.node id at ty by form) reached looked made all is armed looks reaches stands =
+      let scrutinee : tree.Node = tree.node id at ty by form in
+      let words : Place → List Op → List Op =
+      λ p rest. Then ∷ Matches h.id ∷ arms_onto (arms ms p around to)
+      (BeforeArms ∷ Then ∷ onto (touched (shape items scrutinee).is_place (record { node = id; place = p })) rest) in
+      let inner : Code =
+      plain.Then (scrutinised around (code items scrutinee))
+      (plain.Matches h.id (arms ms ((shape items scrutinee).place around.aliases) around to)) in
+      ap (own_scope_onto h.id own)
+      (is
+      ∙ ap (λ (rest : List Op). Then ∷ Matches h.id ∷ rest) (armed ∙ ap (λ (rest : List Op). arms_onto (arms ms place around to) (BeforeArms ∷ rest)) looks)
+      ∙ ap (words place) reaches
+      ∙ ap (λ (p : Place). words p (onto ((code items scrutinee).reaches around) before)) stands)
+      ∙ sym (in_own h.id own inner before)
+
+-- the plain form of a match
+pub match_of : (scrutinee : Box Node Global) (of_arms : List Node) → form_of (Form.Match scrutinee of_arms) ≡ tree.Match (tree_of scrutinee.value) (nodes_from (map tree_of of_arms))
+match_of scrutinee of_arms = search (rules, the_lemmas)
