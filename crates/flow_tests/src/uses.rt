@@ -1,8 +1,9 @@
 //! Bodies whose uses are refused or accepted: the rule, the use, the answers and the path.
+use bad_uses::has_locals;
 use cfg_graph::{Block, Body, Graph, Kind, Operand, Place, Step, Steps, Stmt, Term};
 use mir_base::{List, NoMemory};
 use mir_ty::{Items, Ty, TyId};
-use move_errors::{BadUse, UseError, check_body, has_locals};
+use move_errors::{BadUse, UseError, check_body};
 use std::alloc::Global;
 use std::test::Fail;
 

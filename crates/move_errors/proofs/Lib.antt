@@ -1,15 +1,5 @@
-pub mod Acting
-pub mod OnRows
-pub mod Concerned
-pub mod Leaving
 pub mod Visiting
-pub mod Sorted
 pub mod Turning
 pub mod Owning
-pub mod Using
-pub mod Pathways
-pub mod Rowing
-pub mod Meeting
 pub mod Running
-pub mod WellUsed
 pub mod Showing

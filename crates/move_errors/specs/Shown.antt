@@ -1,8 +1,8 @@
 -- What rows show of a block; no public contract speaks of it.
 use Rattle.std.specs.Prelude.{◌≡◌, ℕ, Bool, false}
 use Rattle.init_flow.specs.Carried.{Row}
-use Rattle.move_errors.specs.Runs.{Problem, point}
-use Rattle.move_errors.specs.declared.point.Stage.{Stage}
+use Rattle.bad_uses.specs.Runs.{Problem, point}
+use Rattle.bad_uses.specs.declared.point.Stage.{Stage}
 
 -- no use within a block is bad by a row at its start, and no store of its result
 pub record ShowsNone (f : Problem) (block : ℕ) (row : Row) : Type 0 where

@@ -1,13 +1,11 @@
 //! Whether the rows of a solution show a bad use.
 ghost use Rattle.std.specs.Prelude.{◌≡◌, ◌<◌, ℕ, [], false, IfOk, length, slice_index_or};
-ghost use Rattle.move_errors.specs.Rows.{IsWatched};
-ghost use Rattle.move_errors.specs.Runs.{problem};
+ghost use Rattle.bad_uses.specs.Rows.{IsWatched};
+ghost use Rattle.bad_uses.specs.Runs.{problem};
 ghost use Rattle.move_errors.specs.Shown.{ShowsNone};
 
-use crate::acts::acts;
-use crate::bad::{Watch, first_bad};
-use crate::point::{Point, Stage};
 use crate::search::copy_of;
+use bad_uses::{Point, Stage, Watch, acts, first_bad};
 use bit_rows::BitRow;
 use init_flow::Solution;
 use mir_base::NoMemory;

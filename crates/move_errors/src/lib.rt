@@ -2,16 +2,9 @@
 //! Reference, "Moved and copied types"; rustc's error E0382).
 #![tactic(auto)]
 
-mod acts;
-mod bad;
 mod decide;
 mod errors;
-mod laws;
-mod locals;
-mod point;
 mod search;
 mod trail;
 
 pub use errors::{BadUse, UseError, check_body, check_uses};
-pub use laws::law_of_locals;
-pub use locals::has_locals;

@@ -122,3 +122,43 @@ fn items_of_the_job_queue(rt: HostRuntime) -> Result<(), Fail> {
     assert!(rt; items.body_sig(8).is_some() && items.body_sig(9).is_none());
     Ok(())
 }
+
+/// So many structs, each with two fields of the one before it, or of the one behind it where `ahead` is set; and first
+/// of all a function `f`, whose parameter is of the struct that stands on all others.
+fn chain(alloc: Global, ahead: bool) -> Result<String, AllocError> {
+    let mut text = String::new(alloc);
+    text.push_str(if ahead {
+        "fn f(x: S0) {} fn main() {} struct S1500; impl Drop for S1500 { fn drop(&mut self) {} }"
+    } else {
+        "fn f(x: S1500) {} fn main() {} struct S0(i32);"
+    })?;
+    let mut last = 0;
+    for n in 1..1501u32 {
+        let (of, fields) = if ahead { (last, n) } else { (n, last) };
+        let line = format!(in alloc; "struct S{of}(S{fields}, S{fields});")?;
+        text.push_str(line.as_str())?;
+        last = n;
+    }
+    Ok(text)
+}
+
+/// Whether the type of the first parameter of the first body needs dropping.
+fn needs_drop(alloc: Global, text: &[u8]) -> Option<bool> {
+    if text.len() > 200_000 {
+        return None;
+    }
+    let tree = read_tree(alloc, text).ok()?;
+    let items = collect(alloc, &tree).ok()?;
+    let id = items.body_sig(0)?.params.get(0)?;
+    Some(items.needs_drop(*id))
+}
+
+#[test]
+fn long_chains_of_structs(rt: HostRuntime) -> Result<(), Fail> {
+    let alloc = rt.alloc();
+    let behind = chain(alloc, false)?;
+    assert!(rt; needs_drop(alloc, behind.as_bytes()) == Some(false));
+    let ahead = chain(alloc, true)?;
+    assert!(rt; needs_drop(alloc, ahead.as_bytes()) == Some(true));
+    Ok(())
+}

@@ -1,7 +1,7 @@
 use Rattle.std.proofs.Common.{◌≡◌, [], ◌∷◌, refl, sym, ap, ◌∙◌, arith}
 use Rattle.std.proofs.lemmas.List.{append_cancel_right}
 use Rattle.cfg_graph.specs.Moves.Actions.{actions_on}
-use Rattle.move_errors.specs.Rows.{state}
+use Rattle.bad_uses.specs.Rows.{state}
 use Rattle.move_errors.proofs.errors.first_row.Goals as goal
 
 pub returns : goal.returns

@@ -1,7 +1,7 @@
 use Rattle.std.proofs.Common.{◌≡◌, List, slice_get, slice_index_or, Some, sym, ap, ◌∙◌}
 use Rattle.std.proofs.lemmas.Option.{slice_get-get_or}
 use Rattle.cfg_graph.specs.declared.graph.Body.{Body}
-use Rattle.move_errors.proofs.WellUsed.{block-there, locals-below}
+use Rattle.bad_uses.proofs.WellUsed.{block-there, locals-below}
 use Rattle.move_errors.proofs.errors.watched.Goals as goal
 
 pub returns-clause-watched : goal.returns-clause-watched

@@ -1,4 +1,4 @@
-use Rattle.move_errors.specs.Runs.{problem}
+use Rattle.bad_uses.specs.Runs.{problem}
 use Rattle.move_errors.specs.Stands.{Stands, remaining}
 use Rattle.move_errors.proofs.search.least_bad.Given as goal
 

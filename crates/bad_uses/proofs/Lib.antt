@@ -1,0 +1,10 @@
+pub mod Acting
+pub mod OnRows
+pub mod Concerned
+pub mod Leaving
+pub mod Sorted
+pub mod Using
+pub mod Pathways
+pub mod Rowing
+pub mod Meeting
+pub mod WellUsed

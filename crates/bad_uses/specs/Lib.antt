@@ -1,0 +1,5 @@
+pub mod Locals
+pub mod Reaches
+pub mod Rows
+pub mod Runs
+pub mod Searching
