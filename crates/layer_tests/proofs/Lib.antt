@@ -1,2 +1,2 @@
-mod Items
-mod Values
+mod WorkedItems
+mod WorkedValues

@@ -48,7 +48,7 @@ fn all_of_a_source(rt: HostRuntime) -> Result<(), Fail> {
             Ok(bytes) => assert!(rt; *expected == Ok(bytes.as_slice())),
             Err(error) => assert!(rt; *expected == Err(error)),
         }
-        assert_eq!(rt; answer(alloc, &mut source, 5)?.as_slice(), *rest);
+        assert!(rt; answer(alloc, &mut source, 5)?.as_slice() == *rest);
     }
     Ok(())
 }
@@ -70,7 +70,7 @@ fn whole_texts(rt: HostRuntime) -> Result<(), Fail> {
         let mut sink = MemSink::new(alloc, (*piece).max(1), List::from_vec(failing));
         sink.reserve(*room)?;
         assert!(rt; write_whole(&mut sink, b"call main!\n") == *expected);
-        assert_eq!(rt; sink.bytes(), *taken);
+        assert!(rt; sink.bytes() == *taken);
     }
     Ok(())
 }
@@ -79,14 +79,14 @@ fn whole_texts(rt: HostRuntime) -> Result<(), Fail> {
 fn room_of_a_sink(rt: HostRuntime) -> Result<(), Fail> {
     let alloc = rt.alloc();
     let mut sink = MemSink::new(alloc, 8, List::new(alloc));
-    assert_eq!(rt; sink.write(b"abc"), Err(Fault));
+    assert!(rt; sink.write(b"abc") == Err(Fault));
     sink.reserve(5)?;
     sink.reserve(2)?;
-    assert_eq!(rt; sink.write(b"abc"), Ok(3));
-    assert_eq!(rt; sink.write(b"def"), Err(Fault));
-    assert_eq!(rt; sink.write(b"de"), Ok(2));
-    assert_eq!(rt; sink.write(b""), Ok(0));
-    assert_eq!(rt; sink.bytes(), b"abcde".as_slice());
+    assert!(rt; sink.write(b"abc") == Ok(3));
+    assert!(rt; sink.write(b"def") == Err(Fault));
+    assert!(rt; sink.write(b"de") == Ok(2));
+    assert!(rt; sink.write(b"") == Ok(0));
+    assert!(rt; sink.bytes() == b"abcde".as_slice());
     Ok(())
 }
 
@@ -114,10 +114,7 @@ impl Write for Broken {
 fn std_readers(rt: HostRuntime) -> Result<(), Fail> {
     let alloc = rt.alloc();
     let mut source = StdSource::new(io::Cursor::new(b"hello".as_slice()));
-    assert_eq!(rt;
-        answer(alloc, &mut source, 5)?.as_slice(),
-        b"hello".as_slice()
-    );
+    assert!(rt; answer(alloc, &mut source, 5)?.as_slice() == b"hello".as_slice());
     let mut source = StdSource::new(Broken);
     assert!(rt; answer(alloc, &mut source, 5) == Err(ReadAllError::ReadFault));
     Ok(())
@@ -127,13 +124,10 @@ fn std_readers(rt: HostRuntime) -> Result<(), Fail> {
 fn std_writers(rt: HostRuntime) -> Result<(), Fail> {
     let mut bytes = Vec::new(rt.alloc());
     let mut sink = StdSink::new(&mut bytes);
-    assert_eq!(rt; write_whole(&mut sink, b"call main\n"), Ok(()));
-    assert_eq!(rt; sink.write(b""), Ok(0));
-    assert_eq!(rt; bytes.as_slice(), b"call main\n".as_slice());
+    assert!(rt; write_whole(&mut sink, b"call main\n") == Ok(()));
+    assert!(rt; sink.write(b"") == Ok(0));
+    assert!(rt; bytes.as_slice() == b"call main\n".as_slice());
     let mut sink = StdSink::new(Broken);
-    assert_eq!(rt;
-        write_whole(&mut sink, b"call"),
-        Err(WriteFault { written: 0 })
-    );
+    assert!(rt; write_whole(&mut sink, b"call") == Err(WriteFault { written: 0 }));
     Ok(())
 }

@@ -1,10 +1,12 @@
 //! Texts with what `collect` gives of their items: `ok`, or the rule that is broken with its line and column.
 use crate::trees::JOB_QUEUE;
-use mir_base::{Rule, RuleError};
+use mir_base::{Event, List, NoMemory, Rule, RuleError};
 use mir_pipeline::read_tree;
+use mir_ty::{ClosureDef, Items, event_line};
 use name_table::collect;
 use std::alloc::{AllocError, Global};
 use std::test::Fail;
+use vtable_rows::rows;
 
 /// One row for each way in which a rule on items is broken, most beside the nearest text that stands; for each pair of
 /// rules the one that comes first; and for what is asked of bodies alone, which stands here.
@@ -120,6 +122,29 @@ fn items_of_the_job_queue(rt: HostRuntime) -> Result<(), Fail> {
     assert!(rt; items.trait_def(0).is_some() && items.trait_def(1).is_none());
     assert!(rt; items.impl_def(1).is_some() && items.impl_def(2).is_none());
     assert!(rt; items.body_sig(8).is_some() && items.body_sig(9).is_none());
+    Ok(())
+}
+
+/// What is made of items, where there is memory: a copy, the rows of impls, the line of an event, a closure more.
+fn uses_of(alloc: Global, items: &Items) -> Result<(), NoMemory> {
+    let mut copy = items.copy(alloc)?;
+    rows(alloc, &copy)?;
+    event_line(alloc, &Event::Asked(7), &copy)?;
+    copy.add_closure(ClosureDef {
+        captures: List::new(alloc),
+        body: 0,
+    })?;
+    Ok(())
+}
+
+#[test]
+fn items_are_used(rt: HostRuntime) -> Result<(), Fail> {
+    let tree = read_tree(rt.alloc(), b"fn main() {}")?;
+    let Ok(items) = collect(rt.alloc(), &tree) else {
+        assert!(rt; false);
+        return Ok(());
+    };
+    assert!(rt; uses_of(rt.alloc(), &items).is_ok());
     Ok(())
 }
 
