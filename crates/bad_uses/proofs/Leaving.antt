@@ -24,7 +24,7 @@ use Rattle.move_paths.specs.Uses.{use_of}
 use Rattle.move_flow.specs.Moved.{masks_of}
 use Rattle.move_flow.specs.Concerns.{AreOfBody}
 use Rattle.move_flow.proofs.Telling.{of-body}
-use Rattle.bad_uses.specs.declared.acts.Act.{Act}
+use Rattle.bad_uses.specs.declared.act.Act.{Act}
 use Rattle.bad_uses.specs.Runs.{actions_of, action_of}
 use Rattle.bad_uses.specs.Rows.{left, use_at, IsUsed, IsWatched}
 

@@ -18,7 +18,7 @@ use Rattle.cfg_graph.specs.Moves.Gone.{Action}
 use Rattle.init_flow.specs.Ways.{target}
 use Rattle.move_paths.specs.Uses.{block_uses}
 use Rattle.move_flow.specs.Concerns.{AreOfBody}
-use Rattle.bad_uses.specs.declared.acts.Act.{Act}
+use Rattle.bad_uses.specs.declared.act.Act.{Act}
 use Rattle.bad_uses.specs.declared.point.Stage.{Stage}
 use Rattle.bad_uses.specs.Runs.{at_line, stmt_actions, stored_between, acts_at, number_of, action_of, actions_of}
 use Rattle.bad_uses.proofs.Sorted.{here, there, none-in, first-or}

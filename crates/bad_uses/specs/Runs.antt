@@ -23,7 +23,7 @@ use Rattle.bad_uses.specs.Rows.{after, first_by, state}
 use Rattle.bad_uses.specs.declared.point.Point.{Point}
 use Rattle.bad_uses.specs.declared.point.Stage.{Stage}
 use Rattle.bad_uses.specs.declared.point.Onward.{Onward}
-use Rattle.bad_uses.specs.declared.acts.Act.{Act}
+use Rattle.bad_uses.specs.declared.act.Act.{Act}
 
 abbrev pub number_of : Bool → ℕ
 number_of true = 1

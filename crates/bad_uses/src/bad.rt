@@ -11,7 +11,7 @@ ghost use Rattle.move_flow.specs.Moved.{masks_of};
 ghost use Rattle.bad_uses.specs.Rows.{some_on, any_both, above, place_at, depth_from, is_depth, OnlyAbove, Asks, concerns, left, after, first_by, use_at, IsUsed, IsWatched};
 ghost use Rattle.bad_uses.specs.Runs.{actions_of, action_of};
 
-use crate::acts::Act;
+use crate::act::Act;
 use bit_rows::BitRow;
 use cfg_graph::{Body, Place, Step};
 use mir_base::{List, NoMemory};

@@ -2,13 +2,13 @@
 //! Reference, "Moved and copied types"; rustc's error E0382).
 #![tactic(auto)]
 
-mod acts;
+mod act;
 mod bad;
 mod laws;
 mod locals;
 mod point;
 
-pub use acts::{Act, acts};
+pub use act::{Act, acts};
 pub use bad::{Watch, first_bad};
 pub use laws::law_of_locals;
 pub use locals::has_locals;

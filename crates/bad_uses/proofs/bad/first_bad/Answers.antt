@@ -3,7 +3,7 @@ use Rattle.std.proofs.Math.Seq.{drop-cons}
 use Rattle.std.proofs.lemmas.Option.{slice_get-get_or}
 use Rattle.cfg_graph.specs.Places.{named}
 use Rattle.move_paths.specs.Uses.{use_of}
-use Rattle.bad_uses.specs.declared.acts.Act.{Act}
+use Rattle.bad_uses.specs.declared.act.Act.{Act}
 use Rattle.bad_uses.specs.Rows.{left, after, first_by, use_at}
 use Rattle.bad_uses.specs.Runs.{actions_of, action_of}
 use Rattle.bad_uses.proofs.Leaving.{used-at, used-local, left-plain, length-left}

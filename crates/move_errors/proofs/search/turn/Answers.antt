@@ -11,7 +11,7 @@ use Rattle.bad_uses.specs.Rows.{after, first_by}
 use Rattle.bad_uses.specs.Runs.{Problem, Trip, problem, index_of, acts_at, action_of, actions_of}
 use Rattle.bad_uses.specs.Searching.{Own}
 use Rattle.move_errors.specs.Stands.{trip_of, waiting_of, Logged, remaining, pushed_items}
-use Rattle.bad_uses.specs.declared.acts.Act.{Act}
+use Rattle.bad_uses.specs.declared.act.Act.{Act}
 use Rattle.bad_uses.specs.declared.point.Point.{Point}
 use Rattle.move_errors.specs.declared.search.Search.{Search}
 use Rattle.move_errors.specs.declared.search.Visit.{Visit}

@@ -7,7 +7,7 @@ use Rattle.cfg_graph.specs.Moves.Gone.{Action}
 use Rattle.move_paths.specs.Uses.{listed}
 use Rattle.bad_uses.specs.Runs.{actions_of, at_line, stmt_actions}
 use Rattle.bad_uses.proofs.Acting.{stmts-more}
-use Rattle.bad_uses.proofs.acts.add_stmts.Goals as goal
+use Rattle.bad_uses.proofs.act.add_stmts.Goals as goal
 
 pub loop-stmt-preserved : goal.loop-stmt-preserved
 loop-stmt-preserved c =
