@@ -1,65 +1,39 @@
 //! A body that moves its parameter and stores into it again on one of two paths.
+use crate::uses::{Blocks, End, Line, PLAIN, graph};
 use bit_rows::BitRow;
-use cfg_graph::{Block, Body, Graph, Kind, Operand, Place, Steps, Stmt, Term};
-use init_flow::solve;
-use mir_base::{List, NoMemory};
-use mir_ty::{Items, TyId};
+use cfg_graph::{Graph, Kind, Place, Steps};
+use init_flow::{Solution, solve};
+use mir_base::NoMemory;
 use move_flow::{MaybeGone, MaybeInit};
 use move_paths::{Found, paths};
 use std::alloc::Global;
 use std::test::Fail;
 
-fn local(alloc: Global, local: u32) -> Place {
-    Place {
-        local,
-        steps: Steps::new(alloc),
-    }
-}
+/// Local 1, the parameter, is moved to local 2; then it is stored into on one path.
+static ROWS: [(Kind, &[Line], End); 3] = [
+    (PLAIN, &[Line::Move(1)], End::If(1, 2)),
+    (PLAIN, &[Line::Store(1)], End::Goto(2)),
+    (PLAIN, &[], End::Return),
+];
 
-fn block(alloc: Global, stmt: Option<Stmt>, term: Term) -> Result<Block, NoMemory> {
-    let mut stmts = List::new(alloc);
-    if let Some(stmt) = stmt {
-        stmts.push(stmt)?;
-    }
-    Ok(Block {
-        kind: Kind::Plain,
-        rank: 0,
-        stmts,
-        term,
-    })
-}
+/// A block, a path, and whether the path is gone there, or present.
+type Bit = (u32, u32, bool);
 
-fn blocks(alloc: Global) -> Result<List<Block>, NoMemory> {
-    let mut blocks = List::new(alloc);
-    let moved = Stmt::Put(local(alloc, 2), Operand::Moved(local(alloc, 1)));
-    let either = Term::If {
-        on: Operand::Truth(true),
-        yes: 1,
-        no: 2,
-    };
-    blocks.push(block(alloc, Some(moved), either)?)?;
-    let stored = Stmt::Put(local(alloc, 1), Operand::Unit);
-    blocks.push(block(alloc, Some(stored), Term::Goto(2))?)?;
-    blocks.push(block(alloc, None, Term::Return)?)?;
-    Ok(blocks)
-}
+static GONE: [Bit; 5] = [
+    (0, 0, true),
+    (0, 1, false),
+    (1, 1, true),
+    (2, 1, true),
+    (2, 2, false),
+];
 
-fn graph(alloc: Global) -> Result<Graph, NoMemory> {
-    let mut locals = List::new(alloc);
-    for _ in 0..3 {
-        locals.push(TyId(0))?;
-    }
-    let mut bodies = List::new(alloc);
-    bodies.push(Body {
-        params: 1,
-        locals,
-        blocks: blocks(alloc)?,
-    })?;
-    Ok(Graph {
-        items: Items::new(alloc),
-        bodies,
-    })
-}
+static PRESENT: [Bit; 5] = [
+    (0, 0, false),
+    (0, 1, true),
+    (1, 1, false),
+    (2, 1, true),
+    (2, 2, true),
+];
 
 fn bit(row: Option<&BitRow>, path: u32) -> Option<bool> {
     let row = row?;
@@ -70,6 +44,15 @@ fn bit(row: Option<&BitRow>, path: u32) -> Option<bool> {
     }
 }
 
+fn are(rows: &Solution, wanted: &[Bit]) -> bool {
+    for (block, path, on) in wanted {
+        if bit(rows.at(*block), *path) != Some(*on) {
+            return false;
+        }
+    }
+    bit(rows.at(3), 0).is_none()
+}
+
 fn forest_stands(alloc: Global, graph: &Graph) -> Result<bool, NoMemory> {
     let Some(body) = graph.bodies.get(0) else {
         return Ok(false);
@@ -77,20 +60,19 @@ fn forest_stands(alloc: Global, graph: &Graph) -> Result<bool, NoMemory> {
     if body.locals.len() < 3 {
         return Ok(false);
     }
+    let place = Place {
+        local: 1,
+        steps: Steps::new(alloc),
+    };
     let forest = paths(alloc, graph, 0)?;
-    let place = local(alloc, 1);
-    Ok(
-        forest.len() == 3
-            && forest.exact(&place) == Some(1)
-            && forest.find(&graph.items, &place) == Found::Exact(1),
-    )
+    let found = forest.find(&graph.items, &place);
+    Ok(forest.len() == 3 && forest.exact(&place) == Some(1) && found == Found::Exact(1))
 }
 
 #[test]
 fn a_forest(rt: HostRuntime) -> Result<(), Fail> {
-    let alloc = rt.alloc();
-    let graph = graph(alloc)?;
-    assert!(rt; matches!(forest_stands(alloc, &graph), Ok(true)));
+    let graph = graph(rt.alloc(), false, &ROWS)?;
+    assert!(rt; matches!(forest_stands(rt.alloc(), &graph), Ok(true)));
     Ok(())
 }
 
@@ -101,24 +83,13 @@ fn gone_rows(alloc: Global, graph: &Graph) -> Result<bool, NoMemory> {
     let forest = paths(alloc, graph, 0)?;
     let gone = MaybeGone::new(alloc, graph, 0, &forest)?;
     let rows = solve(alloc, &gone, &graph.items, body)?;
-    let mut right = bit(rows.at(3), 0) == None;
-    for (block, path, wanted) in [
-        (0u32, 0u32, true),
-        (0, 1, false),
-        (1, 1, true),
-        (2, 1, true),
-        (2, 2, false),
-    ] {
-        right &= bit(rows.at(block), path) == Some(wanted);
-    }
-    Ok(right)
+    Ok(are(&rows, &GONE))
 }
 
 #[test]
 fn gone_on_one_path(rt: HostRuntime) -> Result<(), Fail> {
-    let alloc = rt.alloc();
-    let graph = graph(alloc)?;
-    assert!(rt; matches!(gone_rows(alloc, &graph), Ok(true)));
+    let graph = graph(rt.alloc(), false, &ROWS)?;
+    assert!(rt; matches!(gone_rows(rt.alloc(), &graph), Ok(true)));
     Ok(())
 }
 
@@ -129,23 +100,12 @@ fn present_rows(alloc: Global, graph: &Graph) -> Result<bool, NoMemory> {
     let forest = paths(alloc, graph, 0)?;
     let present = MaybeInit::new(alloc, graph, 0, &forest)?;
     let rows = solve(alloc, &present, &graph.items, body)?;
-    let mut right = true;
-    for (block, path, wanted) in [
-        (0u32, 0u32, false),
-        (0, 1, true),
-        (1, 1, false),
-        (2, 1, true),
-        (2, 2, true),
-    ] {
-        right &= bit(rows.at(block), path) == Some(wanted);
-    }
-    Ok(right)
+    Ok(are(&rows, &PRESENT))
 }
 
 #[test]
 fn present_on_one_path(rt: HostRuntime) -> Result<(), Fail> {
-    let alloc = rt.alloc();
-    let graph = graph(alloc)?;
-    assert!(rt; matches!(present_rows(alloc, &graph), Ok(true)));
+    let graph = graph(rt.alloc(), false, &ROWS)?;
+    assert!(rt; matches!(present_rows(rt.alloc(), &graph), Ok(true)));
     Ok(())
 }

@@ -9,7 +9,7 @@ use std::test::Fail;
 
 /// A statement over the locals of a row.
 #[derive(Clone, Copy)]
-enum Line {
+pub enum Line {
     Move(u32),
     MoveStep(u32, Step),
     Store(u32),
@@ -18,18 +18,18 @@ enum Line {
 
 /// The end of a block: `yes` before `no`.
 #[derive(Clone, Copy)]
-enum End {
+pub enum End {
     Goto(u32),
     If(u32, u32),
     Return,
 }
 
-type Blocks = &'static [(Kind, &'static [Line], End)];
+pub type Blocks = &'static [(Kind, &'static [Line], End)];
 
 /// What is wanted: the rule, the block and the line of the use, the answers, and the path.
 type Wanted = Option<(u8, u32, u32, &'static [u8], &'static [u32])>;
 
-const PLAIN: Kind = Kind::Plain;
+pub const PLAIN: Kind = Kind::Plain;
 
 const FIELD: Step = Step::Field {
     variant: 1,
@@ -164,16 +164,37 @@ fn locals(alloc: Global, parameter: TyId, other: TyId) -> Result<List<TyId>, NoM
     Ok(locals)
 }
 
-fn graph(alloc: Global, by_reference: bool, rows: Blocks) -> Result<Graph, NoMemory> {
+fn body(alloc: Global, parameter: TyId, other: TyId, rows: Blocks) -> Result<Body, NoMemory> {
+    let locals = locals(alloc, parameter, other)?;
+    Ok(Body {
+        params: 1,
+        locals,
+        blocks: blocks(alloc, rows)?,
+    })
+}
+
+fn one(alloc: Global, body: Body) -> Result<List<Body>, NoMemory> {
+    let mut bodies = List::new(alloc);
+    bodies.push(body)?;
+    Ok(bodies)
+}
+
+fn bodies(
+    alloc: Global,
+    parameter: TyId,
+    other: TyId,
+    rows: Blocks,
+) -> Result<List<Body>, NoMemory> {
+    let body = body(alloc, parameter, other, rows)?;
+    one(alloc, body)
+}
+
+pub fn graph(alloc: Global, by_reference: bool, rows: Blocks) -> Result<Graph, NoMemory> {
     let mut items = Items::new(alloc);
     let unit = items.intern(Ty::Unit)?;
     let shared = items.intern(Ty::Shared(unit))?;
-    let mut bodies = List::new(alloc);
-    bodies.push(Body {
-        params: 1,
-        locals: locals(alloc, if by_reference { shared } else { unit }, unit)?,
-        blocks: blocks(alloc, rows)?,
-    })?;
+    let parameter = if by_reference { shared } else { unit };
+    let bodies = bodies(alloc, parameter, unit, rows)?;
     Ok(Graph { items, bodies })
 }
 

@@ -26,7 +26,7 @@ fn lists(rt: HostRuntime) -> Result<(), Fail> {
     list.push(9)?;
     list.set(1, 5);
     *list.element_mut(0) = 4;
-    assert!(rt; list.as_slice() == &[4, 5, 9] && list.len() == 3);
+    assert!(rt; list.as_slice() == [4, 5, 9].as_slice() && list.len() == 3);
     list.truncate(2);
     assert!(rt; list.pop() == Some(5) && !list.is_empty());
     assert!(rt; list.get(0) == Some(&4) && list.iter().next().is_some());

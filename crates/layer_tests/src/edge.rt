@@ -27,47 +27,68 @@ fn answer<S: Source>(alloc: Global, source: &mut S, limit: usize) -> Result<Vec<
     Ok(read_all(alloc, source, limit)?.into_vec())
 }
 
+/// How many bytes come in one call, which calls fail, the limit, the answer, and what is left then, read to its end.
+type Reading = (
+    usize,
+    &'static [u32],
+    usize,
+    Result<&'static [u8], ReadAllError>,
+    &'static [u8],
+);
+
+static READINGS: [Reading; 8] = [
+    (5, &[], 5, Ok(b"hello"), b""),
+    (2, &[], 5, Ok(b"hello"), b""),
+    (1, &[], 9, Ok(b"hello"), b""),
+    (9, &[], 4, Err(ReadAllError::TooLong), b""),
+    (2, &[], 2, Err(ReadAllError::TooLong), b"lo"),
+    (2, &[], 0, Err(ReadAllError::TooLong), b"ello"),
+    (2, &[0], 5, Err(ReadAllError::ReadFault), b"hello"),
+    (2, &[2, 7], 5, Err(ReadAllError::ReadFault), b"o"),
+];
+
+fn is_answer(found: Result<Vec<u8>, ReadAllError>, expected: &Result<&[u8], ReadAllError>) -> bool {
+    match found {
+        Ok(bytes) => *expected == Ok(bytes.as_slice()),
+        Err(error) => *expected == Err(error),
+    }
+}
+
 #[test]
 fn all_of_a_source(rt: HostRuntime) -> Result<(), Fail> {
     let alloc = rt.alloc();
-    // How many bytes come in one call, which calls fail, the limit, the answer, and what is left
-    // then, read to its end.
-    let rows: [(usize, &[u32], usize, Result<&[u8], ReadAllError>, &[u8]); 8] = [
-        (5, &[], 5, Ok(b"hello"), b""),
-        (2, &[], 5, Ok(b"hello"), b""),
-        (1, &[], 9, Ok(b"hello"), b""),
-        (9, &[], 4, Err(ReadAllError::TooLong), b""),
-        (2, &[], 2, Err(ReadAllError::TooLong), b"lo"),
-        (2, &[], 0, Err(ReadAllError::TooLong), b"ello"),
-        (2, &[0], 5, Err(ReadAllError::ReadFault), b"hello"),
-        (2, &[2, 7], 5, Err(ReadAllError::ReadFault), b"o"),
-    ];
-    for (piece, failing, limit, expected, rest) in &rows {
+    for (piece, failing, limit, expected, rest) in &READINGS {
         let mut source = hello(alloc, (*piece).max(1), failing)?;
-        match answer(alloc, &mut source, (*limit).min(9)) {
-            Ok(bytes) => assert!(rt; *expected == Ok(bytes.as_slice())),
-            Err(error) => assert!(rt; *expected == Err(error)),
-        }
-        assert!(rt; answer(alloc, &mut source, 5)?.as_slice() == *rest);
+        let found = answer(alloc, &mut source, (*limit).min(9));
+        assert!(rt; is_answer(found, expected));
+        assert!(rt; is_answer(answer(alloc, &mut source, 5), &Ok(*rest)));
     }
     Ok(())
 }
 
+/// How many bytes a call takes, which calls fail, the room, the answer, and what was taken.
+type Writing = (
+    usize,
+    &'static [u32],
+    usize,
+    Result<(), WriteFault>,
+    &'static [u8],
+);
+
+static WRITINGS: [Writing; 6] = [
+    (16, &[], 11, Ok(()), b"call main!\n"),
+    (4, &[], 11, Ok(()), b"call main!\n"),
+    (4, &[1], 11, Err(WriteFault { written: 4 }), b"call"),
+    (4, &[0], 11, Err(WriteFault { written: 0 }), b""),
+    (4, &[], 7, Err(WriteFault { written: 4 }), b"call"),
+    (16, &[], 10, Err(WriteFault { written: 0 }), b""),
+];
+
 #[test]
 fn whole_texts(rt: HostRuntime) -> Result<(), Fail> {
-    let alloc = rt.alloc();
-    // How many bytes a call takes, which calls fail, the room, the answer, and what was taken.
-    let rows: [(usize, &[u32], usize, Result<(), WriteFault>, &[u8]); 6] = [
-        (16, &[], 11, Ok(()), b"call main!\n"),
-        (4, &[], 11, Ok(()), b"call main!\n"),
-        (4, &[1], 11, Err(WriteFault { written: 4 }), b"call"),
-        (4, &[0], 11, Err(WriteFault { written: 0 }), b""),
-        (4, &[], 7, Err(WriteFault { written: 4 }), b"call"),
-        (16, &[], 10, Err(WriteFault { written: 0 }), b""),
-    ];
-    for (piece, failing, room, expected, taken) in &rows {
-        let failing = failing.to_vec(alloc)?;
-        let mut sink = MemSink::new(alloc, (*piece).max(1), List::from_vec(failing));
+    for (piece, failing, room, expected, taken) in &WRITINGS {
+        let failing = failing.to_vec(rt.alloc())?;
+        let mut sink = MemSink::new(rt.alloc(), (*piece).max(1), List::from_vec(failing));
         sink.reserve(*room)?;
         assert!(rt; write_whole(&mut sink, b"call main!\n") == *expected);
         assert!(rt; sink.bytes() == *taken);

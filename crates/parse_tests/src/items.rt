@@ -1,6 +1,6 @@
 //! Texts with what `collect` gives of their items: `ok`, or the rule that is broken with its line and column.
 use crate::trees::JOB_QUEUE;
-use mir_base::{Event, List, NoMemory, Rule, RuleError};
+use mir_base::{Event, List, Rule, RuleError};
 use mir_pipeline::read_tree;
 use mir_ty::{ClosureDef, Items, event_line};
 use name_table::collect;
@@ -95,6 +95,15 @@ fn answer(alloc: Global, text: &[u8]) -> Result<String, AllocError> {
     }
 }
 
+/// The items of a text that has some.
+fn items_of(alloc: Global, text: &[u8]) -> Option<Items> {
+    if text.len() > 200_000 {
+        return None;
+    }
+    let tree = read_tree(alloc, text).ok()?;
+    collect(alloc, &tree).ok()
+}
+
 #[test]
 fn items_of_each_row(rt: HostRuntime) -> Result<(), Fail> {
     for row in ROWS.lines() {
@@ -107,45 +116,52 @@ fn items_of_each_row(rt: HostRuntime) -> Result<(), Fail> {
 }
 
 /// Five structs and enums, a trait with two impls, and nine bodies.
-#[test]
-fn items_of_the_job_queue(rt: HostRuntime) -> Result<(), Fail> {
-    let text = JOB_QUEUE.as_bytes();
-    if text.len() > 200_000 {
-        return Ok(());
-    }
-    let tree = read_tree(rt.alloc(), text)?;
-    let Ok(items) = collect(rt.alloc(), &tree) else {
-        assert!(rt; false);
-        return Ok(());
-    };
-    assert!(rt; items.adt(4).is_some() && items.adt(5).is_none());
-    assert!(rt; items.trait_def(0).is_some() && items.trait_def(1).is_none());
-    assert!(rt; items.impl_def(1).is_some() && items.impl_def(2).is_none());
-    assert!(rt; items.body_sig(8).is_some() && items.body_sig(9).is_none());
-    Ok(())
+fn has_sorts(items: &Items) -> bool {
+    items.adt(4).is_some()
+        && items.adt(5).is_none()
+        && items.trait_def(0).is_some()
+        && items.trait_def(1).is_none()
+        && items.impl_def(1).is_some()
+        && items.impl_def(2).is_none()
+        && items.body_sig(8).is_some()
+        && items.body_sig(9).is_none()
 }
 
-/// What is made of items, where there is memory: a copy, the rows of impls, the line of an event, a closure more.
-fn uses_of(alloc: Global, items: &Items) -> Result<(), NoMemory> {
-    let mut copy = items.copy(alloc)?;
-    rows(alloc, &copy)?;
-    event_line(alloc, &Event::Asked(7), &copy)?;
-    copy.add_closure(ClosureDef {
+#[test]
+fn items_of_the_job_queue(rt: HostRuntime) {
+    match items_of(rt.alloc(), JOB_QUEUE.as_bytes()) {
+        Some(items) => assert!(rt; has_sorts(&items)),
+        None => assert!(rt; false),
+    }
+}
+
+fn adds_closure(alloc: Global) -> bool {
+    let mut items = Items::new(alloc);
+    let def = ClosureDef {
         captures: List::new(alloc),
         body: 0,
-    })?;
-    Ok(())
+    };
+    items.add_closure(def).is_ok()
+}
+
+fn is_copied(alloc: Global, items: &Items) -> bool {
+    items.copy(alloc).is_ok()
+}
+
+fn has_rows(alloc: Global, items: &Items) -> bool {
+    rows(alloc, items).is_ok()
+}
+
+fn has_line(alloc: Global, items: &Items) -> bool {
+    event_line(alloc, &Event::Asked(7), items).is_ok()
 }
 
 #[test]
-fn items_are_used(rt: HostRuntime) -> Result<(), Fail> {
-    let tree = read_tree(rt.alloc(), b"fn main() {}")?;
-    let Ok(items) = collect(rt.alloc(), &tree) else {
-        assert!(rt; false);
-        return Ok(());
-    };
-    assert!(rt; uses_of(rt.alloc(), &items).is_ok());
-    Ok(())
+fn items_are_used(rt: HostRuntime) {
+    let alloc = rt.alloc();
+    let items = Items::new(alloc);
+    assert!(rt; is_copied(alloc, &items) && has_rows(alloc, &items));
+    assert!(rt; has_line(alloc, &items) && adds_closure(alloc));
 }
 
 /// So many structs, each with two fields of the one before it, or of the one behind it where `ahead` is set; and first
@@ -169,11 +185,7 @@ fn chain(alloc: Global, ahead: bool) -> Result<String, AllocError> {
 
 /// Whether the type of the first parameter of the first body needs dropping.
 fn needs_drop(alloc: Global, text: &[u8]) -> Option<bool> {
-    if text.len() > 200_000 {
-        return None;
-    }
-    let tree = read_tree(alloc, text).ok()?;
-    let items = collect(alloc, &tree).ok()?;
+    let items = items_of(alloc, text)?;
     let id = items.body_sig(0)?.params.get(0)?;
     Some(items.needs_drop(*id))
 }
