@@ -7,14 +7,15 @@ use Rattle.typed_tree.specs.Tree as tree
 use Rattle.typed_tree.specs.Tree.{Form}
 use Rattle.scope_code.specs.Code.{Nothing}
 use Rattle.scope_code.specs.Forms.{code_of_form}
-use Rattle.scope_code.specs.Groups.{IsCodeIn, is_leaf, reaches_place, is_operator, is_call, is_statement}
+use Rattle.scope_code.specs.Groups.{IsCodeIn, is_leaf, is_statement}
+use Rattle.body_code.specs.Parted.{reaches_any, is_any_operator, takes_any}
 use Rattle.body_code.specs.Scoped.{may_be_scope}
 use Rattle.scope_code.specs.View.{done}
 use Rattle.scope_code.specs.declared.code.Code.{Code}
 use Rattle.scope_code.specs.declared.context.Context.{Context}
 
 module _ (items : ItemTable) (h : Head) (s : Shape) (around : Around) (own : Bool) (to : Destination) where
-  pub does_nothing : (form : Form) → is_leaf form ≡ false → reaches_place form ≡ false → is_operator form ≡ false → is_call form ≡ false → may_be_scope form ≡ false → is_statement form ≡ false → done (code_of_form items form h s) around own to ≡ Nothing
+  pub does_nothing : (form : Form) → is_leaf form ≡ false → reaches_any form ≡ false → is_any_operator form ≡ false → takes_any form ≡ false → may_be_scope form ≡ false → is_statement form ≡ false → done (code_of_form items form h s) around own to ≡ Nothing
   does_nothing (tree.Number value) in_leaf in_place in_operator in_call in_scoped in_statement = let never : true ≡ false = in_leaf in cc
   does_nothing (tree.Truth value) in_leaf in_place in_operator in_call in_scoped in_statement = let never : true ≡ false = in_leaf in cc
   does_nothing tree.UnitValue in_leaf in_place in_operator in_call in_scoped in_statement = let never : true ≡ false = in_leaf in cc

@@ -4,13 +4,14 @@ use Rattle.mir_ty.specs.ItemTable.{ItemTable}
 use Rattle.typed_tree.specs.Tree.{Form}
 use Rattle.scope_code.specs.declared.code.Code.{Code}
 use Rattle.scope_code.specs.declared.context.Context.{Context}
-use Rattle.scope_code.specs.Groups.{is_branch, is_loop_or_jump}
 use Rattle.scope_code.specs.Ops.{onto, own_scope_onto}
 use Rattle.scope_code.specs.View.{ops_of, form_code}
+use Rattle.body_code.specs.Parted.{is_condition, is_on_pattern, is_plain_loop, is_while_let, is_jump}
 
 -- branches, loops, and the ways out of loops and bodies
 abbrev pub may_be_scope : Form → Bool
-may_be_scope form = is_branch form || is_loop_or_jump form
+may_be_scope form =
+    is_condition form || is_on_pattern form || is_plain_loop form || is_while_let form || is_jump form
 
 -- in its own scope, if it is one, what stands there is the code of a form of a group; a form that is not in it changes
 -- nothing

@@ -4,7 +4,8 @@ ghost use Rattle.cfg_graph.specs.Places.{named};
 ghost use Rattle.src_meaning.specs.Shape.{shape_of};
 ghost use Rattle.typed_tree.specs.View.{tree_of, form_of, nodes_from, fields_from, field_of, maybe_of};
 ghost use Rattle.scope_code.specs.Forms as forms;
-ghost use Rattle.scope_code.specs.Groups.{IsCodeIn, reaches_place, is_operator, is_call, is_branch, is_loop_or_jump, is_statement};
+ghost use Rattle.scope_code.specs.Groups.{IsCodeIn, is_statement};
+ghost use Rattle.body_code.specs.Parted.{is_part, is_reaching, reaches_any, is_unary, uses_one, is_binary, is_any_operator, is_call, is_made, takes_any, is_condition, is_on_pattern, is_plain_loop, is_while_let, is_jump};
 ghost use Rattle.body_code.specs.Scoped.{may_be_scope, IsScopedIn};
 ghost use Rattle.scope_code.specs.Ops.{onto, arm_onto, arms_onto};
 ghost use Rattle.scope_code.specs.View.{ops_of, around_of, head_of, wanted_of, destination_of, form_code};
@@ -71,7 +72,7 @@ fn form_words(
     if operator_code(alloc, items, form, at, code)? {
         return Ok(());
     }
-    if call_code(alloc, items, form, at, code)? {
+    if operands_code(alloc, items, form, at, code)? {
         return Ok(());
     }
     if scoped_code(alloc, items, form, at, code)? {
@@ -92,7 +93,23 @@ fn place_code(
     at: Context,
     code: &mut Code,
 ) -> Result<bool, NoMemory>
-    ensures { IfOk result (λ is. IsCodeIn reaches_place items.now (form_of form.now) at.entry code.old code.new is) }
+    ensures { IfOk result (λ is. IsCodeIn reaches_any items.now (form_of form.now) at.entry code.old code.new is) }
+{
+    let is_made = part_code(alloc, items, form, at, code)?
+        || reaching_code(alloc, items, form, at, code)?;
+    Ok(is_made)
+}
+
+/// Of parts of places.
+#[cycle(forms)]
+fn part_code(
+    alloc: Global,
+    items: &Items,
+    form: &Form,
+    at: Context,
+    code: &mut Code,
+) -> Result<bool, NoMemory>
+    ensures { IfOk result (λ is. IsCodeIn is_part items.now (form_of form.now) at.entry code.old code.new is) }
 {
     let around = at.around;
     match form {
@@ -112,6 +129,24 @@ fn place_code(
             let array = array_around(alloc, &place)?;
             element(alloc, at.head.id, index.id, array, *length, code)?;
         }
+        _ => return Ok(false),
+    }
+    Ok(true)
+}
+
+/// Of what borrows a place, or stores into it.
+#[cycle(forms)]
+fn reaching_code(
+    alloc: Global,
+    items: &Items,
+    form: &Form,
+    at: Context,
+    code: &mut Code,
+) -> Result<bool, NoMemory>
+    ensures { IfOk result (λ is. IsCodeIn is_reaching items.now (form_of form.now) at.entry code.old code.new is) }
+{
+    let around = at.around;
+    match form {
         Form::Borrow { unique, base } => {
             node_code(alloc, items, base, around, Wanted::AsPlace, code)?;
             let place = place_of(alloc, items, base, around.aliases)?;
@@ -138,7 +173,24 @@ fn operator_code(
     at: Context,
     code: &mut Code,
 ) -> Result<bool, NoMemory>
-    ensures { IfOk result (λ is. IsCodeIn is_operator items.now (form_of form.now) at.entry code.old code.new is) }
+    ensures { IfOk result (λ is. IsCodeIn is_any_operator items.now (form_of form.now) at.entry code.old code.new is) }
+{
+    let is_made = unary_code(alloc, items, form, at, code)?
+        || using_code(alloc, items, form, at, code)?
+        || binary_code(alloc, items, form, at, code)?;
+    Ok(is_made)
+}
+
+/// Of what makes a value of one operand.
+#[cycle(forms)]
+fn unary_code(
+    alloc: Global,
+    items: &Items,
+    form: &Form,
+    at: Context,
+    code: &mut Code,
+) -> Result<bool, NoMemory>
+    ensures { IfOk result (λ is. IsCodeIn is_unary items.now (form_of form.now) at.entry code.old code.new is) }
 {
     let around = at.around;
     match form {
@@ -158,6 +210,29 @@ fn operator_code(
             let stmt = Stmt::NewBox(result_place(alloc, at.to), moved_from(alloc, content.id));
             on_one(alloc, at, content.id, Action::Stmt(stmt), code)?;
         }
+        Form::Unsize { trait_no, operand } => {
+            let to = coerced_to(operand.id, *trait_no, at.to);
+            let wanted = Wanted::Value { own: at.own, to };
+            node_code(alloc, items, operand, around, wanted, code)?;
+        }
+        _ => return Ok(false),
+    }
+    Ok(true)
+}
+
+/// Of what uses one operand up, and gives `()`.
+#[cycle(forms)]
+fn using_code(
+    alloc: Global,
+    items: &Items,
+    form: &Form,
+    at: Context,
+    code: &mut Code,
+) -> Result<bool, NoMemory>
+    ensures { IfOk result (λ is. IsCodeIn uses_one items.now (form_of form.now) at.entry code.old code.new is) }
+{
+    let around = at.around;
+    match form {
         Form::Print(operand) => {
             node_code(alloc, items, operand, around, Wanted::AsOperand, code)?;
             let stmt = Stmt::Print(moved_from(alloc, operand.id));
@@ -172,11 +247,24 @@ fn operator_code(
             node_code(alloc, items, operand, around, Wanted::AsOperand, code)?;
             dropping(alloc, at, code)?;
         }
-        Form::Unsize { trait_no, operand } => {
-            let to = coerced_to(operand.id, *trait_no, at.to);
-            let wanted = Wanted::Value { own: at.own, to };
-            node_code(alloc, items, operand, around, wanted, code)?;
-        }
+        _ => return Ok(false),
+    }
+    Ok(true)
+}
+
+/// Of what makes a value of two operands.
+#[cycle(forms)]
+fn binary_code(
+    alloc: Global,
+    items: &Items,
+    form: &Form,
+    at: Context,
+    code: &mut Code,
+) -> Result<bool, NoMemory>
+    ensures { IfOk result (λ is. IsCodeIn is_binary items.now (form_of form.now) at.entry code.old code.new is) }
+{
+    let around = at.around;
+    match form {
         Form::Arithmetic {
             operator,
             left,
@@ -203,6 +291,22 @@ fn operator_code(
 }
 
 /// Of calls, and of values that are made of any number of operands.
+#[cycle(forms)]
+fn operands_code(
+    alloc: Global,
+    items: &Items,
+    form: &Form,
+    at: Context,
+    code: &mut Code,
+) -> Result<bool, NoMemory>
+    ensures { IfOk result (λ is. IsCodeIn takes_any items.now (form_of form.now) at.entry code.old code.new is) }
+{
+    let is_made = call_code(alloc, items, form, at, code)?
+        || make_code(alloc, items, form, at, code)?;
+    Ok(is_made)
+}
+
+/// Of calls.
 #[cycle(forms)]
 fn call_code(
     alloc: Global,
@@ -253,6 +357,24 @@ fn call_code(
             let keys = keys_behind(alloc, receiver.id, args)?;
             called_virtual(alloc, at, *trait_no, *method, keys, code)?;
         }
+        _ => return Ok(false),
+    }
+    Ok(true)
+}
+
+/// Of values that are made of any number of operands.
+#[cycle(forms)]
+fn make_code(
+    alloc: Global,
+    items: &Items,
+    form: &Form,
+    at: Context,
+    code: &mut Code,
+) -> Result<bool, NoMemory>
+    ensures { IfOk result (λ is. IsCodeIn is_made items.now (form_of form.now) at.entry code.old code.new is) }
+{
+    let around = at.around;
+    match form {
         Form::Make {
             adt,
             variant,
@@ -296,24 +418,27 @@ fn scoped_code(
 ) -> Result<bool, NoMemory>
     ensures { IfOk result (λ is. IsCodeIn may_be_scope items.now (form_of form.now) at.entry code.old code.new is) }
 {
-    let is_made = branch_code(alloc, items, form, at, code)?
-        || loop_code(alloc, items, form, at, code)?;
+    let is_made = condition_code(alloc, items, form, at, code)?
+        || pattern_code(alloc, items, form, at, code)?
+        || loop_code(alloc, items, form, at, code)?
+        || while_let_code(alloc, items, form, at, code)?
+        || jump_code(alloc, items, form, at, code)?;
     if is_made {
         in_own_scope(at.head.id, at.own, code)?;
     }
     Ok(is_made)
 }
 
-/// Of branches, within their scope.
+/// Of branches on truth values, within their scope.
 #[cycle(forms)]
-fn branch_code(
+fn condition_code(
     alloc: Global,
     items: &Items,
     form: &Form,
     at: Context,
     code: &mut Code,
 ) -> Result<bool, NoMemory>
-    ensures { IfOk result (λ is. IsScopedIn is_branch items.now (form_of form.now) at.entry code.old code.new is) }
+    ensures { IfOk result (λ is. IsScopedIn is_condition items.now (form_of form.now) at.entry code.old code.new is) }
 {
     let around = at.around;
     let alone = Wanted::Alone(at.to);
@@ -347,6 +472,24 @@ fn branch_code(
             otherwise_code(alloc, items, otherwise, at, code)?;
             conditional(condition.id, code)?;
         }
+        _ => return Ok(false),
+    }
+    Ok(true)
+}
+
+/// Of branches on patterns, within their scope.
+#[cycle(forms)]
+fn pattern_code(
+    alloc: Global,
+    items: &Items,
+    form: &Form,
+    at: Context,
+    code: &mut Code,
+) -> Result<bool, NoMemory>
+    ensures { IfOk result (λ is. IsScopedIn is_on_pattern items.now (form_of form.now) at.entry code.old code.new is) }
+{
+    let around = at.around;
+    match form {
         Form::IfLet {
             pattern,
             scrutinee,
@@ -355,7 +498,7 @@ fn branch_code(
         } => {
             node_code(alloc, items, scrutinee, around, Wanted::AsPlace, code)?;
             names_taken(alloc, items, pattern, scrutinee, around, code)?;
-            node_code(alloc, items, then, around, alone, code)?;
+            node_code(alloc, items, then, around, Wanted::Alone(at.to), code)?;
             otherwise_leaves(code)?;
             otherwise_code(alloc, items, otherwise, at, code)?;
             taken_if(alloc, items, at.head.id, pattern, scrutinee, around, code)?;
@@ -375,7 +518,7 @@ fn branch_code(
     Ok(true)
 }
 
-/// Of loops, and of the ways out of them and of bodies, within their scope.
+/// Of loops without a pattern, within their scope.
 #[cycle(forms)]
 fn loop_code(
     alloc: Global,
@@ -384,7 +527,7 @@ fn loop_code(
     at: Context,
     code: &mut Code,
 ) -> Result<bool, NoMemory>
-    ensures { IfOk result (λ is. IsScopedIn is_loop_or_jump items.now (form_of form.now) at.entry code.old code.new is) }
+    ensures { IfOk result (λ is. IsScopedIn is_plain_loop items.now (form_of form.now) at.entry code.old code.new is) }
 {
     let id = at.head.id;
     match form {
@@ -416,6 +559,24 @@ fn loop_code(
             conditional(condition.id, code)?;
             code.push(Op::Loops(id))?;
         }
+        _ => return Ok(false),
+    }
+    Ok(true)
+}
+
+/// Of loops on a pattern, within their scope.
+#[cycle(forms)]
+fn while_let_code(
+    alloc: Global,
+    items: &Items,
+    form: &Form,
+    at: Context,
+    code: &mut Code,
+) -> Result<bool, NoMemory>
+    ensures { IfOk result (λ is. IsScopedIn is_while_let items.now (form_of form.now) at.entry code.old code.new is) }
+{
+    let id = at.head.id;
+    match form {
         Form::WhileLet {
             pattern,
             scrutinee,
@@ -434,6 +595,24 @@ fn loop_code(
             taken_if(alloc, items, id, pattern, scrutinee, inner, code)?;
             code.push(Op::Loops(id))?;
         }
+        _ => return Ok(false),
+    }
+    Ok(true)
+}
+
+/// Of the ways out of loops and bodies, within their scope.
+#[cycle(forms)]
+fn jump_code(
+    alloc: Global,
+    items: &Items,
+    form: &Form,
+    at: Context,
+    code: &mut Code,
+) -> Result<bool, NoMemory>
+    ensures { IfOk result (λ is. IsScopedIn is_jump items.now (form_of form.now) at.entry code.old code.new is) }
+{
+    let id = at.head.id;
+    match form {
         Form::Break { from, value } => {
             let to = destination_of_loop(*from, at.around.loops);
             value_of_jump(alloc, items, value, Context { to, ..at }, code)?;

@@ -12,7 +12,8 @@ use Rattle.body_code.proofs.Nodes.{each_onto, codes_onto, so_many, so_many_field
 use Rattle.scope_code.specs.Code as plain
 use Rattle.scope_code.specs.Code.{Code}
 use Rattle.scope_code.specs.Forms.{code, codes_of_fields, acting, deliver, array_around, reach_element, NodeCode, codes, matching, touched, code_if_any, tail_of, statements, declared, letting, operands}
-use Rattle.scope_code.specs.Groups.{is_leaf, reaches_place, is_operator, is_call, is_statement}
+use Rattle.scope_code.specs.Groups.{is_leaf, is_statement}
+use Rattle.body_code.specs.Parted.{reaches_any, is_any_operator, takes_any}
 use Rattle.scope_code.specs.Ops as ops
 use Rattle.scope_code.specs.Ops.{Op, onto, Then, Acts, Matches, InScope, thens}
 use Rattle.scope_code.specs.View.{ops_of, around_of, destination_of, keys_seen, form_code, head_of, wanted_of}
@@ -47,20 +48,20 @@ call_code-returns-in_ok-called-in-Call t c =
     c.in_ok-called-in-Call.ensures c.in_ok-nodes_code-in-Call.ensures c.in_ok-keys-in-Call.ensures
     ∙ ap (λ (made : Code). onto made before) is
 
-pub call_code-returns-in_ok-built_of_keys-in-Tuple : goal.call_code-returns-in_ok-built_of_keys-in-Tuple
-call_code-returns-in_ok-built_of_keys-in-Tuple t c =
+pub make_code-returns-in_ok-built_of_keys-in-Tuple : goal.make_code-returns-in_ok-built_of_keys-in-Tuple
+make_code-returns-in_ok-built_of_keys-in-Tuple t c =
     let items : ItemTable = c.args.items.now in
     let nodes : List Node = c.as_slice-parts.result.now in
     let action : Site → List Operand → Action = λ site. effects.Build site effects.OfTuple in
     let before : List Op = ops_of c.args.code.now in
     let is : on_all c.args.at (each items nodes) action ≡ form_code items (form_of c.args.form.now) c.args.at =
     search (rules, the_lemmas) in
-    of_nodes items c.args.at nodes (keys_seen c.in_ok-keys-in-Tuple.keys) action before (ops_of c.nodes_code-in-Tuple.new.code) (ops_of c.built_of_keys.new.code)
+    of_nodes items c.args.at nodes (keys_seen c.in_ok-keys-in-Tuple.keys) action before (ops_of c.nodes_code.new.code) (ops_of c.built_of_keys.new.code)
     c.in_ok-built_of_keys-in-Tuple.ensures c.in_ok-nodes_code-in-Tuple.ensures c.in_ok-keys-in-Tuple.ensures
     ∙ ap (λ (made : Code). onto made before) is
 
-pub call_code-returns-in_ok-built_of_keys-in-Array : goal.call_code-returns-in_ok-built_of_keys-in-Array
-call_code-returns-in_ok-built_of_keys-in-Array t c =
+pub make_code-returns-in_ok-built_of_keys-in-Array : goal.make_code-returns-in_ok-built_of_keys-in-Array
+make_code-returns-in_ok-built_of_keys-in-Array t c =
     let items : ItemTable = c.args.items.now in
     let nodes : List Node = c.as_slice-elements.result.now in
     let action : Site → List Operand → Action = λ site. effects.Build site effects.OfArray in
@@ -71,8 +72,8 @@ call_code-returns-in_ok-built_of_keys-in-Array t c =
     c.in_ok-built_of_keys-in-Array.ensures c.in_ok-nodes_code-in-Array.ensures c.in_ok-keys-in-Array.ensures
     ∙ ap (λ (made : Code). onto made before) is
 
-pub call_code-returns-in_ok-built_of_keys-in-Closure : goal.call_code-returns-in_ok-built_of_keys-in-Closure
-call_code-returns-in_ok-built_of_keys-in-Closure t c =
+pub make_code-returns-in_ok-built_of_keys-in-Closure : goal.make_code-returns-in_ok-built_of_keys-in-Closure
+make_code-returns-in_ok-built_of_keys-in-Closure t c =
     let items : ItemTable = c.args.items.now in
     let nodes : List Node = c.as_slice-captures.result.now in
     let action : Site → List Operand → Action = λ site. effects.Build site (effects.OfClosure c.in-Closure.closure) in
@@ -113,8 +114,8 @@ call_code-returns-in_ok-called_virtual-in-VirtualCall t c =
     c.in_ok-called_virtual-in-VirtualCall.ensures c.in_ok-push-in-VirtualCall.ensures c.in_ok-nodes_code-in-VirtualCall.ensures c.in_ok-node_code-in-VirtualCall.ensures keys
     ∙ ap (λ (made : Code). onto made before) is
 
-pub call_code-returns-in_ok-made-in-Make : goal.call_code-returns-in_ok-made-in-Make
-call_code-returns-in_ok-made-in-Make t c =
+pub make_code-returns-in_ok-made-in-Make : goal.make_code-returns-in_ok-made-in-Make
+make_code-returns-in_ok-made-in-Make t c =
     let items : ItemTable = c.args.items.now in
     let fields : Fields = fields_from (map field_of c.as_slice-fields.result.now) in
     let id : ℕ = c.args.at.head.id.0 in
@@ -126,8 +127,8 @@ call_code-returns-in_ok-made-in-Make t c =
     c.in_ok-made-in-Make.ensures c.in_ok-fields_code-in-Make.ensures
     ∙ ap (λ (made : Code). onto made (ops_of c.args.code.now)) is
 
-pub place_code-returns-in_ok-element-in-Index : goal.place_code-returns-in_ok-element-in-Index
-place_code-returns-in_ok-element-in-Index t c =
+pub part_code-returns-in_ok-element-in-Index : goal.part_code-returns-in_ok-element-in-Index
+part_code-returns-in_ok-element-in-Index t c =
     let items : ItemTable = c.args.items.now in
     let base : tree.Node = tree_of c.deref-base.result.now in
     let index : tree.Node = tree_of c.deref-index.result.now in
@@ -142,8 +143,8 @@ place_code-returns-in_ok-element-in-Index t c =
     (c.in_ok-array-in-Index.ensures ∙ ap array_around c.in_ok-place-in-Index.ensures)
     ∙ ap (λ (made : Code). onto made (ops_of c.args.code.now)) is
 
-pub branch_code-returns-in_ok-push-in-Match-3 : goal.branch_code-returns-in_ok-push-in-Match-3
-branch_code-returns-in_ok-push-in-Match-3 t c =
+pub pattern_code-returns-in_ok-push-in-Match-3 : goal.pattern_code-returns-in_ok-push-in-Match-3
+pattern_code-returns-in_ok-push-in-Match-3 t c =
     let items : ItemTable = c.args.items.now in
     let scrutinee : tree.Node = tree_of c.deref-scrutinee.result.now in
     let ms : List NodeCode = codes items (nodes_from (map tree_of c.as_slice.result.now)) in
@@ -255,14 +256,14 @@ form_words-returns t c =
     let code : words.Code = c.args.code.now in
     let leaf : (is_leaf form ≡ false) × (c.leaf_code.new.code ≡ code) =
     not_in is_leaf items form at code c.leaf_code.new.code c.in_ok-leaf_code.field-0 c.if-branch.false c.in_ok-leaf_code.ensures in
-    let place : (reaches_place form ≡ false) × (c.place_code.new.code ≡ c.leaf_code.new.code) =
-    not_in reaches_place items form at c.leaf_code.new.code c.place_code.new.code c.in_ok-place_code.field-0 c.if-branch-2.false c.in_ok-place_code.ensures in
-    let operator : (is_operator form ≡ false) × (c.operator_code.new.code ≡ c.place_code.new.code) =
-    not_in is_operator items form at c.place_code.new.code c.operator_code.new.code c.in_ok-operator_code.field-0 c.if-branch-3.false c.in_ok-operator_code.ensures in
-    let call : (is_call form ≡ false) × (c.call_code.new.code ≡ c.operator_code.new.code) =
-    not_in is_call items form at c.operator_code.new.code c.call_code.new.code c.in_ok-call_code.field-0 c.if-branch-4.false c.in_ok-call_code.ensures in
-    let scoped : (may_be_scope form ≡ false) × (c.scoped_code.new.code ≡ c.call_code.new.code) =
-    not_in may_be_scope items form at c.call_code.new.code c.scoped_code.new.code c.in_ok-scoped_code.field-0 c.if-branch-5.false c.in_ok-scoped_code.ensures in
+    let place : (reaches_any form ≡ false) × (c.place_code.new.code ≡ c.leaf_code.new.code) =
+    not_in reaches_any items form at c.leaf_code.new.code c.place_code.new.code c.in_ok-place_code.field-0 c.if-branch-2.false c.in_ok-place_code.ensures in
+    let operator : (is_any_operator form ≡ false) × (c.operator_code.new.code ≡ c.place_code.new.code) =
+    not_in is_any_operator items form at c.place_code.new.code c.operator_code.new.code c.in_ok-operator_code.field-0 c.if-branch-3.false c.in_ok-operator_code.ensures in
+    let call : (takes_any form ≡ false) × (c.operands_code.new.code ≡ c.operator_code.new.code) =
+    not_in takes_any items form at c.operator_code.new.code c.operands_code.new.code c.in_ok-operands_code.field-0 c.if-branch-4.false c.in_ok-operands_code.ensures in
+    let scoped : (may_be_scope form ≡ false) × (c.scoped_code.new.code ≡ c.operands_code.new.code) =
+    not_in may_be_scope items form at c.operands_code.new.code c.scoped_code.new.code c.in_ok-scoped_code.field-0 c.if-branch-5.false c.in_ok-scoped_code.ensures in
     let statement : (is_statement form ≡ false) × (c.statement_code.new.code ≡ c.scoped_code.new.code) =
     not_in is_statement items form at c.scoped_code.new.code c.statement_code.new.code c.in_ok-statement_code.field-0 c.if-branch-6.false c.in_ok-statement_code.ensures in
     let same : c.statement_code.new.code ≡ code = statement.1 ∙ scoped.1 ∙ call.1 ∙ operator.1 ∙ place.1 ∙ leaf.1 in
