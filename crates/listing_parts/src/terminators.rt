@@ -266,7 +266,8 @@ fn leaving(text: &[u8]) -> Option<(Term, &[u8])>
     if let Some(rest) = strip(text, "return") {
         return Some((Term::Return, rest));
     }
-    Some((Term::Resume, strip(text, "resume")?))
+    let rest = strip(text, "resume")?;
+    Some((Term::Resume, rest))
 }
 
 /// A terminator that stores no result.

@@ -2,14 +2,16 @@ ghost use Rattle.std.specs.Prelude.{◌≡◌, ◌++◌, OnOk, codes};
 ghost use Rattle.std.specs.String.{string_bytes};
 ghost use Rattle.std.specs.Fmt.{decimal};
 ghost use Rattle.mir_ty.specs.Named.{adt_name};
-ghost use Rattle.mir_text.specs.Parts.{operand_text, place_text, stmt_text, term_text};
+ghost use Rattle.mir_base.specs.Lines.{why_word};
+ghost use Rattle.mir_text.specs.Parts.{borrow_text, comparison_text, math_text, operand_text, operands_text, place_text, stmt_text, term_text, unwind_text};
 ghost use Rattle.mir_text.specs.Types.{trait_name};
 
 use crate::parts::{put_operand, put_operands, put_place, put_ways};
 use crate::words::{
     put, put_number, put_unwind, word_of_borrow, word_of_comparison, word_of_math, word_of_why,
 };
-use cfg_graph::{Operand, Place, Stmt, Term};
+use cfg_graph::{Operand, Place, Stmt, Term, Unwind};
+use mir_base::{Cmp, Math, Why};
 use mir_ty::Items;
 use std::alloc::AllocError;
 
@@ -59,80 +61,219 @@ fn put_blank_number(out: &mut String, n: u32) -> Result<(), AllocError>
     put_number(out, n)
 }
 
+/// A place, a word and an operand.
+fn put_from(out: &mut String, to: &Place, word: &str, from: &Operand) -> Result<(), AllocError>
+    ensures { OnOk result (string_bytes out.new ≡ string_bytes out.old ++ (place_text to.now ++ word.now ++ operand_text from.now)) }
+{
+    put_to(out, to, word)?;
+    put_operand(out, from)
+}
+
+/// A place, a word and what a tuple or an array is made of.
+fn put_parts(out: &mut String, to: &Place, word: &str, parts: &[Operand]) -> Result<(), AllocError>
+    ensures { OnOk result (string_bytes out.new ≡ string_bytes out.old ++ (place_text to.now ++ word.now ++ operands_text parts.now)) }
+{
+    put_to(out, to, word)?;
+    put_operands(out, parts)
+}
+
+/// A word and an operand.
+fn put_on(out: &mut String, word: &str, operand: &Operand) -> Result<(), AllocError>
+    ensures { OnOk result (string_bytes out.new ≡ string_bytes out.old ++ (word.now ++ operand_text operand.now)) }
+{
+    put(out, word)?;
+    put_operand(out, operand)
+}
+
+/// A word and a place.
+fn put_at(out: &mut String, word: &str, place: &Place) -> Result<(), AllocError>
+    ensures { OnOk result (string_bytes out.new ≡ string_bytes out.old ++ (word.now ++ place_text place.now)) }
+{
+    put(out, word)?;
+    put_place(out, place)
+}
+
+/// A comparison of two operands.
+fn put_comparison(
+    out: &mut String,
+    to: &Place,
+    op: Cmp,
+    left: &Operand,
+    right: &Operand,
+) -> Result<(), AllocError>
+    ensures { OnOk result (string_bytes out.new ≡ string_bytes out.old ++ (place_text to.now ++ codes " = " ++ comparison_text op ++ codes " " ++ operand_text left.now ++ codes " " ++ operand_text right.now)) }
+{
+    put_to(out, to, " = ")?;
+    put(out, word_of_comparison(op))?;
+    put_two(out, left, right)
+}
+
+/// A value of a struct or an enum.
+fn put_make(
+    out: &mut String,
+    items: &Items,
+    to: &Place,
+    adt: u32,
+    variant: u32,
+    parts: &[Operand],
+) -> Result<(), AllocError>
+    ensures { OnOk result (string_bytes out.new ≡ string_bytes out.old ++ (place_text to.now ++ codes " = make " ++ adt_name items.now adt ++ codes " " ++ decimal variant ++ codes " " ++ operands_text parts.now)) }
+{
+    put_to(out, to, " = make ")?;
+    put_adt_name(out, items, adt)?;
+    put_blank_number(out, variant)?;
+    put(out, " ")?;
+    put_operands(out, parts)
+}
+
+/// A closure.
+fn put_close(
+    out: &mut String,
+    to: &Place,
+    closure: u32,
+    parts: &[Operand],
+) -> Result<(), AllocError>
+    ensures { OnOk result (string_bytes out.new ≡ string_bytes out.old ++ (place_text to.now ++ codes " = close " ++ decimal closure ++ codes " " ++ operands_text parts.now)) }
+{
+    put_to(out, to, " = close ")?;
+    put_number(out, closure)?;
+    put(out, " ")?;
+    put_operands(out, parts)
+}
+
+/// A box that becomes one of a trait object.
+fn put_unsize(
+    out: &mut String,
+    items: &Items,
+    to: &Place,
+    trait_no: u32,
+    from: &Operand,
+) -> Result<(), AllocError>
+    ensures { OnOk result (string_bytes out.new ≡ string_bytes out.old ++ (place_text to.now ++ codes " = unsize " ++ trait_name items.now trait_no ++ codes " " ++ operand_text from.now)) }
+{
+    put_to(out, to, " = unsize ")?;
+    put_trait_name(out, items, trait_no)?;
+    put(out, " ")?;
+    put_operand(out, from)
+}
+
+/// A borrow.
+fn put_borrow(out: &mut String, to: &Place, unique: bool, of: &Place) -> Result<(), AllocError>
+    ensures { OnOk result (string_bytes out.new ≡ string_bytes out.old ++ (place_text to.now ++ borrow_text unique ++ place_text of.now)) }
+{
+    put_to(out, to, word_of_borrow(unique))?;
+    put_place(out, of)
+}
+
 pub fn put_stmt(out: &mut String, items: &Items, stmt: &Stmt) -> Result<(), AllocError>
     ensures { OnOk result (string_bytes out.new ≡ string_bytes out.old ++ stmt_text items.now stmt.now) }
 {
     match stmt {
-        Stmt::Put(to, from) => {
-            put_to(out, to, " = ")?;
-            put_operand(out, from)
-        }
-        Stmt::Compare(to, op, left, right) => {
-            put_to(out, to, " = ")?;
-            put(out, word_of_comparison(*op))?;
-            put_two(out, left, right)
-        }
-        Stmt::Not(to, operand) => {
-            put_to(out, to, " = not ")?;
-            put_operand(out, operand)
-        }
-        Stmt::Tuple(to, parts) => {
-            put_to(out, to, " = tuple ")?;
-            put_operands(out, parts.as_slice())
-        }
-        Stmt::Array(to, parts) => {
-            put_to(out, to, " = array ")?;
-            put_operands(out, parts.as_slice())
-        }
+        Stmt::Put(to, from) => put_from(out, to, " = ", from),
+        Stmt::Compare(to, op, left, right) => put_comparison(out, to, *op, left, right),
+        Stmt::Not(to, operand) => put_from(out, to, " = not ", operand),
+        Stmt::Tuple(to, parts) => put_parts(out, to, " = tuple ", parts.as_slice()),
+        Stmt::Array(to, parts) => put_parts(out, to, " = array ", parts.as_slice()),
         Stmt::Make {
             to,
             adt,
             variant,
             parts,
-        } => {
-            put_to(out, to, " = make ")?;
-            put_adt_name(out, items, *adt)?;
-            put_blank_number(out, *variant)?;
-            put(out, " ")?;
-            put_operands(out, parts.as_slice())
-        }
-        Stmt::Close { to, closure, parts } => {
-            put_to(out, to, " = close ")?;
-            put_number(out, *closure)?;
-            put(out, " ")?;
-            put_operands(out, parts.as_slice())
-        }
-        Stmt::NewBox(to, operand) => {
-            put_to(out, to, " = box ")?;
-            put_operand(out, operand)
-        }
-        Stmt::Unsize { to, trait_no, from } => {
-            put_to(out, to, " = unsize ")?;
-            put_trait_name(out, items, *trait_no)?;
-            put(out, " ")?;
-            put_operand(out, from)
-        }
-        Stmt::Borrow { to, unique, of } => {
-            put_to(out, to, word_of_borrow(*unique))?;
-            put_place(out, of)
-        }
-        Stmt::Touch(place) => {
-            put(out, "touch ")?;
-            put_place(out, place)
-        }
-        Stmt::Print(operand) => {
-            put(out, "print ")?;
-            put_operand(out, operand)
-        }
-        Stmt::Forget(operand) => {
-            put(out, "forget ")?;
-            put_operand(out, operand)
-        }
-        Stmt::Free(place) => {
-            put(out, "free ")?;
-            put_place(out, place)
-        }
+        } => put_make(out, items, to, *adt, *variant, parts.as_slice()),
+        Stmt::Close { to, closure, parts } => put_close(out, to, *closure, parts.as_slice()),
+        Stmt::NewBox(to, operand) => put_from(out, to, " = box ", operand),
+        Stmt::Unsize { to, trait_no, from } => put_unsize(out, items, to, *trait_no, from),
+        Stmt::Borrow { to, unique, of } => put_borrow(out, to, *unique, of),
+        Stmt::Touch(place) => put_at(out, "touch ", place),
+        Stmt::Print(operand) => put_on(out, "print ", operand),
+        Stmt::Forget(operand) => put_on(out, "forget ", operand),
+        Stmt::Free(place) => put_at(out, "free ", place),
     }
+}
+
+/// A branch on an operand.
+fn put_if(out: &mut String, on: &Operand, yes: u32, no: u32) -> Result<(), AllocError>
+    ensures { OnOk result (string_bytes out.new ≡ string_bytes out.old ++ (codes "if " ++ operand_text on.now ++ codes " " ++ decimal yes ++ codes " " ++ decimal no)) }
+{
+    put_on(out, "if ", on)?;
+    put_blank_number(out, yes)?;
+    put_blank_number(out, no)
+}
+
+/// A branch on a variant.
+fn put_case(out: &mut String, on: &Place, variant: u32, yes: u32, no: u32) -> Result<(), AllocError>
+    ensures { OnOk result (string_bytes out.new ≡ string_bytes out.old ++ (codes "case " ++ place_text on.now ++ codes " " ++ decimal variant ++ codes " " ++ decimal yes ++ codes " " ++ decimal no)) }
+{
+    put_at(out, "case ", on)?;
+    put_blank_number(out, variant)?;
+    put_blank_number(out, yes)?;
+    put_blank_number(out, no)
+}
+
+/// Arithmetic, before its ways on.
+fn put_math(
+    out: &mut String,
+    to: &Place,
+    op: Math,
+    left: &Operand,
+    right: &Operand,
+) -> Result<(), AllocError>
+    ensures { OnOk result (string_bytes out.new ≡ string_bytes out.old ++ (place_text to.now ++ codes " = " ++ math_text op ++ codes " " ++ operand_text left.now ++ codes " " ++ operand_text right.now)) }
+{
+    put_to(out, to, " = ")?;
+    put(out, word_of_math(op))?;
+    put_two(out, left, right)
+}
+
+/// A test of an index, before its ways on.
+fn put_bounds(out: &mut String, index: &Operand, length: u32) -> Result<(), AllocError>
+    ensures { OnOk result (string_bytes out.new ≡ string_bytes out.old ++ (codes "bounds " ++ operand_text index.now ++ codes " " ++ decimal length)) }
+{
+    put_on(out, "bounds ", index)?;
+    put_blank_number(out, length)
+}
+
+/// A call, before its ways on.
+fn put_call(out: &mut String, to: &Place, body: u32, args: &[Operand]) -> Result<(), AllocError>
+    ensures { OnOk result (string_bytes out.new ≡ string_bytes out.old ++ (place_text to.now ++ codes " = call " ++ decimal body ++ codes " " ++ operands_text args.now)) }
+{
+    put_to(out, to, " = call ")?;
+    put_number(out, body)?;
+    put(out, " ")?;
+    put_operands(out, args)
+}
+
+/// A place, and a method of a trait.
+fn put_method(
+    out: &mut String,
+    items: &Items,
+    to: &Place,
+    trait_no: u32,
+    method: u32,
+) -> Result<(), AllocError>
+    ensures { OnOk result (string_bytes out.new ≡ string_bytes out.old ++ (place_text to.now ++ codes " = virtual " ++ trait_name items.now trait_no ++ codes " " ++ decimal method)) }
+{
+    put_to(out, to, " = virtual ")?;
+    put_trait_name(out, items, trait_no)?;
+    put_blank_number(out, method)
+}
+
+/// Operands behind a blank.
+fn put_args(out: &mut String, args: &[Operand]) -> Result<(), AllocError>
+    ensures { OnOk result (string_bytes out.new ≡ string_bytes out.old ++ (codes " " ++ operands_text args.now)) }
+{
+    put(out, " ")?;
+    put_operands(out, args)
+}
+
+/// A panic.
+fn put_panic(out: &mut String, why: Why, unwind: Unwind) -> Result<(), AllocError>
+    ensures { OnOk result (string_bytes out.new ≡ string_bytes out.old ++ (codes "panic " ++ why_word why ++ codes " unwind " ++ unwind_text unwind)) }
+{
+    put(out, "panic ")?;
+    put(out, word_of_why(why))?;
+    put(out, " unwind ")?;
+    put_unwind(out, unwind)
 }
 
 pub fn put_term(out: &mut String, items: &Items, term: &Term) -> Result<(), AllocError>
@@ -143,24 +284,13 @@ pub fn put_term(out: &mut String, items: &Items, term: &Term) -> Result<(), Allo
             put(out, "goto")?;
             put_blank_number(out, *block)
         }
-        Term::If { on, yes, no } => {
-            put(out, "if ")?;
-            put_operand(out, on)?;
-            put_blank_number(out, *yes)?;
-            put_blank_number(out, *no)
-        }
+        Term::If { on, yes, no } => put_if(out, on, *yes, *no),
         Term::Case {
             on,
             variant,
             yes,
             no,
-        } => {
-            put(out, "case ")?;
-            put_place(out, on)?;
-            put_blank_number(out, *variant)?;
-            put_blank_number(out, *yes)?;
-            put_blank_number(out, *no)
-        }
+        } => put_case(out, on, *variant, *yes, *no),
         Term::Math {
             to,
             op,
@@ -169,9 +299,7 @@ pub fn put_term(out: &mut String, items: &Items, term: &Term) -> Result<(), Allo
             then,
             unwind,
         } => {
-            put_to(out, to, " = ")?;
-            put(out, word_of_math(*op))?;
-            put_two(out, left, right)?;
+            put_math(out, to, *op, left, right)?;
             put_ways(out, *then, *unwind)
         }
         Term::Negate {
@@ -180,8 +308,7 @@ pub fn put_term(out: &mut String, items: &Items, term: &Term) -> Result<(), Allo
             then,
             unwind,
         } => {
-            put_to(out, to, " = neg ")?;
-            put_operand(out, of)?;
+            put_from(out, to, " = neg ", of)?;
             put_ways(out, *then, *unwind)
         }
         Term::Bounds {
@@ -190,9 +317,7 @@ pub fn put_term(out: &mut String, items: &Items, term: &Term) -> Result<(), Allo
             then,
             unwind,
         } => {
-            put(out, "bounds ")?;
-            put_operand(out, index)?;
-            put_blank_number(out, *length)?;
+            put_bounds(out, index, *length)?;
             put_ways(out, *then, *unwind)
         }
         Term::Call {
@@ -202,10 +327,7 @@ pub fn put_term(out: &mut String, items: &Items, term: &Term) -> Result<(), Allo
             then,
             unwind,
         } => {
-            put_to(out, to, " = call ")?;
-            put_number(out, *body)?;
-            put(out, " ")?;
-            put_operands(out, args.as_slice())?;
+            put_call(out, to, *body, args.as_slice())?;
             put_ways(out, *then, *unwind)
         }
         Term::Virtual {
@@ -216,11 +338,8 @@ pub fn put_term(out: &mut String, items: &Items, term: &Term) -> Result<(), Allo
             then,
             unwind,
         } => {
-            put_to(out, to, " = virtual ")?;
-            put_trait_name(out, items, *trait_no)?;
-            put_blank_number(out, *method)?;
-            put(out, " ")?;
-            put_operands(out, args.as_slice())?;
+            put_method(out, items, to, *trait_no, *method)?;
+            put_args(out, args.as_slice())?;
             put_ways(out, *then, *unwind)
         }
         Term::Ask { to, then, unwind } => {
@@ -232,16 +351,10 @@ pub fn put_term(out: &mut String, items: &Items, term: &Term) -> Result<(), Allo
             then,
             unwind,
         } => {
-            put(out, "drop ")?;
-            put_place(out, place)?;
+            put_at(out, "drop ", place)?;
             put_ways(out, *then, *unwind)
         }
-        Term::Panic { why, unwind } => {
-            put(out, "panic ")?;
-            put(out, word_of_why(*why))?;
-            put(out, " unwind ")?;
-            put_unwind(out, *unwind)
-        }
+        Term::Panic { why, unwind } => put_panic(out, *why, *unwind),
         Term::Return => put(out, "return"),
         Term::Resume => put(out, "resume"),
     }

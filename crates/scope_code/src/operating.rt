@@ -1,5 +1,5 @@
 //! What a node does with its operands, behind their code.
-ghost use Rattle.std.specs.Prelude.{◌≡◌, ℕ, [], ◌∷◌, ◌++◌, IfOk, OnOk, map};
+ghost use Rattle.std.specs.Prelude.{◌≡◌, ℕ, [], ◌∷◌, ◌++◌, IfOk, OnOk, IsErr, map};
 ghost use Rattle.cfg_meaning.specs.Actions.{action_of, site_of, operands_of};
 ghost use Rattle.store_model.specs.Effects as effects;
 ghost use Rattle.src_meaning.specs.Evaluation.{in_number_order};
@@ -128,6 +128,14 @@ fn moved_keys(alloc: Global, keys: &[Key]) -> Result<List<Operand>, NoMemory>
     Ok(operands)
 }
 
+/// An action is let go where there was no memory. (Let go in place, it would be so form by form.)
+fn let_go(action: Action, why: NoMemory) -> Result<(), NoMemory>
+    ensures { IsErr result }
+{
+    drop(action);
+    Err(why)
+}
+
 /// One operand, and an action of it.
 pub fn on_one(
     alloc: Global,
@@ -140,8 +148,10 @@ pub fn on_one(
         (onto (forms.delivers at.entry.head.id.0 at.entry.head.id.0 (effect_of at.entry.head.id.0 action) (destination_of at.entry.to))
         (ops.Then ∷ ops.Nothing ∷ ops_of code.old))) }
 {
-    let keys = one_operand(alloc, operand, code)?;
-    on_operands(alloc, at, keys, action, code)
+    match one_operand(alloc, operand, code) {
+        Ok(keys) => on_operands(alloc, at, keys, action, code),
+        Err(why) => let_go(action, why),
+    }
 }
 
 /// Two operands, and an action of them.
@@ -157,8 +167,10 @@ pub fn on_two(
         (onto (forms.delivers at.entry.head.id.0 at.entry.head.id.0 (effect_of at.entry.head.id.0 action) (destination_of at.entry.to))
         (ops.Then ∷ ops.Then ∷ ops.Nothing ∷ ops_of code.old))) }
 {
-    let keys = two_operands(alloc, left, right, code)?;
-    on_operands(alloc, at, keys, action, code)
+    match two_operands(alloc, left, right, code) {
+        Ok(keys) => on_operands(alloc, at, keys, action, code),
+        Err(why) => let_go(action, why),
+    }
 }
 
 /// The action of an arithmetic operator.
@@ -196,9 +208,13 @@ pub fn one_gives_unit(
         (onto (forms.unit_after at.entry.head.id.0 (effect_of at.entry.head.id.0 action) (destination_of at.entry.to))
         (ops.Then ∷ ops.Nothing ∷ ops_of code.old))) }
 {
-    let keys = one_operand(alloc, operand, code)?;
-    unit_after(alloc, at.head.id, action, at.to, code)?;
-    operated(at, keys, code)
+    match one_operand(alloc, operand, code) {
+        Ok(keys) => {
+            unit_after(alloc, at.head.id, action, at.to, code)?;
+            operated(at, keys, code)
+        }
+        Err(why) => let_go(action, why),
+    }
 }
 
 /// `drop(e)` leaves its operand in the scope, which drops it.
