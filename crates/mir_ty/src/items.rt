@@ -52,6 +52,31 @@ impl Model for Items {
     ghost invariant = { AreTables };
 }
 
+/// Both a second time. (What is alive where memory may be wanted is dropped there, so two at a time.)
+fn second_of_both<A: Duplicate, B: Duplicate>(
+    alloc: Global,
+    one: &A,
+    other: &B,
+) -> Result<(A, B), NoMemory>
+    ensures one { IfOk result (λ both. both.0 ≡ one.now) }
+    ensures other { IfOk result (λ both. both.1 ≡ other.now) }
+{
+    let first = one.duplicate(alloc)?;
+    Ok((first, other.duplicate(alloc)?))
+}
+
+fn second_marks(
+    alloc: Global,
+    one: &Vec<bool>,
+    other: &Vec<bool>,
+) -> Result<(Vec<bool>, Vec<bool>), NoMemory>
+    ensures one { IfOk result (λ both. both.0.items ≡ one.now.items) }
+    ensures other { IfOk result (λ both. both.1.items ≡ other.now.items) }
+{
+    let first = Vec::from_slice(alloc, one.as_slice())?;
+    Ok((first, Vec::from_slice(alloc, other.as_slice())?))
+}
+
 impl Items {
     /// Items of which there are none. It takes no memory.
     pub fn new(alloc: Global) -> Items
@@ -73,15 +98,19 @@ impl Items {
     pub fn copy(&self, alloc: Global) -> Result<Items, NoMemory>
         ensures { IfOk result (λ copy. copy ≡ self.now) }
     {
+        let (copies, drops) = second_marks(alloc, &self.copies, &self.drops)?;
+        let (types, bodies) = second_of_both(alloc, &self.types, &self.bodies)?;
+        let (adts, traits) = second_of_both(alloc, &self.adts, &self.traits)?;
+        let (impls, closures) = second_of_both(alloc, &self.impls, &self.closures)?;
         Ok(Items {
-            types: self.types.duplicate(alloc)?,
-            copies: Vec::from_slice(alloc, self.copies.as_slice())?,
-            drops: Vec::from_slice(alloc, self.drops.as_slice())?,
-            adts: self.adts.duplicate(alloc)?,
-            traits: self.traits.duplicate(alloc)?,
-            impls: self.impls.duplicate(alloc)?,
-            closures: self.closures.duplicate(alloc)?,
-            bodies: self.bodies.duplicate(alloc)?,
+            types,
+            copies,
+            drops,
+            adts,
+            traits,
+            impls,
+            closures,
+            bodies,
         })
     }
 

@@ -1,5 +1,8 @@
-ghost use Rattle.std.specs.Prelude.{◌≡◌, ◌<◌, IfOk, length};
+ghost use Rattle.std.specs.Prelude.{◌≡◌, ◌<◌, ◌++◌, IfOk, length};
 ghost use Rattle.std.specs.String.{string_bytes};
+ghost use Rattle.std.specs.Fmt.{signed_decimal};
+ghost use Rattle.mir_base.specs.Lines as lines;
+ghost use Rattle.mir_base.specs.Lines.{line};
 ghost use Rattle.mir_ty.specs.Named.{line_of, IsEventOf, body_name, adt_name};
 
 use crate::Items;
@@ -16,29 +19,50 @@ pub fn event_line(alloc: Global, event: &Event, items: &Items) -> Result<List<u8
     Ok(List::from_vec(text.into_bytes()))
 }
 
+/// A word and a name, in a line.
+fn named(alloc: Global, word: &str, name: &str) -> Result<String, NoMemory>
+    ensures { IfOk result (λ text. string_bytes text ≡ line (word.now ++ name.now)) }
+{
+    Ok(format!(in alloc; "{word}{name}\n")?)
+}
+
+/// A word and a value, by the name of its type and its serial number, in a line.
+fn numbered(alloc: Global, word: &str, name: &str, serial: u64) -> Result<String, NoMemory>
+    ensures { IfOk result (λ text. string_bytes text ≡ line (word.now ++ lines.numbered name.now serial)) }
+{
+    Ok(format!(in alloc; "{word}{name}#{serial}\n")?)
+}
+
+/// A word and a number, in a line.
+fn counted(alloc: Global, word: &str, number: i32) -> Result<String, NoMemory>
+    ensures { IfOk result (λ text. string_bytes text ≡ line (word.now ++ signed_decimal number)) }
+{
+    Ok(format!(in alloc; "{word}{number}\n")?)
+}
+
 fn event_text(alloc: Global, event: &Event, items: &Items) -> Result<String, NoMemory>
     requires { IsEventOf items.now event.now }
     ensures { IfOk result (λ text. string_bytes text ≡ line_of items.now event.now) }
 {
     match event {
-        Event::Call(body) => Ok(format!(in alloc; "call {}\n", name_of_body(items, *body))?),
-        Event::Return(body) => Ok(format!(in alloc; "return {}\n", name_of_body(items, *body))?),
-        Event::Unwind(body) => Ok(format!(in alloc; "unwind {}\n", name_of_body(items, *body))?),
+        Event::Call(body) => named(alloc, "call ", name_of_body(items, *body)),
+        Event::Return(body) => named(alloc, "return ", name_of_body(items, *body)),
+        Event::Unwind(body) => named(alloc, "unwind ", name_of_body(items, *body)),
         Event::Make { adt, serial } => {
-            Ok(format!(in alloc; "make {}#{serial}\n", name_of_adt(items, *adt))?)
+            numbered(alloc, "make ", name_of_adt(items, *adt), *serial)
         }
-        Event::Boxed(serial) => Ok(format!(in alloc; "box #{serial}\n")?),
+        Event::Boxed(serial) => numbered(alloc, "box ", "", *serial),
         Event::Dropped { adt, serial } => {
-            Ok(format!(in alloc; "drop {}#{serial}\n", name_of_adt(items, *adt))?)
+            numbered(alloc, "drop ", name_of_adt(items, *adt), *serial)
         }
-        Event::Freed(serial) => Ok(format!(in alloc; "free #{serial}\n")?),
+        Event::Freed(serial) => numbered(alloc, "free ", "", *serial),
         Event::ForgotMade { adt, serial } => {
-            Ok(format!(in alloc; "forget {}#{serial}\n", name_of_adt(items, *adt))?)
+            numbered(alloc, "forget ", name_of_adt(items, *adt), *serial)
         }
-        Event::ForgotBox(serial) => Ok(format!(in alloc; "forget #{serial}\n")?),
-        Event::Printed(number) => Ok(format!(in alloc; "print {number}\n")?),
-        Event::Asked(number) => Ok(format!(in alloc; "ask {number}\n")?),
-        Event::Panicked(why) => Ok(format!(in alloc; "panic {}\n", why.word())?),
+        Event::ForgotBox(serial) => numbered(alloc, "forget ", "", *serial),
+        Event::Printed(number) => counted(alloc, "print ", *number),
+        Event::Asked(number) => counted(alloc, "ask ", *number),
+        Event::Panicked(why) => named(alloc, "panic ", why.word()),
     }
 }
 
