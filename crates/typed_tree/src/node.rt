@@ -20,7 +20,7 @@ pub enum Use {
 }
 
 /// A node of a body's typed tree.
-#[derive(Debug, Drop)]
+#[derive(Drop)]
 #[cycle(node)]
 pub struct Node {
     /// Its number among the nodes of its body, in text order.
@@ -35,7 +35,7 @@ pub struct Node {
 }
 
 /// A field of a struct expression, a variant or a pattern, by its number in the order of declaration.
-#[derive(Debug, Drop)]
+#[derive(Drop)]
 #[cycle(node)]
 pub struct NumberedField {
     pub number: u32,
@@ -44,7 +44,7 @@ pub struct NumberedField {
 
 /// What a node is. Nothing in it is to be looked up by name; names are there for what is printed of a place
 /// (rustc prints them in E0381 and E0382).
-#[derive(Debug, Drop)]
+#[derive(Drop)]
 #[cycle(node)]
 pub enum Form {
     /// An integer literal, its sign included; its type is the node's.
