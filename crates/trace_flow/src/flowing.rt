@@ -2,12 +2,12 @@
 ghost use Rattle.std.specs.Prelude.{◌≡◌, ◌≤◌, [], map, IfOk, IfErr, OnOk, OnErr, ◌++◌, string_bytes};
 ghost use Rattle.mir_base.specs.Lines.{end_line, event_line, event_lines};
 ghost use Rattle.mir_edge.specs.Faults.{HasRisen};
-ghost use Rattle.mir_machine.specs.Flows.{FlowsOn, StopsIn};
-ghost use Rattle.mir_machine.specs.Runs.{IsWriteFault};
+ghost use Rattle.trace_flow.specs.Flows.{FlowsOn, StopsIn};
+ghost use Rattle.trace_flow.specs.Errors.{IsWriteFault};
 ghost use Rattle.mir_steps.specs.Worlds.{event_of};
 ghost use Rattle.mir_ty.specs.Named.{adt_name, body_name};
 
-use crate::running::RunError;
+use crate::RunError;
 use crate::text::{last_line, line_of};
 use mir_base::{End, NoMemory};
 use mir_edge::{Sink, WriteFault, write_whole};

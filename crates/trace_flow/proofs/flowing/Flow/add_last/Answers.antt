@@ -1,7 +1,7 @@
 use Rattle.std.proofs.Common.{[], ◌++◌, append-nil}
 use Rattle.std.proofs.lemmas.Result.{on_ok_weaker, IfErr-weaker}
-use Rattle.mir_machine.proofs.FlowsOnward.{flows_as, flows_then, stops_as, stops_then}
-use Rattle.mir_machine.proofs.flowing.Flow.add_last.Goals as goal
+use Rattle.trace_flow.proofs.FlowsOnward.{flows_as, flows_then, stops_as, stops_then}
+use Rattle.trace_flow.proofs.flowing.Flow.add_last.Goals as goal
 
 pub returns-in-Ok-clause-flows : goal.returns-in-Ok-clause-flows
 returns-in-Ok-clause-flows g c =

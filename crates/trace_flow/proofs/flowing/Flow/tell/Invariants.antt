@@ -1,6 +1,6 @@
 use Rattle.std.proofs.Common.{◌≤◌}
-use Rattle.mir_machine.proofs.FlowsOnward.{FlowsTo}
-use Rattle.mir_machine.proofs.flowing.Flow.tell.Given as goal
+use Rattle.trace_flow.proofs.FlowsOnward.{FlowsTo}
+use Rattle.trace_flow.proofs.flowing.Flow.tell.Given as goal
 
 abbrev pub invariant-loop-one : goal.invariant-loop-one
 invariant-loop-one g l =

@@ -1,7 +1,7 @@
 use Rattle.std.proofs.Common.{◌≡◌, ◌≤◌, [], drop, refl, arith}
 use Rattle.std.proofs.lemmas.Grind.{common_steps}
-use Rattle.mir_machine.proofs.FlowsOnward.{all_flow, flows_same, next_flows, next_stops}
-use Rattle.mir_machine.proofs.flowing.Flow.tell.Goals as goal
+use Rattle.trace_flow.proofs.FlowsOnward.{all_flow, flows_same, next_flows, next_stops}
+use Rattle.trace_flow.proofs.flowing.Flow.tell.Goals as goal
 
 pub loop-one-init : goal.loop-one-init
 loop-one-init g c =

@@ -10,10 +10,10 @@ use Rattle.mir_steps.specs.Worlds.{event_of}
 use Rattle.mir_ty.specs.ItemTable.{ItemTable}
 use Rattle.mir_ty.specs.Named.{adt_name, body_name}
 use Rattle.mir_edge.specs.Told.{WhereTold}
-use Rattle.mir_machine.specs.declared.flowing.Flow.{Flow}
-use Rattle.mir_machine.specs.declared.running.RunError.{RunError}
-use Rattle.mir_machine.specs.Flows.{Flows, CutOff, FlowsOn, StopsIn}
-use Rattle.mir_machine.specs.Runs.{TookPart}
+use Rattle.trace_flow.specs.declared.flowing.Flow.{Flow}
+use Rattle.trace_flow.specs.declared.error.RunError.{RunError}
+use Rattle.trace_flow.specs.Flows.{Flows, CutOff, FlowsOn, StopsIn}
+use Rattle.trace_flow.specs.Errors.{TookPart}
 
 told_twice : (start old new : Option (List ℕ)) (first second : List ℕ) → WhereTold start (λ t. old ≡ Some (t ++ first)) → WhereTold old (λ t. new ≡ Some (t ++ second)) →
     WhereTold start (λ t. new ≡ Some (t ++ (first ++ second)))

@@ -1,7 +1,7 @@
 use Rattle.std.proofs.Common.{◌≡◌, ◌≤◌, ◌+◌, [], ◌++◌, take, Some, length, string_bytes, ap, sym, subst, ◌∙◌, arith}
 use Rattle.mir_edge.specs.Told.{WhereTold}
-use Rattle.mir_machine.proofs.FlowsOnward.{memory_stops, sent_all, sent_part}
-use Rattle.mir_machine.proofs.flowing.Flow.send.Goals as goal
+use Rattle.trace_flow.proofs.FlowsOnward.{memory_stops, sent_all, sent_part}
+use Rattle.trace_flow.proofs.flowing.Flow.send.Goals as goal
 
 pub returns-in_default-clause-stops : goal.returns-in_default-clause-stops
 returns-in_default-clause-stops g c = memory_stops (g.K.Sink.taken c.args.out.now) c.args.self.now []

@@ -1,7 +1,7 @@
 use Rattle.std.proofs.Common.{[]}
-use Rattle.mir_machine.proofs.FlowsOnward.{flows_then, kept_on, memory_stops, stops_before, stops_then}
-use Rattle.mir_machine.specs.declared.running.RunError.{RunError}
-use Rattle.mir_machine.proofs.flowing.Flow.add.Goals as goal
+use Rattle.trace_flow.proofs.FlowsOnward.{flows_then, kept_on, memory_stops, stops_before, stops_then}
+use Rattle.trace_flow.specs.declared.error.RunError.{RunError}
+use Rattle.trace_flow.proofs.flowing.Flow.add.Goals as goal
 
 pub returns-in-Err-clause-stops : goal.returns-in-Err-clause-stops
 returns-in-Err-clause-stops g c =

@@ -1,11 +1,11 @@
 use Rattle.std.proofs.Common.{subst, ◌∙◌}
 use Rattle.std.specs.Result.{OnOk}
 use Rattle.mir_base.specs.Lines.{event_line}
-use Rattle.mir_machine.proofs.FlowsOnward.{memory_stops}
-use Rattle.mir_machine.specs.Flows.{FlowsOn}
+use Rattle.trace_flow.proofs.FlowsOnward.{memory_stops}
+use Rattle.trace_flow.specs.Flows.{FlowsOn}
 use Rattle.mir_steps.specs.Worlds.{event_of}
 use Rattle.mir_ty.specs.Named.{adt_name, body_name}
-use Rattle.mir_machine.proofs.flowing.Flow.tell_one.Goals as goal
+use Rattle.trace_flow.proofs.flowing.Flow.tell_one.Goals as goal
 
 pub returns-in-Ok-clause-flows : goal.returns-in-Ok-clause-flows
 returns-in-Ok-clause-flows g c =
