@@ -1,4 +1,4 @@
--- A value in which no `Drop` body is to run: its drop frees the boxes in it, each after its content, and it is gone then.
+-- A value in which no `Drop` body is to run: its drop frees the boxes in it, each after its content; then it is gone.
 use Rattle.std.specs.Prelude.{◌≡◌, ℕ, suc, Bool, true, false, List, [], ◌∷◌, ◌++◌, map, Option, Some, None}
 use Rattle.drop_glue.specs.declared.sweeping.Sweeps.{Sweeps}
 use Rattle.drop_glue.specs.Left.{is_still, type_of_number}
@@ -10,9 +10,11 @@ use Rattle.mir_ty.specs.ItemTable.{ItemTable}
 use Rattle.store_model.specs.declared.address.Addr.{Addr}
 use Rattle.store_model.specs.declared.address.At.TheVariants.{Inside}
 use Rattle.store_model.specs.Concrete.Drops.{drop_impl}
-use Rattle.store_model.specs.Concrete.Location.{Setting, DynamicType, Located, concrete_ty, located_at, stored_at, type_of_part}
+use Rattle.store_model.specs.Concrete.Location.{Setting, DynamicType, Located}
+use Rattle.store_model.specs.Concrete.Location.{concrete_ty, located_at, stored_at, type_of_part}
 use Rattle.store_model.specs.Concrete.State.{State}
-use Rattle.store_model.specs.Values.Datum.{Datum, Data, Gone, Number, Truth, UnitValue, Aggregate, Box, Address, no_part, a_part, data_from, datum_of}
+use Rattle.store_model.specs.Values.Datum.{Datum, Data, Gone, Number, Truth, UnitValue, Aggregate, Box, Address}
+use Rattle.store_model.specs.Values.Datum.{no_part, a_part, data_from, datum_of}
 
 -- the boxes in a value are freed in this order
 abbrev mutual

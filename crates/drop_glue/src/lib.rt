@@ -11,4 +11,4 @@ mod turns;
 
 pub use drops::{Drops, Turn};
 pub use level::Level;
-pub use turns::step;
+pub use turns::steps;

@@ -1,5 +1,5 @@
 //! What stands at an address, as far as a drop asks.
-ghost use Rattle.std.specs.Prelude.{◌≡◌, IfOk, Some, None, option_map, slice_get, true};
+ghost use Rattle.std.specs.Prelude.{◌≡◌, IfOk, Some, None, option_map, true};
 ghost use Rattle.cfg_meaning.specs.Programs.{setting_of};
 ghost use Rattle.drop_glue.specs.Left.{is_expected as is_expected_as, is_still as is_still_as, own_impl};
 ghost use Rattle.drop_glue.specs.Reading.{IsFound, ShowsValue, pair_of};
@@ -9,14 +9,13 @@ ghost use Rattle.mir_store.specs.Standing.{dynamic_of, standing, with_activation
 ghost use Rattle.store_model.specs.Concrete.Drops.{drop_impl};
 ghost use Rattle.store_model.specs.Concrete.Location as location;
 ghost use Rattle.store_model.specs.Concrete.Location.{concrete_ty};
-ghost use Rattle.store_model.specs.Places.TypeForms.{adt_of};
 ghost use Rattle.store_model.specs.Values.Datum.{datum_of};
-ghost use Rattle.std.specs.Option.{option_map_or};
 
 use cfg_graph::Graph;
 use mir_base::NoMemory;
+use mir_steps::{adt_of_dynamic, drop_body_of};
 use mir_store::{Dynamic, Located, Store, adt_of_impl, is_of_type, located_at, type_of_part};
-use mir_ty::{Items, Ty};
+use mir_ty::Items;
 use std::alloc::Global;
 use store_model::{Addr, At, Value};
 
@@ -105,19 +104,6 @@ pub fn read(
     }))
 }
 
-/// The struct or enum by whose parts a value found so goes.
-fn adt_of_dynamic(items: &Items, dynamic: Dynamic) -> Option<u32>
-    ensures { result ≡ adt_of (concrete_ty items.now (dynamic_of dynamic)) }
-{
-    match dynamic {
-        Dynamic::OfType(id) => match items.ty(id) {
-            Some(Ty::Adt(adt)) => Some(*adt),
-            _ => None,
-        },
-        Dynamic::OfObject(_, impl_no) => adt_of_impl(items, impl_no),
-    }
-}
-
 /// Whether what was found as a type is still found as it.
 pub fn is_still(items: &Items, before: Dynamic, now: Dynamic) -> bool
     ensures { result ≡ is_still_as items.now (dynamic_of before) (dynamic_of now) }
@@ -139,12 +125,6 @@ pub fn is_expected(items: &Items, expected: Option<Dynamic>, now: Dynamic) -> bo
         Some(before) => is_still(items, before, now),
         None => true,
     }
-}
-
-fn drop_body_of(items: &Items, adt: u32) -> Option<u32>
-    ensures { result ≡ option_map_or (λ adt. adt.drop_body) (slice_get items.now.adts adt) None }
-{
-    items.adt(adt)?.drop_body
 }
 
 /// The `Drop` body that is still to run of a value found so.

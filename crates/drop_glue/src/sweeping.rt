@@ -20,7 +20,7 @@ ghost use Rattle.mir_store.specs.Standing.{dynamic_of, with_activations};
 ghost use Rattle.store_model.specs.Concrete.Location as location;
 ghost use Rattle.store_model.specs.Values.Datum.{data_from, datum_of};
 
-use crate::reading::{is_still, own_drop};
+use crate::reading::{Found, Kind, is_still, own_drop};
 use crate::turns::take_away;
 use cfg_graph::Graph;
 use mir_base::{Event, List, NoMemory};
@@ -148,9 +148,9 @@ fn sweep_one<'a>(
     }
 }
 
-/// Tells of the boxes in a value as they are freed, where no `Drop` body is to run in it. False where one is, or where a
-/// part has no type; then what was told means nothing. What is still to be gone over is a list, so a deep value does not
-/// deepen the stack.
+/// Tells of the boxes in a value as they are freed, where no `Drop` body is to run in it. False where one is, or where
+/// a part has no type; then what was told means nothing. What is still to be gone over is a list, so a deep value does
+/// not deepen the stack.
 fn sweep(
     alloc: Global,
     items: &Items,
@@ -210,14 +210,31 @@ fn tell_all(world: &mut World<'_>, told: &[Told]) -> Result<(), NoMemory>
     Ok(())
 }
 
-/// Drops the value at an address in one go, where it has parts and no `Drop` body is to run in it; false where not, and
-/// then nothing changes.
-pub fn sweep_at(alloc: Global, world: &mut World<'_>, address: &Addr) -> Result<bool, NoMemory>
+/// Whether a value found so may have parts without a `Drop` body, by what is known before it is gone over.
+fn may_be_swept(items: &Items, found: Found) -> bool {
+    match found.kind {
+        Kind::Parts { .. } => own_drop(items, false, found.dynamic).is_none(),
+        Kind::Boxed { .. } => true,
+        Kind::Nothing | Kind::Plain => false,
+    }
+}
+
+/// Drops the value at an address, found so, in one go, where it has parts and no `Drop` body is to run in it; false
+/// where not, and then nothing changes.
+pub fn sweep_at(
+    alloc: Global,
+    world: &mut World<'_>,
+    address: &Addr,
+    found: Found,
+) -> Result<bool, NoMemory>
     ensures run { run_setting world.new ≡ run_setting world.old }
     ensures ticks { OnOk result (world.new.ticks ≡ world.old.ticks) }
     ensures swept { IfOk result (λ swept. (before : Trace) →
         SweepsAt (run_setting world.old) address.now (state_of before world.old) swept (state_of before world.new)) }
 {
+    if !may_be_swept(&world.graph.items, found) {
+        return Ok(false);
+    }
     let mut told = List::new(alloc);
     if !sweep_there(alloc, world.graph, &world.store, &mut told, address)? {
         return Ok(false);

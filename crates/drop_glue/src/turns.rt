@@ -42,7 +42,7 @@ fn visit(
     if !is_expected(&graph.items, expected, found.dynamic) {
         return Ok(Turn::Stuck);
     }
-    if sweep_at(alloc, world, &drops.address)? {
+    if sweep_at(alloc, world, &drops.address, found)? {
         return Ok(Turn::Leaves);
     }
     drops.begin(&graph.items, ticks, has_run, found)
@@ -121,7 +121,7 @@ fn leaves_if(went: bool) -> Turn
 }
 
 /// Makes one turn of a drop. A turn that enters a `Drop` body, ends the drop or has no step is handed back as it is.
-pub fn step(
+fn step(
     alloc: Global,
     world: &mut World<'_>,
     drops: &mut Drops,
@@ -141,4 +141,36 @@ pub fn step(
         Turn::Frees(dynamic) => Ok(leaves_if(free(alloc, world, &drops.address, dynamic)?)),
         Turn::Enters { .. } | Turn::Ends | Turn::Stuck => Ok(turn),
     }
+}
+
+/// Whether a turn enters a `Drop` body, ends the drop or has no step.
+fn is_over(turn: Turn) -> bool {
+    matches!(turn, Turn::Enters { .. } | Turn::Ends | Turn::Stuck)
+}
+
+/// How many turns are made one after another before what they told is handed on.
+const MANY: u32 = 32;
+
+/// Makes turns of a drop up to one that enters a `Drop` body, ends the drop or has no step, but not too many. Such a
+/// turn is handed back as it is.
+pub fn steps(
+    alloc: Global,
+    world: &mut World<'_>,
+    drops: &mut Drops,
+    turn: Turn,
+) -> Result<Turn, NoMemory>
+    ensures run { run_setting world.new ≡ run_setting world.old }
+    ensures ticks { OnOk result (world.new.ticks ≡ world.old.ticks) }
+    ensures left { IfOk result (λ next. (before : Trace) (run : Bodies) (out : Out State) →
+        TurnLeft (run_setting world.old) run (state_of before world.old) out drops.old turn →
+        TurnLeft (run_setting world.old) run (state_of before world.new) out drops.new next) }
+{
+    let mut now = turn;
+    for _made in 0..MANY {
+        if is_over(now) {
+            return Ok(now);
+        }
+        now = step(alloc, world, drops, now)?;
+    }
+    Ok(now)
 }

@@ -8,4 +8,3 @@ pub mod TasksLeft
 pub mod TermsLeft
 pub mod RunsTold
 pub mod OnlyAdds
-pub mod FlowsOnward

@@ -1,4 +1,3 @@
-pub mod Flows
 pub mod Laws
 pub mod Left
 pub mod Runs

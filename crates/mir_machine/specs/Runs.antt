@@ -1,11 +1,9 @@
 -- What the calls `run` and `run_raw` answer.
-use Rattle.std.specs.Prelude.{◌≡◌, ℕ, ℤ, Bool, true, false, List, [], ◌++◌, map, take, Some}
+use Rattle.std.specs.Prelude.{◌≡◌, ℕ, ℤ, Bool, true, false, List, [], ◌++◌, map, Some}
 use Rattle.cfg_graph.specs.declared.graph.Graph.{Graph}
 use Rattle.cfg_meaning.specs.Programs.{graph_run, raw_graph_run}
 use Rattle.mir_base.specs.declared.trace.End.{End}
 use Rattle.mir_base.specs.Trace.{Trace}
-use Rattle.mir_edge.specs.Told.{WhereTold}
-use Rattle.mir_machine.specs.declared.running.RunError.{RunError}
 use Rattle.mir_steps.specs.declared.told.Told.{Told}
 use Rattle.mir_base.specs.declared.trace.Event.{Event}
 use Rattle.mir_machine.specs.declared.tasks.Doing.{Doing}
@@ -29,16 +27,6 @@ run_text graph run = text_of graph.items run.0 run.1
 -- what a machine told, as events
 abbrev pub events_of : List Told → Trace
 events_of told = map event_of told
-
--- so much of a text was taken after a refusal: as many bytes as it names, or some first bytes where memory was wanted
-abbrev pub TookPart : List ℕ → Option (List ℕ) → Option (List ℕ) → RunError → Type 0
-TookPart text old new (RunError.WriteFault written) = WhereTold old (λ taken. new ≡ Some (taken ++ take written text))
-TookPart text old new RunError.Memory = WhereTold old (λ taken. (count : ℕ) × (new ≡ Some (taken ++ take count text)))
-
--- a write has failed
-abbrev pub IsWriteFault : RunError → Type 0
-IsWriteFault (RunError.WriteFault written) = Unit {0}
-IsWriteFault RunError.Memory = ⊥
 
 -- how a run has ended, where it has
 abbrev pub ended_by : Doing → Option End

@@ -15,7 +15,7 @@ use crate::entering::enter;
 use crate::going::{go_on, stuck};
 use crate::tasks::{Doing, Post, Task};
 use cfg_graph::{Graph, Place, Unwind};
-use drop_glue::{Drops, Turn, step};
+use drop_glue::{Drops, Turn, steps};
 use mir_base::{Event, List, NoMemory};
 use mir_steps::{Outcome, World};
 use mir_store::{Dynamic, Reached, reach, whole_at};
@@ -168,7 +168,7 @@ pub fn drop_turn(
         Turn::Ends => go_on(world, post, ended(&drops)),
         Turn::Stuck => Ok(stuck(post.number, post.block)),
         _ => {
-            let next = step(alloc, world, &mut drops, turn)?;
+            let next = steps(alloc, world, &mut drops, turn)?;
             Ok(Doing::Drops {
                 post,
                 drops,

@@ -3,15 +3,14 @@
 
 mod dropping;
 mod entering;
-mod flowing;
 mod going;
 mod laws;
 mod running;
 mod tasks;
-mod text;
 mod turns;
 mod walking;
 mod whole;
 
 pub use laws::law_of_runs;
-pub use running::{RunError, run, run_raw};
+pub use running::{run, run_raw};
+pub use trace_flow::RunError;

@@ -7,12 +7,12 @@ ghost use Rattle.mir_base.specs.Lines.{end_line};
 ghost use Rattle.mir_edge.specs.Faults.{HasRisen};
 ghost use Rattle.mir_edge.specs.Told.{WhereTold};
 ghost use Rattle.cfg_meaning.specs.Programs.{graph_run, raw_graph_run};
-ghost use Rattle.mir_machine.specs.Flows.{FlowsOn, StopsIn};
-ghost use Rattle.mir_machine.specs.Runs.{ForRun, IsHandedOn, IsWriteFault, TookPart, ended_by, events_of, lines_in, run_by, run_text};
+ghost use Rattle.trace_flow.specs.Flows.{FlowsOn, StopsIn};
+ghost use Rattle.mir_machine.specs.Runs.{ForRun, IsHandedOn, ended_by, events_of, lines_in, run_by, run_text};
+ghost use Rattle.trace_flow.specs.Errors.{IsWriteFault, TookPart};
 ghost use Rattle.store_model.specs.Concrete.Bodies.{main_of};
 
 use crate::entering::enter;
-use crate::flowing::Flow;
 use crate::tasks::Doing;
 use crate::turns::turn;
 use cfg_graph::Graph;
@@ -22,18 +22,7 @@ use mir_steps::World;
 use mir_store::Store;
 use mir_ty::Items;
 use std::alloc::Global;
-use thiserror::Error;
-
-/// Why a run was not written whole.
-#[derive(Clone, Copy, Debug, PartialEq, Eq, Error)]
-pub enum RunError {
-    /// A write failed: exactly the first `written` bytes of the text were taken.
-    #[error("a write failed after {written} bytes")]
-    WriteFault { written: u64 },
-    /// Memory is wanted.
-    #[error("no memory")]
-    Memory,
-}
+use trace_flow::{Flow, RunError};
 
 fn is_main(name: &Name) -> bool
     ensures { result ≡ pointwise nat_eq name.now (codes "main") }

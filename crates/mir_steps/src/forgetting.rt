@@ -33,7 +33,8 @@ pub enum Forgets<'a> {
     Boxed(u64),
 }
 
-fn adt_of_dynamic(items: &Items, dynamic: Dynamic) -> Option<u32>
+/// The struct or enum by whose parts a value found so goes.
+pub fn adt_of_dynamic(items: &Items, dynamic: Dynamic) -> Option<u32>
     ensures { result ≡ adt_of (concrete_ty items.now (dynamic_of dynamic)) }
 {
     match dynamic {

@@ -1,4 +1,4 @@
-//! The machine that runs graphs. What stands today are its first statements.
+//! What statements and terminators of a graph do to what a run has at hand.
 #![tactic(auto)]
 
 mod actions;
@@ -14,7 +14,7 @@ mod world;
 
 pub use actions::Outcome;
 pub use arithmetic::Computation;
-pub use forgetting::{Forgets, tell_forgotten};
+pub use forgetting::{Forgets, adt_of_dynamic, tell_forgotten};
 pub use making::drop_body_of;
 pub use statements::stop_if;
 pub use told::Told;

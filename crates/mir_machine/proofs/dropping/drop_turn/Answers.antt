@@ -32,5 +32,5 @@ returns-in-Stuck c =
 
 pub returns-in_ok-next-in_default : goal.returns-in_ok-next-in_default
 returns-in_ok-next-in_default c =
-    turn_kept c.args.graph.now c.args.tasks.now c.args.world.now c.step.new.world c.args.post c.args.drops c.step.new.drops c.args.turn c.in_ok-next-in_default.next
+    turn_kept c.args.graph.now c.args.tasks.now c.args.world.now c.steps.new.world c.args.post c.args.drops c.steps.new.drops c.args.turn c.in_ok-next-in_default.next
     c.in_ok-next-in_default.ensures.run c.in_ok-next-in_default.ensures.ticks c.in_ok-next-in_default.ensures.left

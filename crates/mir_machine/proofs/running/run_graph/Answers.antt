@@ -3,7 +3,8 @@ use Rattle.std.proofs.lemmas.Result.{IfOk-weaker, IfErr-weaker, on_ok_weaker}
 use Rattle.cfg_graph.proofs.Ranked.{well_formed-ranked}
 use Rattle.mir_edge.specs.Told.{WhereTold}
 use Rattle.mir_machine.proofs.RunsTold.{at_start, run_is_told}
-use Rattle.mir_machine.specs.Runs.{TookPart, run_text}
+use Rattle.mir_machine.specs.Runs.{run_text}
+use Rattle.trace_flow.specs.Errors.{TookPart}
 use Rattle.mir_steps.specs.declared.world.World.{World}
 use Rattle.mir_steps.specs.Worlds.{state_of}
 use Rattle.store_model.specs.Concrete.State.{beginning}
