@@ -16,7 +16,7 @@ pub fn due_number(n: u32, text: &[u8]) -> Option<&[u8]>
     if k == n { Some(rest) } else { None }
 }
 
-/// A name in UTF-8, and what stands behind it.
+/// The longest name of one byte or more at the front of a text, and what stands behind it, where the name is UTF-8.
 pub fn utf8_name(text: &[u8]) -> Option<(&str, &[u8])>
     ensures { option_map (λ f. (f.0.now, f.1.now)) result ≡ reading.name_read text.now }
 {

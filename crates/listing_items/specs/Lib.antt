@@ -1,0 +1,2 @@
+pub mod ItemReading
+pub mod ItemsRead
