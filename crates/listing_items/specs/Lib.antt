@@ -1,2 +1,3 @@
 pub mod ItemReading
+pub mod ItemsFound
 pub mod ItemsRead

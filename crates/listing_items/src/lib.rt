@@ -2,7 +2,9 @@
 #![tactic(auto)]
 
 mod adts;
+mod law;
 mod names;
 mod variants;
 
 pub use adts::adt_line;
+pub use law::law_of_items;

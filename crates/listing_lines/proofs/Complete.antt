@@ -40,7 +40,7 @@ headed word n r fits =
     ap (λ (o : Option (List ℕ)). bind o (λ t. bind (due_number n t) (strip (codes " ")))) (strip_whole word (decimal n ++ (codes " " ++ r)))
     ∙ ap (λ (o : Option (List ℕ)). bind o (strip (codes " "))) (due_reads n r fits)
 
-name_reads : (name r : List ℕ) → is_name name ≡ true → is_utf8 name ≡ true → name_read (name ++ (codes " " ++ r)) ≡ Some (name, codes " " ++ r)
+pub name_reads : (name r : List ℕ) → is_name name ≡ true → is_utf8 name ≡ true → name_read (name ++ (codes " " ++ r)) ≡ Some (name, codes " " ++ r)
 name_reads name r is utf =
     ap named (span_run stands_in_names name (codes " " ++ r) (name_all name is) refl)
     ∙ ap (λ (t : Bool). if t then Some (name, codes " " ++ r) else None) (and_from (nat_lt 0 (length name)) (is_utf8 name) (and_parts (nat_lt 0 (length name)) _ is).0 utf)

@@ -41,20 +41,20 @@ due_sound n t r h =
         at true e h = (plain_sound t m s found).0 ∙ (λ i. decimal (eqb-true m n e i) ++ same_Some s r h i)
         at false e h = absurd (none-some r h)
 
-ended_sound : {X : Type 0} (f : Found X) (x : X) (r : List ℕ) → ended f ≡ Some (x, r) → (s : List ℕ) × (f ≡ Some (x, s)) × (s ≡ 10 ∷ r)
+pub ended_sound : {X : Type 0} (f : Found X) (x : X) (r : List ℕ) → ended f ≡ Some (x, r) → (s : List ℕ) × (f ≡ Some (x, s)) × (s ≡ 10 ∷ r)
 ended_sound f x r h =
     let (g, found, more) = split f (λ f. bind (strip (10 ∷ []) f.1) (λ r. Some (f.0, r))) (x, r) h in
     let (u, feed, last) = split (strip (10 ∷ []) g.1) (λ r. Some (g.0, r)) (x, r) more in
     let (own, behind) = same_found g.0 u x r last in
     (g.1, found ∙ (λ i. Some (own i, g.1)), strip_sound (10 ∷ []) g.1 u feed ∙ ap (λ (y : List ℕ). 10 ∷ y) behind)
 
-as_sound : {X Y : Type 0} (make : X → Y) (f : Found X) (y : Y) (r : List ℕ) → as_ make f ≡ Some (y, r) → (x : X) × (f ≡ Some (x, r)) × (make x ≡ y)
+pub as_sound : {X Y : Type 0} (make : X → Y) (f : Found X) (y : Y) (r : List ℕ) → as_ make f ≡ Some (y, r) → (x : X) × (f ≡ Some (x, r)) × (make x ≡ y)
 as_sound make f y r h =
     let (g, found, last) = split f (λ f. Some (make f.0, f.1)) (y, r) h in
     let (own, behind) = same_found (make g.0) g.1 y r last in
     (g.0, found ∙ (λ i. Some (g.0, behind i)), own)
 
-name_sound : (t name r : List ℕ) → name_read t ≡ Some (name, r) → (t ≡ name ++ r) × (is_name name ≡ true) × (is_utf8 name ≡ true)
+pub name_sound : (t name r : List ℕ) → name_read t ≡ Some (name, r) → (t ≡ name ++ r) × (is_name name ≡ true) × (is_utf8 name ≡ true)
 name_sound t name r h = by (span stands_in_names t) (span_parts stands_in_names t) (span_all stands_in_names t) h
   where
     by : (q : List ℕ × List ℕ) → t ≡ q.0 ++ q.1 → list_all stands_in_names q.0 ≡ true → named q ≡ Some (name, r) → (t ≡ name ++ r) × (is_name name ≡ true) × (is_utf8 name ≡ true)
