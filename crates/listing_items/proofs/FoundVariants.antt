@@ -45,10 +45,10 @@ struct_found heads old new adt rest name fields copy drop_body found made is wit
   there = is ∙ ap (λ (a : Adt). let one : Found AdtSeen = Some (adt_seen (under heads new) a, rest.now) in one) (sym made);
   within =
       subst (IsAdt new.types) (sym made)
-          (record {
-            variants = All-cons (IsVariant new.types) (variant_of name fields) [] (is_variant new.types name fields within) (All-nil (IsVariant new.types));
-            of_struct = λ h. (variant_of name fields, refl, refl);
-          });
+      (record {
+        variants = All-cons (IsVariant new.types) (variant_of name fields) [] (is_variant new.types name fields within) (All-nil (IsVariant new.types));
+        of_struct = λ h. (variant_of name fields, refl, refl);
+      });
   missing = λ e. absurd (cc e);
   grow = grow;
 }

@@ -27,26 +27,32 @@ StructsAreRead =
     (heads : ItemTable) (name : List ℕ) (fields : List Tree) (copy : Bool) (drop_body : Option ℕ) (behind : List ℕ) →
     is_adt_name name ≡ true → is_utf8 name ≡ true → EachStands heads fields → IfSome drop_body Fits →
     adt_read heads (line (line_text (StructLine name fields copy drop_body)) ++ behind)
-    ≡ Some (record {
-      is_enum = false;
-      name = name;
-      variants = (name, map tree_text fields) ∷ [];
-      copy = copy;
-      drop_body = drop_body;
-    }, behind)
+    ≡ Some (
+      record {
+        is_enum = false;
+        name = name;
+        variants = (name, map tree_text fields) ∷ [];
+        copy = copy;
+        drop_body = drop_body;
+      },
+      behind,
+    )
 
 abbrev pub EnumsAreRead : Type 0
 EnumsAreRead =
     (heads : ItemTable) (name : List ℕ) (variants : List (List ℕ × List Tree)) (copy : Bool) (drop_body : Option ℕ)
     (behind : List ℕ) → is_adt_name name ≡ true → is_utf8 name ≡ true → VariantsStand heads variants → IfSome drop_body Fits →
     adt_read heads (line (line_text (EnumLine name variants copy drop_body)) ++ behind)
-    ≡ Some (record {
-      is_enum = true;
-      name = name;
-      variants = map found_variant variants;
-      copy = copy;
-      drop_body = drop_body;
-    }, behind)
+    ≡ Some (
+      record {
+        is_enum = true;
+        name = name;
+        variants = map found_variant variants;
+        copy = copy;
+        drop_body = drop_body;
+      },
+      behind,
+    )
 
 -- a struct or enum that was found, as it is written
 abbrev pub written_variant : VariantSeen → List ℕ

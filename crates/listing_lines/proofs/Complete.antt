@@ -1,32 +1,28 @@
 -- Each line that may stand in its place is found.
-use Rattle.std.proofs.Common.{◌≡◌, ℕ, zero, suc, ◌<◌, ◌≤◌, Bool, true, ◌&&◌, nat_eq, nat_lt, if◌then◌else◌, List, [], ◌∷◌, ◌++◌, All, map, flat_map, length, codes, Option, Some, None, decimal, slice_get, refl, ap, sym, ◌∙◌, arith, append_assoc, length-append, eq-eqb, lt-ltb, map-id}
-use Rattle.std.specs.Prelude.{⊤}
+use Rattle.std.proofs.Common.{◌≡◌, ℕ, ◌<◌, Bool, true, nat_eq, nat_lt, if◌then◌else◌, List, [], ◌∷◌, ◌++◌, map, flat_map, length, codes, Option, Some, None, decimal, refl, ap, ◌∙◌, arith, append_assoc, eq-eqb, map-id}
 use Rattle.std.specs.Str.{is_utf8}
-use Rattle.std.specs.List.{list_all}
 use Rattle.std.proofs.lemmas.Bool.{and_parts, and_from}
 use Rattle.mir_ty.specs.declared.adt.Adt.{Adt}
-use Rattle.mir_ty.specs.declared.def.ImplDef.{ImplDef}
 use Rattle.mir_ty.specs.declared.def.TraitDef.{TraitDef}
 use Rattle.mir_ty.specs.ItemTable.{ItemTable}
 use Rattle.cfg_graph.specs.declared.graph.Kind.{Kind}
 use Rattle.cfg_graph.specs.WellFormed.NameFaults.{stands_in_names, is_name}
 use Rattle.mir_text.specs.Fields.{Fits}
-use Rattle.mir_text.specs.Lines.{Tree, tree_text, trees_in_row, line_text, ImplLine, ClosureLine, BodyLine, LocalLine, BlockLine}
+use Rattle.mir_text.specs.Lines.{tree_text, trees_in_row}
 use Rattle.mir_text.specs.Listing.{kind_word}
-use Rattle.mir_text.specs.Lists.{line}
 use Rattle.mir_text.specs.Reading.Lines.{ended}
 use Rattle.mir_text.specs.Reading.Rows.{many}
-use Rattle.mir_text.specs.Reading.Words.{Found, bind, or_else, as_, said, strip, span}
+use Rattle.mir_text.specs.Reading.Words.{Found, bind, as_, strip}
 use Rattle.mir_text.proofs.Reading.Basics.{Every, behind7, span_run, stops}
 use Rattle.mir_text.proofs.Reading.Parts.{every_from_all}
 use Rattle.mir_text.proofs.Reading.Rows.{many_reads, flat_counted}
 use Rattle.listing_parts.specs.Numbers.{adt_no, trait_no}
 use Rattle.listing_parts.proofs.LineByLine.{strip_whole}
-use Rattle.listing_types.specs.TypeReading.{plain_number, type_read, types_read}
-use Rattle.listing_types.specs.TypesFound.{Stands, EachStands, no_digit_at}
+use Rattle.listing_types.specs.TypeReading.{type_read, types_read}
+use Rattle.listing_types.specs.TypesFound.{no_digit_at}
 use Rattle.listing_types.proofs.Complete.{type_reads, rows_read, found_at, name_all}
 use Rattle.listing_types.proofs.PlainNumbers.{plain_read}
-use Rattle.listing_lines.specs.LineReading.{due_number, named, name_read, params_from, body_read, local_head, local_read, kind_read, rank_from, block_read, closure_head, last_number, captures_from, closure_read, blank_number, bodies_read, adt_called, known_adt_read, trait_called, known_trait_read, for_adt, impl_head, impl_read}
+use Rattle.listing_lines.specs.LineReading.{due_number, named, name_read, params_from, body_read, local_read, kind_read, rank_from, block_read, captures_from, closure_read, blank_number, bodies_read, adt_called, known_adt_read, trait_called, known_trait_read, for_adt, impl_read}
 use Rattle.listing_lines.specs.LinesFound.{BodiesAreRead, LocalsAreRead, BlocksAreRead, ClosuresAreRead, ImplsAreRead}
 
 due_reads : (n : ℕ) (r : List ℕ) → Fits n → due_number n (decimal n ++ (codes " " ++ r)) ≡ Some (codes " " ++ r)

@@ -1,9 +1,9 @@
 -- What is found of a line is the line in front.
-use Rattle.std.proofs.Common.{◌≡◌, ℕ, suc, zero, Bool, true, false, ◌&&◌, nat_eq, nat_lt, if◌then◌else◌, List, [], ◌∷◌, ◌++◌, map, flat_map, length, codes, Option, Some, None, decimal, slice_get, refl, ap, sym, subst, ◌∙◌, append_assoc, eqb-true, inl, inr}
+use Rattle.std.proofs.Common.{◌≡◌, ℕ, suc, zero, Bool, true, false, ◌&&◌, nat_eq, nat_lt, if◌then◌else◌, List, [], ◌∷◌, ◌++◌, flat_map, length, codes, Some, None, decimal, slice_get, refl, ap, sym, subst, ◌∙◌, append_assoc, eqb-true, inl, inr}
 use Rattle.std.specs.Prelude.{◌⊎◌}
 use Rattle.std.specs.Str.{is_utf8}
 use Rattle.std.specs.List.{list_all}
-use Rattle.std.proofs.lemmas.Bool.{and_parts, and_from, false≢true}
+use Rattle.std.proofs.lemmas.Bool.{and_parts, and_from}
 use Rattle.std.proofs.lemmas.Option.{same_Some, none-some}
 use Rattle.mir_ty.specs.declared.adt.Adt.{Adt}
 use Rattle.mir_ty.specs.declared.def.ImplDef.{ImplDef}
@@ -12,10 +12,10 @@ use Rattle.mir_ty.specs.ItemTable.{ItemTable}
 use Rattle.mir_ty.specs.Named.{adt_name, name_of_adt}
 use Rattle.cfg_graph.specs.declared.graph.Kind.{Kind}
 use Rattle.cfg_graph.specs.WellFormed.NameFaults.{stands_in_names, is_name}
-use Rattle.mir_text.specs.Lists.{line, in_parentheses}
+use Rattle.mir_text.specs.Lists.{in_parentheses}
 use Rattle.mir_text.specs.Listing.{kind_word}
 use Rattle.mir_text.specs.Reading.Lines.{ended}
-use Rattle.mir_text.specs.Reading.Rows.{many, many_within, after}
+use Rattle.mir_text.specs.Reading.Rows.{many, many_within}
 use Rattle.mir_text.specs.Reading.Words.{Found, bind, or_else, as_, said, strip, span}
 use Rattle.mir_text.specs.Types.{trait_name, name_of_trait}
 use Rattle.mir_text.proofs.Reading.Basics.{behind7}
@@ -26,7 +26,7 @@ use Rattle.listing_types.specs.TypeReading.{plain_number, type_read, types_read}
 use Rattle.listing_types.proofs.PlainNumbers.{plain_sound}
 use Rattle.listing_types.proofs.Sound.{type_sound, rows_sound, placed_name}
 use Rattle.listing_types.proofs.Splits.{split, one_of_two, same_found, span_parts}
-use Rattle.listing_lines.specs.LineReading.{due_number, named, name_read, params_from, body_read, local_head, local_read, kind_read, rank_from, block_read, closure_head, last_number, captures_from, closure_read, blank_number, bodies_read, adt_called, known_adt_read, trait_called, known_trait_read, for_adt, impl_head, impl_read}
+use Rattle.listing_lines.specs.LineReading.{due_number, named, name_read, params_from, local_head, kind_read, rank_from, closure_head, last_number, captures_from, blank_number, bodies_read, known_adt_read, known_trait_read, for_adt, impl_head}
 use Rattle.listing_lines.specs.LinesFound.{BodiesAreSound, LocalsAreSound, BlocksAreSound, ClosuresAreSound, ImplsAreSound}
 
 due_sound : (n : ℕ) (t r : List ℕ) → due_number n t ≡ Some r → t ≡ decimal n ++ r

@@ -1,5 +1,5 @@
 -- What the law of lines says: each line that may stand in its place is found by its reader, and nothing but a line in front.
-use Rattle.std.specs.Prelude.{◌≡◌, ℕ, ◌<◌, ◌&&◌, true, List, ◌∷◌, ◌++◌, [], map, flat_map, length, codes, Some, All}
+use Rattle.std.specs.Prelude.{◌≡◌, ℕ, ◌<◌, true, List, ◌++◌, map, length, codes, Some, All}
 use Rattle.std.specs.Fmt.{decimal}
 use Rattle.std.specs.Str.{is_utf8}
 use Rattle.mir_ty.specs.declared.def.ImplDef.{ImplDef}
@@ -8,7 +8,7 @@ use Rattle.mir_ty.specs.Named.{adt_name}
 use Rattle.cfg_graph.specs.declared.graph.Kind.{Kind}
 use Rattle.cfg_graph.specs.WellFormed.NameFaults.{is_name}
 use Rattle.mir_text.specs.Fields.{Fits}
-use Rattle.mir_text.specs.Lines.{Tree, tree_text, trees_in_row, line_text, ImplLine, ClosureLine, BodyLine, LocalLine, BlockLine}
+use Rattle.mir_text.specs.Lines.{Tree, tree_text, line_text, ImplLine, ClosureLine, BodyLine, LocalLine, BlockLine}
 use Rattle.mir_text.specs.Lists.{in_parentheses, line}
 use Rattle.mir_text.specs.Types.{trait_name}
 use Rattle.listing_parts.specs.Numbers.{adt_no, trait_no}

@@ -1,10 +1,8 @@
 -- Each type that stands is found, before whatever closes it.
-use Rattle.std.proofs.Common.{◌≡◌, ℕ, zero, suc, ◌<◌, ◌≤◌, Bool, true, false, not, ◌&&◌, ◌||◌, nat_eq, nat_lt, if◌then◌else◌, List, [], ◌∷◌, ◌++◌, map, length, codes, Option, Some, None, decimal, slice_get, refl, ap, sym, subst, ◌∙◌, arith, append_assoc, length-append, eqb-true, ltb-true, lt-ltb, eq-eqb}
-use Rattle.std.specs.Prelude.{⊤}
+use Rattle.std.proofs.Common.{◌≡◌, ℕ, zero, suc, ◌<◌, ◌≤◌, Bool, true, false, not, ◌&&◌, ◌||◌, nat_eq, nat_lt, if◌then◌else◌, List, [], ◌∷◌, ◌++◌, map, length, codes, Option, Some, None, decimal, slice_get, refl, ap, sym, subst, ◌∙◌, arith, append_assoc, length-append, eqb-true}
 use Rattle.std.specs.List.{list_all, list_any, starts_with}
 use Rattle.std.proofs.lemmas.Bool.{and_parts, and_from, false≢true}
 use Rattle.std.proofs.lemmas.Grind.{common_steps}
-use Rattle.std.proofs.lemmas.Option.{none-some}
 use Rattle.mir_base.specs.declared.int_kind.IntKind.{IntKind}
 use Rattle.mir_ty.specs.declared.ty.Ty.{Ty}
 use Rattle.mir_ty.specs.declared.adt.Adt.{Adt}
@@ -12,19 +10,18 @@ use Rattle.mir_ty.specs.declared.def.TraitDef.{TraitDef}
 use Rattle.mir_ty.specs.ItemTable.{ItemTable}
 use Rattle.cfg_graph.specs.WellFormed.NameFaults.{same_name, is_among, stands_in_names, is_name, is_adt_name, type_words}
 use Rattle.listing_parts.specs.Numbers.{adt_no, trait_no}
-use Rattle.listing_parts.proofs.LineByLine.{strip_whole}
 use Rattle.mir_text.specs.Fields.{Fits}
 use Rattle.mir_text.specs.Lists.{behind_commas, joined}
 use Rattle.mir_text.specs.Lines.{Tree, Trees, Number, Truth, Nothing, Never, Named, Tuple, Array, Boxed, Object, Shared, Unique, Closed, Missing, no_more, and_more, tree_text, trees_text}
 use Rattle.mir_text.specs.Reading.Rows.{many, many_within, row, row_from, closed_row, after, comma}
-use Rattle.mir_text.specs.Reading.Words.{Found, bind, or_else, chosen, as_, said, strip, span, is_digit}
-use Rattle.mir_text.specs.Types.{form_text, tuple_text, kind_text, trait_name, name_of_trait}
+use Rattle.mir_text.specs.Reading.Words.{Found, bind, chosen, as_, said, strip, is_digit}
+use Rattle.mir_text.specs.Types.{tuple_text, kind_text, trait_name, name_of_trait}
 use Rattle.mir_ty.specs.Named.{adt_name, name_of_adt}
 use Rattle.mir_text.proofs.Reading.Basics.{stops, span_run, one_of, any_decimal}
 use Rattle.listing_types.specs.declared.begin.Around.{Around}
 use Rattle.listing_types.specs.declared.begin.Begin.{Begin}
-use Rattle.listing_types.specs.TypeReading.{plain_number, closure_type, word_type, type_of_word, unique_mark, reference_from, object_from, worded_begin, begin_from, begin_read, array_end, around_end, around_text, around_read, row_end, tuple_from, rest_read, type_within, type_read, types_read}
-use Rattle.listing_types.specs.TypesFound.{Stands, AllStand, EachStands, HasOne, RowsAreRead, begins_brace, closes}
+use Rattle.listing_types.specs.TypeReading.{word_type, unique_mark, reference_from, object_from, worded_begin, begin_from, begin_read, array_end, around_end, around_text, tuple_from, rest_read, type_within, type_read, types_read}
+use Rattle.listing_types.specs.TypesFound.{Stands, AllStand, EachStands, RowsAreRead, begins_brace, closes}
 use Rattle.listing_types.proofs.Depth.{Deep, AllDeep, deep_enough, parts_deep, some_name, is_a_name}
 use Rattle.listing_types.proofs.PlainNumbers.{plain_reads, whole_reads}
 use Rattle.listing_types.proofs.Sound.{placed_name}
@@ -94,7 +91,7 @@ no_word (c ∷ w) (a ∷ name) r all n e =
 pub name_all : (name : List ℕ) → is_name name ≡ true → list_all stands_in_names name ≡ true
 name_all name h = (and_parts (nat_lt 0 (length name)) _ h).1
 
-no_closure : (w name : List ℕ) → starts_with nat_eq name w ≡ false → strip w name ≡ None
+pub no_closure : (w name : List ℕ) → starts_with nat_eq name w ≡ false → strip w name ≡ None
 no_closure [] name h = absurd (false≢true (sym h))
 no_closure (c ∷ w) [] h = refl
 no_closure (c ∷ w) (a ∷ name) h =
@@ -221,7 +218,7 @@ none_many : {Z : Type 0} (read : List ℕ → Found Z) (k : ℕ) (r : List ℕ) 
 none_many read zero r h = refl
 none_many read (suc k) r h = rw h refl
 
-behind_closes : (ts : Trees) (r : List ℕ) → closes r ≡ true → closes (behind_commas (trees_text ts) ++ r) ≡ true
+pub behind_closes : (ts : Trees) (r : List ℕ) → closes r ≡ true → closes (behind_commas (trees_text ts) ++ r) ≡ true
 behind_closes no_more r c = c
 behind_closes (and_more first others) r c = refl
 
@@ -314,7 +311,7 @@ mutual
   tree_reads heads Missing s (suc k) deep r c = absurd s
   tree_reads heads t s zero deep r c = absurd (never_deep t deep)
 
-  parts_read : (heads : ItemTable) (ts : Trees) → AllStand heads ts → (k : ℕ) → AllDeep ts k → (fuel : ℕ) (r : List ℕ) → closes r ≡ true → strip (codes ", ") r ≡ None
+  pub parts_read : (heads : ItemTable) (ts : Trees) → AllStand heads ts → (k : ℕ) → AllDeep ts k → (fuel : ℕ) (r : List ℕ) → closes r ≡ true → strip (codes ", ") r ≡ None
       → length (behind_commas (trees_text ts) ++ r) ≤ fuel → many_within fuel (comma (type_within heads k)) (behind_commas (trees_text ts) ++ r) ≡ (trees_text ts, r)
   parts_read heads no_more s k deep fuel r c n le = none_many (comma (type_within heads k)) fuel r (ap (λ (o : Option (List ℕ)). bind o (type_within heads k)) n)
   parts_read heads (and_more first others) s k deep zero r c n le = absurd (omega arith)
@@ -332,15 +329,15 @@ type_reads heads t s r c =
     tree_reads heads t s (length (tree_text t ++ r)) (deep_enough heads t s (length (tree_text t ++ r)) (omega (arith, length-append (tree_text t) r))) r c
 
 -- a row of them
-abbrev as_trees : List Tree → Trees
+abbrev pub as_trees : List Tree → Trees
 as_trees [] = no_more
 as_trees (t ∷ ts) = and_more t (as_trees ts)
 
-texts_of : (ts : List Tree) → trees_text (as_trees ts) ≡ map tree_text ts
+pub texts_of : (ts : List Tree) → trees_text (as_trees ts) ≡ map tree_text ts
 texts_of [] = refl
 texts_of (t ∷ ts) = ap (λ (ws : List (List ℕ)). tree_text t ∷ ws) (texts_of ts)
 
-all_stand : (heads : ItemTable) (ts : List Tree) → EachStands heads ts → AllStand heads (as_trees ts)
+pub all_stand : (heads : ItemTable) (ts : List Tree) → EachStands heads ts → AllStand heads (as_trees ts)
 all_stand heads [] s = tt
 all_stand heads (t ∷ ts) s = (s.0, all_stand heads ts s.1)
 

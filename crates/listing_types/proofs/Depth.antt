@@ -1,10 +1,10 @@
 -- How deep types stand in one another: no deeper than their text has bytes.
-use Rattle.std.proofs.Common.{◌≡◌, ℕ, zero, suc, ◌+◌, ◌-◌, ◌<◌, ◌≤◌, true, List, [], ◌∷◌, ◌++◌, length, codes, decimal, arith, length-append, ltb-true, nat_lt}
+use Rattle.std.proofs.Common.{◌≡◌, ℕ, zero, suc, ◌-◌, ◌<◌, ◌≤◌, true, List, [], ◌∷◌, ◌++◌, length, codes, decimal, arith, length-append, ltb-true, nat_lt}
 use Rattle.std.specs.Prelude.{⊤}
 use Rattle.std.proofs.lemmas.Bool.{and_parts}
 use Rattle.mir_base.specs.declared.int_kind.IntKind.{IntKind}
 use Rattle.mir_ty.specs.ItemTable.{ItemTable}
-use Rattle.cfg_graph.specs.WellFormed.NameFaults.{is_name, is_adt_name, is_among, type_words}
+use Rattle.cfg_graph.specs.WellFormed.NameFaults.{is_name, is_adt_name}
 use Rattle.mir_text.specs.Lists.{behind_commas}
 use Rattle.mir_text.specs.Lines.{Tree, Trees, Number, Truth, Nothing, Never, Named, Tuple, Array, Boxed, Object, Shared, Unique, Closed, Missing, no_more, and_more, tree_text, trees_text}
 use Rattle.mir_text.specs.Types.{tuple_text, kind_text}

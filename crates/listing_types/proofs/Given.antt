@@ -1,6 +1,6 @@
 -- A type that was given a number.
-use Rattle.std.proofs.Common.{◌≡◌, ℕ, ◌<◌, List, Option, Some, None, length, slice_get, refl, ap, sym, subst, ◌∙◌, arith}
-use Rattle.std.specs.Prelude.{⊤, Result, Ok, Err}
+use Rattle.std.proofs.Common.{◌≡◌, ℕ, List, length, sym, subst, arith}
+use Rattle.std.specs.Prelude.{Result, Ok, Err}
 use Rattle.std.specs.Result.{IsErr}
 use Rattle.std.proofs.lemmas.Bool.{false≢true}
 use Rattle.mir_ty.specs.declared.ty.Ty.{Ty}
@@ -16,14 +16,15 @@ use Rattle.listing_types.proofs.Texts.{interned_grow, interned_within, interned_
 pub unchanged : (heads old new : ItemTable) → AreRead heads old.types → new ≡ old → Grow heads old new
 unchanged heads old new read same = subst (Grow heads old) (sym same) (record { types = read; others = same_types old })
 
-pub not_given : (heads old new : ItemTable) (text : List ℕ) (result : Result TyId NoMemory) → IsErr result → AreRead heads old.types → new ≡ old → GivesType heads old new result text
-not_given heads old new text (Ok id) is read same = absurd (false≢true is)
-not_given heads old new text (Err error) is read same = record { there = tt; within = tt; grow = unchanged heads old new read same }
+pub not_given : (heads old new : ItemTable) (ty : Ty) (result : Result TyId NoMemory) → IsErr result → AreRead heads old.types → new ≡ old → GivesType heads old new result ty
+not_given heads old new ty (Ok id) is read same = absurd (false≢true is)
+not_given heads old new ty (Err error) is read same = record { there = tt; is = tt; within = tt; grow = unchanged heads old new read same }
 
 pub given : (heads old new : ItemTable) (ty : Ty) (id : TyId) → AreRead heads old.types → MayStand heads (length old.types) ty → Interns old ty new id → AreItems new
-    → GivesType heads old new (Ok id) (form_text (under heads old) (text_under heads old) ty)
+    → GivesType heads old new (Ok id) ty
 given heads old new ty id read may interns sound = record {
   there = interned_text heads old new ty id read may interns (omega (arith, sound.short.types));
+  is = interns.0;
   within = interned_within heads old new ty id read may interns;
   grow = interned_grow heads old new ty id read may interns;
 }

@@ -1,6 +1,6 @@
 -- A beginning that is a whole type has no others in it.
-use Rattle.std.proofs.Common.{◌≡◌, ℕ, ◌<◌, Bool, true, false, List, [], ◌∷◌, codes, Option, Some, None, slice_get, if◌then◌else◌, All, refl, sym, subst, inl, inr}
-use Rattle.std.specs.Prelude.{◌⊎◌, ⊤, length}
+use Rattle.std.proofs.Common.{◌≡◌, ℕ, ◌<◌, Bool, true, false, List, [], ◌∷◌, codes, Option, Some, None, slice_get, if◌then◌else◌, All, refl, subst, inl, inr}
+use Rattle.std.specs.Prelude.{◌⊎◌, length}
 use Rattle.std.proofs.lemmas.List.Elements.{All-nil}
 use Rattle.std.proofs.lemmas.Option.{same_Some, none-some, slice_get_within}
 use Rattle.mir_base.specs.declared.int_kind.IntKind.{IntKind}
@@ -10,13 +10,13 @@ use Rattle.mir_ty.specs.ItemTable.{ItemTable}
 use Rattle.cfg_graph.specs.WellFormed.NameFaults.{same_name, stands_in_names}
 use Rattle.listing_parts.specs.Numbers.{adt_no, trait_no}
 use Rattle.mir_text.specs.Fields.{Fits}
-use Rattle.mir_text.specs.Reading.Words.{Found, bind, or_else, chosen, said, strip, span}
+use Rattle.mir_text.specs.Reading.Words.{Found, bind, or_else, said, strip, span}
 use Rattle.listing_types.specs.declared.begin.Around.{Around}
 use Rattle.listing_types.specs.declared.begin.Begin.{Begin}
 use Rattle.listing_types.specs.Leaves.{IsLeaf, BeginsLeaf}
 use Rattle.listing_types.specs.TypeReading.{whole_number, word_type, closure_type, adt_type, named_type, type_of_word, unique_mark, reference_from, reference_begin, marked_begin, object_from, object_begin, worded_begin, begin_from, begin_read}
 use Rattle.listing_types.proofs.PlainNumbers.{whole_sound}
-use Rattle.listing_types.proofs.Splits.{split, either, one_of_two, tested}
+use Rattle.listing_types.proofs.Splits.{split, either, one_of_two}
 
 module _ (heads : ItemTable) where
   no_parts : (n : ℕ) → All (λ (id : TyId). id.0 < n) []

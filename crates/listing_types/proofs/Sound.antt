@@ -1,24 +1,23 @@
 -- What is found of a type is the text in front.
-use Rattle.std.proofs.Common.{◌≡◌, ℕ, zero, suc, Bool, true, false, List, [], ◌∷◌, ◌++◌, map, codes, Option, Some, None, decimal, slice_get, if◌then◌else◌, refl, ap, sym, subst, ◌∙◌, append_assoc, append-nil, inl, inr}
+use Rattle.std.proofs.Common.{◌≡◌, ℕ, zero, suc, Bool, true, false, List, [], ◌∷◌, ◌++◌, map, codes, Option, Some, None, decimal, slice_get, if◌then◌else◌, refl, ap, sym, ◌∙◌, append_assoc, append-nil, inl, inr}
 use Rattle.std.specs.Prelude.{◌⊎◌, length}
-use Rattle.std.proofs.lemmas.Option.{same_Some, none-some, get_or_from_slice_get}
+use Rattle.std.proofs.lemmas.Option.{same_Some, none-some}
 use Rattle.mir_base.specs.declared.int_kind.IntKind.{IntKind}
 use Rattle.mir_ty.specs.declared.ty.Ty.{Ty}
-use Rattle.mir_ty.specs.declared.ty.TyId.{TyId}
 use Rattle.mir_ty.specs.declared.adt.Adt.{Adt}
 use Rattle.mir_ty.specs.declared.def.TraitDef.{TraitDef}
 use Rattle.mir_ty.specs.ItemTable.{ItemTable}
-use Rattle.mir_ty.specs.Named.{adt_name, name_of_adt}
+use Rattle.mir_ty.specs.Named.{name_of_adt}
 use Rattle.cfg_graph.specs.WellFormed.NameFaults.{same_name, stands_in_names}
 use Rattle.listing_parts.specs.Numbers.{adt_no, trait_no}
 use Rattle.listing_parts.proofs.LineByLine.{strip_sound}
 use Rattle.mir_text.specs.Lists.{behind_commas, joined, in_parentheses}
-use Rattle.mir_text.specs.Reading.Rows.{many, many_within, row, row_from, after, comma}
+use Rattle.mir_text.specs.Reading.Rows.{many, many_within, row, comma}
 use Rattle.mir_text.specs.Reading.Words.{Found, bind, or_else, chosen, as_, said, strip, span, place_in}
 use Rattle.mir_text.specs.Types.{form_text, tuple_text, trait_name, name_of_trait}
 use Rattle.listing_types.specs.declared.begin.Around.{Around}
 use Rattle.listing_types.specs.declared.begin.Begin.{Begin}
-use Rattle.listing_types.specs.TypeReading.{plain_number, whole_number, word_type, closure_type, adt_type, named_type, type_of_word, unique_mark, reference_from, reference_begin, marked_begin, object_from, object_begin, worded_begin, begin_from, begin_read, array_end, around_end, around_text, around_read, row_end, tuple_from, rest_read, type_within, types_behind}
+use Rattle.listing_types.specs.TypeReading.{plain_number, whole_number, word_type, closure_type, adt_type, named_type, type_of_word, unique_mark, reference_from, reference_begin, marked_begin, object_from, object_begin, worded_begin, begin_from, array_end, around_end, around_text, around_read, row_end, tuple_from, rest_read, type_within, types_behind}
 use Rattle.listing_types.specs.TypesFound.{TypesAreSound, RowsAreSound}
 use Rattle.listing_types.proofs.PlainNumbers.{plain_sound, whole_sound}
 use Rattle.listing_types.proofs.Splits.{split, either, one_of_two, tested, same_found, same_is, span_parts}
@@ -45,7 +44,7 @@ placed_name name_of (y ∷ ys) name x h = by (same_name name (name_of y)) refl h
 
 -- a row behind commas
 module _ (inner : List ℕ → Found (List ℕ)) (sound : IsSound inner) where
-  many_sound : (k : ℕ) (t : List ℕ) → t ≡ behind_commas (many_within k (comma inner) t).0 ++ (many_within k (comma inner) t).1
+  pub many_sound : (k : ℕ) (t : List ℕ) → t ≡ behind_commas (many_within k (comma inner) t).0 ++ (many_within k (comma inner) t).1
   many_sound zero t = refl
   many_sound (suc k) t = by (comma inner t) refl (many_sound k)
     where

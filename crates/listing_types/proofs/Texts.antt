@@ -1,7 +1,7 @@
 -- How a type is written where those in it have smaller numbers: whatever depth is allowed beyond its own, and whatever types come later.
-use Rattle.std.proofs.Common.{◌≡◌, ℕ, zero, suc, ◌+◌, ◌-◌, ◌<◌, ◌≤◌, List, [], ◌∷◌, ◌++◌, map, length, codes, Option, Some, None, All, decimal, slice_get, refl, ap, sym, subst, ◌∙◌, arith, length-append, append_assoc, append-nil, inl, inr}
-use Rattle.std.specs.Prelude.{⊤, ◌⊎◌, Contains}
-use Rattle.std.proofs.lemmas.Option.{same_Some, none-some, slice_get_within}
+use Rattle.std.proofs.Common.{◌≡◌, ℕ, zero, suc, ◌-◌, ◌<◌, ◌≤◌, List, [], ◌∷◌, ◌++◌, map, length, codes, Option, Some, None, All, decimal, slice_get, refl, ap, sym, subst, ◌∙◌, arith, length-append, append_assoc, append-nil, inl, inr}
+use Rattle.std.specs.Prelude.{◌⊎◌, Contains}
+use Rattle.std.proofs.lemmas.Option.{same_Some, slice_get_within}
 use Rattle.std.proofs.lemmas.Bool.{cases_lt}
 use Rattle.mir_ty.specs.declared.ty.Ty.{Ty}
 use Rattle.mir_ty.specs.declared.ty.TyId.{TyId}

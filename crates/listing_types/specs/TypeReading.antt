@@ -7,7 +7,7 @@ use Rattle.mir_ty.specs.ItemTable.{ItemTable}
 use Rattle.cfg_graph.specs.WellFormed.NameFaults.{same_name, stands_in_names}
 use Rattle.listing_parts.specs.Numbers.{adt_no, trait_no}
 use Rattle.mir_ty.specs.declared.ty.TyId.{TyId}
-use Rattle.mir_text.specs.Reading.Rows.{row, closed_row}
+use Rattle.mir_text.specs.Reading.Rows.{many, comma, row, closed_row}
 use Rattle.mir_text.specs.Reading.Words.{Found, bind, or_else, chosen, as_, said, strip, span, number}
 use Rattle.mir_text.specs.Types.{form_text, tuple_text}
 use Rattle.listing_types.specs.declared.begin.Around.{Around}
@@ -145,6 +145,10 @@ type_within heads (suc depth) t = bind (begin_read heads t) (rest_read (type_wit
 -- a type: each type that another stands in has a byte
 abbrev pub type_read : ItemTable → List ℕ → Found (List ℕ)
 type_read heads t = type_within heads (length t) t
+
+-- types behind commas
+abbrev pub more_types : ItemTable → List ℕ → List (List ℕ) × List ℕ
+more_types heads t = many (comma (type_within heads (length t))) t
 
 -- types with commas between them, behind the parenthesis that opens
 abbrev pub types_behind : ItemTable → List ℕ → Found (List (List ℕ))

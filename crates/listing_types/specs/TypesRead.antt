@@ -1,13 +1,15 @@
 -- What a reader of types answers, as definitions see it.
-use Rattle.std.specs.Prelude.{◌≡◌, ℕ, ◌<◌, List, Option, Some, None, ◌++◌, Result, Err, IfOk, map, length}
+use Rattle.std.specs.Prelude.{◌≡◌, ℕ, ◌<◌, List, Some, None, ◌++◌, Result, Err, IfOk, map, length}
 use Rattle.std.specs.Borrow.{Bor}
 use Rattle.mir_ty.specs.declared.ty.TyId.{TyId}
 use Rattle.mir_base.specs.declared.memory.NoMemory.{NoMemory}
 use Rattle.mir_ty.specs.AreItems.{AreTypes}
-use Rattle.mir_ty.specs.ItemTable.{ItemTable}
+use Rattle.mir_ty.specs.declared.ty.Ty.{Ty}
+use Rattle.mir_ty.specs.ItemTable.{ItemTable, type_at}
 use Rattle.mir_text.specs.Reading.Words.{Found}
+use Rattle.mir_text.specs.Types.{form_text}
 use Rattle.listing_parts.specs.declared.error.ReadError.{ReadError}
-use Rattle.listing_types.specs.Table.{Grow, text_under}
+use Rattle.listing_types.specs.Table.{Grow, text_under, under}
 
 -- the type that was found stands in the new items, where it is written so
 pub record FindsType (heads old new : ItemTable) (result : Result (TyId × Bor (List ℕ)) ReadError) (found : Found (List ℕ)) : Type 0 where
@@ -16,9 +18,10 @@ pub record FindsType (heads old new : ItemTable) (result : Result (TyId × Bor (
   pub missing : result ≡ Err ReadError.Unreadable → found ≡ None
   pub grow : Grow heads old new
 
--- the same where nothing behind it was read
-pub record GivesType (heads old new : ItemTable) (result : Result TyId NoMemory) (text : List ℕ) : Type 0 where
-  pub there : IfOk result (λ id. text_under heads new id ≡ text)
+-- a type that was given a number stands there in the new items, where it is written as before
+pub record GivesType (heads old new : ItemTable) (result : Result TyId NoMemory) (ty : Ty) : Type 0 where
+  pub there : IfOk result (λ id. text_under heads new id ≡ form_text (under heads old) (text_under heads old) ty)
+  pub is : IfOk result (λ id. type_at new id ≡ Some ty)
   pub within : IfOk result (λ id. id.0 < length new.types)
   pub grow : Grow heads old new
 

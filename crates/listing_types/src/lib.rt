@@ -10,4 +10,5 @@ mod words;
 
 pub use law::law_of_types;
 pub use numbers::plain_number;
-pub use types::{read_type, read_types};
+pub use table::give_number;
+pub use types::{more_types, read_type, read_types};

@@ -212,6 +212,22 @@ pub fn read_type<'a>(
     read_within(alloc, heads, items, text, text.len())
 }
 
+/// As many types as stand behind commas, put behind those that are there already, and what stands behind them. It reads
+/// each as [`read_type`] does.
+pub fn more_types<'a>(
+    alloc: Global,
+    heads: &Items,
+    items: &mut Items,
+    parts: &mut List<TyId>,
+    text: &'a [u8],
+) -> Result<&'a [u8], NoMemory>
+    requires read { AreRead heads.now items.old.types }
+    requires within { AreTypes items.old.types parts.old }
+    ensures { FindsRow heads.now items.old items.new parts.old parts.new result (reading.more_types heads.now text.now) }
+{
+    read_more(alloc, heads, items, parts, text, text.len())
+}
+
 /// Types with commas between them, behind the parenthesis that opens.
 fn read_types_behind<'a>(
     alloc: Global,

@@ -1,4 +1,3 @@
-use Rattle.std.proofs.Common.{rules, ◌≡◌, sym}
 use Rattle.listing_types.proofs.Given.{given, not_given}
 use Rattle.listing_types.proofs.table.give_number.Goals as goal
 

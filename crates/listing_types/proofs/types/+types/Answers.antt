@@ -1,12 +1,10 @@
-use Rattle.std.proofs.Common.{rules, ◌≡◌, ◌-◌, ◌+◌, ◌<◌, List, ℕ, length, Some, None, refl, ap, sym, subst, ◌∙◌, arith, suc}
+use Rattle.std.proofs.Common.{rules, ◌≡◌, ◌-◌, ◌+◌, ◌<◌, length, Some, None, sym, subst, arith, suc}
 use Rattle.mir_ty.specs.AreItems.{AreTypes}
 use Rattle.mir_text.specs.Reading.Rows.{comma, many}
-use Rattle.mir_text.specs.Reading.Words.{Found, bind}
 use Rattle.listing_types.specs.Leaves.{BeginsLeaf}
 use Rattle.listing_types.specs.Table.{text_under}
-use Rattle.listing_types.specs.TypeReading.{begin_read, rest_read, type_within}
+use Rattle.listing_types.specs.TypeReading.{begin_read, type_within}
 use Rattle.listing_types.specs.TypesRead.{FindsType}
-use Rattle.listing_types.specs.declared.begin.Begin.{Begin}
 use Rattle.listing_types.proofs.FoundRows.{row_stops, row_goes_on, row_of_none, row_of_more, still_types, one_more_type, then_grow, begun}
 use Rattle.listing_types.proofs.Leaves.{begin_leaf}
 use Rattle.listing_types.proofs.types.+types.Goals as goal
