@@ -1,6 +1,5 @@
 -- Each line of a struct or enum that may stand is found.
-use Rattle.std.proofs.Common.{◌≡◌, ℕ, zero, suc, ◌<◌, ◌≤◌, Bool, true, false, not, ◌&&◌, nat_eq, if◌then◌else◌, List, [], ◌∷◌, ◌++◌, map, length, codes, Option, Some, None, IfSome, decimal, refl, ap, sym, subst, ◌∙◌, arith, append_assoc, length-append, eqb-true}
-use Rattle.std.specs.Prelude.{⊤}
+use Rattle.std.proofs.Common.{◌≡◌, ℕ, zero, suc, ◌≤◌, Bool, true, false, not, ◌&&◌, nat_eq, if◌then◌else◌, List, [], ◌∷◌, ◌++◌, map, length, codes, Option, Some, None, IfSome, refl, ap, sym, subst, ◌∙◌, arith, append_assoc, length-append, eqb-true}
 use Rattle.std.specs.Str.{is_utf8}
 use Rattle.std.specs.List.{starts_with}
 use Rattle.std.proofs.lemmas.Bool.{and_parts, false≢true}
@@ -9,20 +8,18 @@ use Rattle.cfg_graph.specs.WellFormed.NameFaults.{stands_in_names, is_among, is_
 use Rattle.mir_text.specs.Compared.{AdtSeen, VariantSeen}
 use Rattle.mir_text.specs.Fields.{Fits}
 use Rattle.mir_text.specs.Items.{copy_text, drop_text}
-use Rattle.mir_text.specs.Lines.{Tree, tree_text, trees_in_row, variant_words, line_text, StructLine, EnumLine}
-use Rattle.mir_text.specs.Lists.{behind_commas, joined, in_braces, line}
+use Rattle.mir_text.specs.Lines.{Tree, tree_text, trees_in_row, variant_words}
+use Rattle.mir_text.specs.Lists.{behind_commas, in_braces}
 use Rattle.mir_text.specs.Reading.Lines.{ended}
-use Rattle.mir_text.specs.Reading.Rows.{many, many_within, after, comma}
+use Rattle.mir_text.specs.Reading.Rows.{many_within, after, comma}
 use Rattle.mir_text.specs.Reading.Words.{Found, bind, chosen, as_, strip}
 use Rattle.mir_text.proofs.Reading.Basics.{behind3, behind7}
-use Rattle.listing_types.specs.TypeReading.{plain_number, types_read}
 use Rattle.listing_types.specs.TypesFound.{EachStands}
 use Rattle.listing_types.proofs.Complete.{rows_read, not_true, name_all}
 use Rattle.listing_types.proofs.Depth.{is_a_name, some_name}
 use Rattle.listing_types.proofs.PlainNumbers.{plain_read}
-use Rattle.listing_lines.specs.LineReading.{name_read}
 use Rattle.listing_lines.proofs.Complete.{name_reads}
-use Rattle.listing_items.specs.ItemReading.{copy_read, drop_read, marks_from, marks_read, blank_behind, adt_named, adt_name_read, blank_name, variant_from, variant_read, with_more, some_variants, closed_braces, variants_behind, variants_read, marked, struct_from, struct_read, enum_from, enum_read, adt_read}
+use Rattle.listing_items.specs.ItemReading.{copy_read, drop_read, marks_from, marks_read, blank_behind, adt_named, adt_name_read, blank_name, variant_from, variant_read, with_more, closed_braces, variants_behind, variants_read, marked, struct_from, struct_read, enum_from, adt_read}
 use Rattle.listing_items.specs.ItemsFound.{VariantsStand, found_variant, StructsAreRead, EnumsAreRead}
 
 -- the marks that end a line

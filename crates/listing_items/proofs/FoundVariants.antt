@@ -1,9 +1,8 @@
 -- Variants that are read into a table.
-use Rattle.std.proofs.Common.{◌≡◌, ℕ, zero, suc, ◌+◌, ◌<◌, List, [], ◌∷◌, ◌++◌, All, map, length, codes, Option, Some, None, decimal, refl, ap, sym, subst, ◌∙◌, arith, append_assoc, append-nil, length-append}
-use Rattle.std.specs.Prelude.{⊤, Bool, false, true, Result, Ok, Err, IfOk, IsFalse}
+use Rattle.std.proofs.Common.{◌≡◌, ℕ, zero, suc, ◌<◌, List, [], ◌∷◌, ◌++◌, All, map, length, Option, Some, None, decimal, refl, ap, sym, subst, ◌∙◌, arith, append_assoc, append-nil, length-append}
+use Rattle.std.specs.Prelude.{Bool, false, Ok}
 use Rattle.std.specs.Borrow.{Bor}
 use Rattle.std.proofs.lemmas.List.Elements.{All-append, All-cons, All-nil}
-use Rattle.mir_base.specs.declared.memory.NoMemory.{NoMemory}
 use Rattle.mir_ty.specs.declared.adt.Adt.{Adt}
 use Rattle.mir_ty.specs.declared.adt.Variant.{Variant}
 use Rattle.mir_ty.specs.declared.ty.Ty.{Ty}
@@ -13,7 +12,6 @@ use Rattle.mir_ty.specs.ItemTable.{ItemTable}
 use Rattle.mir_text.specs.Compared.{VariantSeen, AdtSeen, variant_seen, adt_seen}
 use Rattle.mir_text.specs.Reading.Rows.{many, many_within, comma}
 use Rattle.mir_text.specs.Reading.Words.{Found}
-use Rattle.listing_parts.specs.declared.error.ReadError.{ReadError}
 use Rattle.listing_types.specs.Table.{AreRead, Grow, under, text_under}
 use Rattle.listing_types.proofs.FoundRows.{map-append, then_grow, still_types}
 use Rattle.listing_types.proofs.Texts.{every_from_all, texts_grown}

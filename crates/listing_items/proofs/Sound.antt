@@ -1,16 +1,16 @@
 -- What is found of the line of a struct or enum is the line in front.
-use Rattle.std.proofs.Common.{◌≡◌, ℕ, zero, suc, Bool, true, false, not, ◌&&◌, nat_eq, if◌then◌else◌, List, [], ◌∷◌, ◌++◌, map, length, codes, Option, Some, None, IfSome, decimal, refl, ap, sym, subst, ◌∙◌, append_assoc, inl, inr}
-use Rattle.std.specs.Prelude.{⊤, ◌⊎◌}
+use Rattle.std.proofs.Common.{◌≡◌, ℕ, zero, suc, Bool, true, false, not, ◌&&◌, nat_eq, if◌then◌else◌, List, [], ◌∷◌, ◌++◌, map, length, codes, Option, Some, None, IfSome, refl, ap, sym, subst, ◌∙◌, append_assoc, inl, inr}
+use Rattle.std.specs.Prelude.{◌⊎◌}
 use Rattle.std.specs.Str.{is_utf8}
 use Rattle.std.specs.List.{starts_with}
-use Rattle.std.proofs.lemmas.Bool.{and_from, false≢true}
-use Rattle.std.proofs.lemmas.Option.{same_Some, none-some}
+use Rattle.std.proofs.lemmas.Bool.{and_from}
+use Rattle.std.proofs.lemmas.Option.{none-some}
 use Rattle.mir_ty.specs.ItemTable.{ItemTable}
 use Rattle.cfg_graph.specs.WellFormed.NameFaults.{is_among, is_name, is_adt_name, type_words}
 use Rattle.mir_text.specs.Compared.{AdtSeen, VariantSeen}
 use Rattle.mir_text.specs.Fields.{Fits}
 use Rattle.mir_text.specs.Items.{copy_text, drop_text}
-use Rattle.mir_text.specs.Lists.{behind_commas, joined, in_braces, in_parentheses, line}
+use Rattle.mir_text.specs.Lists.{behind_commas, in_braces, in_parentheses, line}
 use Rattle.mir_text.specs.Reading.Rows.{many, many_within, comma}
 use Rattle.mir_text.specs.Reading.Words.{Found, bind, chosen, as_, strip}
 use Rattle.mir_text.proofs.Reading.Basics.{behind3, behind7}
@@ -21,7 +21,7 @@ use Rattle.listing_types.proofs.Sound.{rows_sound}
 use Rattle.listing_types.proofs.Splits.{split, either, same_found}
 use Rattle.listing_lines.specs.LineReading.{name_read}
 use Rattle.listing_lines.proofs.Sound.{name_sound, ended_sound, as_sound}
-use Rattle.listing_items.specs.ItemReading.{copy_from, copy_read, drop_read, marks_from, marks_read, blank_behind, adt_named, adt_name_read, blank_name, variant_from, variant_read, with_more, some_variants, closed_braces, variants_behind, variants_read, marked, struct_from, struct_read, enum_from, enum_read, adt_read}
+use Rattle.listing_items.specs.ItemReading.{copy_from, copy_read, drop_read, marks_from, marks_read, blank_behind, adt_named, adt_name_read, blank_name, variant_from, variant_read, with_more, some_variants, closed_braces, variants_behind, variants_read, marked, struct_from, struct_read, enum_from, enum_read}
 use Rattle.listing_items.specs.ItemsFound.{written_variant, written_shape, written_adt, AdtsAreSound}
 
 copy_sound : (t : List ℕ) → t ≡ copy_text (copy_read t).0 ++ (copy_read t).1

@@ -8,3 +8,4 @@ mod variants;
 
 pub use adts::adt_line;
 pub use law::law_of_items;
+pub use names::blank_name;

@@ -30,7 +30,7 @@ pub fn field_names(alloc: Global, count: usize) -> Result<List<Name>, NoMemory>
     Ok(names)
 }
 
-/// A name, behind which a blank stands.
+/// A name in UTF-8 behind which a blank stands, and what stands behind that.
 pub fn blank_name(text: &[u8]) -> Option<(&str, &[u8])>
     ensures { seen_name result ≡ reading.blank_name text.now }
 {

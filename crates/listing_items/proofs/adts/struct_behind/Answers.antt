@@ -1,4 +1,4 @@
-use Rattle.std.proofs.Common.{rules, ◌≡◌, ◌∷◌, [], false, List, ℕ, Some, map}
+use Rattle.std.proofs.Common.{rules, ◌≡◌, ◌∷◌, [], false, Some, map}
 use Rattle.mir_ty.specs.AreItems.{AreTypes}
 use Rattle.mir_text.specs.Compared.{AdtSeen}
 use Rattle.listing_types.specs.Table.{text_under}

@@ -1,5 +1,5 @@
 -- One variant more, and no more variants.
-use Rattle.std.proofs.Common.{rules, ◌≡◌, ◌-◌, ◌+◌, List, ℕ, All, length, Some, None, sym, subst, arith}
+use Rattle.std.proofs.Common.{rules, ◌≡◌, ◌-◌, ◌+◌, All, length, Some, None, sym, subst, arith}
 use Rattle.mir_ty.specs.AreItems.{IsVariant}
 use Rattle.mir_text.specs.Compared.{variant_seen}
 use Rattle.mir_text.specs.Reading.Rows.{comma, many}

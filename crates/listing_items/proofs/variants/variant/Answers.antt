@@ -1,4 +1,4 @@
-use Rattle.std.proofs.Common.{rules, ◌≡◌, List, ℕ, Some, map}
+use Rattle.std.proofs.Common.{rules, ◌≡◌, Some, map}
 use Rattle.mir_ty.specs.AreItems.{AreTypes}
 use Rattle.listing_types.specs.Table.{text_under}
 use Rattle.listing_items.specs.ItemReading.{variant_read}
