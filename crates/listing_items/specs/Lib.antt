@@ -1,0 +1,3 @@
+pub mod ItemReading
+pub mod ItemsFound
+pub mod ItemsRead
