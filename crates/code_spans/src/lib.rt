@@ -7,4 +7,4 @@ mod spans;
 
 pub use marking::marks_of;
 pub use marks::Mark;
-pub use spans::{Spans, Two, has_end, two_before};
+pub use spans::{Spans, Two, has_end, two_before, word_at};

@@ -1,5 +1,5 @@
 //! Codes among the words of a body.
-ghost use Rattle.std.specs.Prelude.{◌≡◌, ◌<◌, ℕ, suc, IfSome, Some, map};
+ghost use Rattle.std.specs.Prelude.{◌≡◌, ◌<◌, ℕ, suc, IfSome, Some, map, option_copied, slice_get};
 ghost use Rattle.cfg_build.specs.Build.{Frame};
 ghost use Rattle.cfg_build.specs.Codes.{lowers};
 ghost use Rattle.scope_code.specs.Code as plain;
@@ -22,6 +22,13 @@ pub struct Spans<'a> {
 pub struct Two {
     pub one: usize,
     pub another: usize,
+}
+
+/// The word with a number; `None` past the last.
+pub fn word_at<'a>(code: Spans<'a>, number: usize) -> Option<&'a Op>
+    ensures { option_copied result ≡ slice_get code.entry.words.now number }
+{
+    code.words.get(number)
 }
 
 /// Where the two codes end that stand directly before a word; `None` where no two codes do.
