@@ -1,5 +1,5 @@
 -- What is built of an effect does not depend on the node of its sites.
-use Rattle.std.proofs.Common.{◌≡◌, ◌∷◌, ℕ, List, [], map, refl, ap}
+use Rattle.std.proofs.Common.{◌≡◌, ◌∷◌, ℕ, List, [], refl, ap}
 use Rattle.cfg_build.specs.Build as build
 use Rattle.cfg_build.specs.Build.{Frame, Done}
 use Rattle.cfg_graph.specs.declared.place.Operand.{Operand}

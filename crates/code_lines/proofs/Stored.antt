@@ -1,5 +1,5 @@
 -- Where an effect stores, by locals.
-use Rattle.std.proofs.Common.{◌≡◌, ◌∙◌, ◌∷◌, ℕ, Bool, true, false, List, [], Option, Some, map, refl, sym, ap}
+use Rattle.std.proofs.Common.{◌≡◌, ◌∙◌, ◌∷◌, Bool, false, List, [], Option, Some, map, refl, sym, ap}
 use Rattle.std.specs.Option.{option_map_or}
 use Rattle.std.specs.Prelude.{slice_get}
 use Rattle.cfg_build.specs.Build as build
@@ -12,7 +12,7 @@ use Rattle.scope_code.specs.View.{effect_of}
 use Rattle.scope_code.specs.declared.code.Action.{Action}
 use Rattle.src_meaning.specs.Locals.Effects.{step_at, site_at}
 use Rattle.store_model.specs.Abstract.Effects.{never_at}
-use Rattle.store_model.specs.Places.Place.{Step, ToPart, ToField, ToContent, ToElement, Place}
+use Rattle.store_model.specs.Places.Place.{Step, ToPart, ToField, ToContent, ToElement}
 use Rattle.code_lines.specs.Framed.{stored, stored_in}
 
 module _ (f : Frame) where

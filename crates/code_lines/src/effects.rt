@@ -31,10 +31,7 @@ pub fn statement(alloc: Global, frame: Frame, stmt: &Stmt) -> Result<Stmt, NoMem
             operand(alloc, frame, left)?,
             operand(alloc, frame, right)?,
         )),
-        Stmt::Not(to, of) => Ok(Stmt::Not(
-            place(alloc, frame, to)?,
-            operand(alloc, frame, of)?,
-        )),
+        Stmt::Not(to, of) => Ok(Stmt::Not(place(alloc, frame, to)?, operand(alloc, frame, of)?)),
         Stmt::NewBox(to, content) => Ok(Stmt::NewBox(
             place(alloc, frame, to)?,
             operand(alloc, frame, content)?,

@@ -76,13 +76,13 @@ pub scope_step : (items : ItemTable) (s : Scope) (ss : List Scope) (drops then_d
 scope_step items s ss drops then_drops after all is first second =
     let own : List scopes.Entry = entries_of s.pending ++ entries_of s.entries in
     let gone : after ≡ needing_drop items own ++ drops =
-        second ∙ ap (λ (w : List scopes.Entry). needing_drop items (entries_of s.pending) ++ w) first
-        ∙ sym (append_assoc (needing_drop items (entries_of s.pending)) (needing_drop items (entries_of s.entries)) drops)
-        ∙ ap (λ (w : List scopes.Entry). w ++ drops) (sym (needing_append items (entries_of s.pending) (entries_of s.entries))) in
+    second ∙ ap (λ (w : List scopes.Entry). needing_drop items (entries_of s.pending) ++ w) first
+    ∙ sym (append_assoc (needing_drop items (entries_of s.pending)) (needing_drop items (entries_of s.entries)) drops)
+    ∙ ap (λ (w : List scopes.Entry). w ++ drops) (sym (needing_append items (entries_of s.pending) (entries_of s.entries))) in
     let whole : needing_drop items (all_entries (scopes_of (s ∷ ss))) ≡ needing_drop items (all_entries (scopes_of ss)) ++ needing_drop items own =
-        ap (λ (S : Scopes). needing_drop items (all_entries S)) (scopes_first s ss)
-        ∙ ap (needing_drop items) (all_append (scopes_of ss) (scope_of s ∷ []) ∙ ap (λ (w : List scopes.Entry). all_entries (scopes_of ss) ++ w) (append-nil own))
-        ∙ needing_append items (all_entries (scopes_of ss)) own in
+    ap (λ (S : Scopes). needing_drop items (all_entries S)) (scopes_first s ss)
+    ∙ ap (needing_drop items) (all_append (scopes_of ss) (scope_of s ∷ []) ∙ ap (λ (w : List scopes.Entry). all_entries (scopes_of ss) ++ w) (append-nil own))
+    ∙ needing_append items (all_entries (scopes_of ss)) own in
     ap (λ (w : List scopes.Entry). needing_drop items (all_entries (scopes_of ss)) ++ w) gone
     ∙ sym (append_assoc (needing_drop items (all_entries (scopes_of ss))) (needing_drop items own) drops)
     ∙ ap (λ (w : List scopes.Entry). w ++ drops) (sym whole) ∙ is

@@ -1,5 +1,5 @@
 -- What contracts see of scopes: the innermost first, and in each the youngest entry first.
-use Rattle.std.specs.Prelude.{ℕ, List, map, reverse}
+use Rattle.std.specs.Prelude.{List, map, reverse}
 use Rattle.src_meaning.specs.Scopes as scopes
 use Rattle.src_meaning.specs.Scopes.{Scopes, with_entry, with_pending, without_pending, becomes_entry}
 use Rattle.scope_code.specs.View.{entry_of}

@@ -1,10 +1,9 @@
 -- The parts of the words so far stand one behind the other, up to before a word.
-use Rattle.std.proofs.Common.{◌≡◌, ◌∙◌, ◌++◌, ◌∷◌, ◌-◌, ◌||◌, ℕ, suc, Bool, true, false, List, [], Some, length, refl, sym, ap, subst, arith}
+use Rattle.std.proofs.Common.{◌≡◌, ◌∙◌, ◌++◌, ◌∷◌, ◌||◌, ℕ, suc, Bool, true, false, List, [], Some, length, sym, ap}
 use Rattle.std.specs.Option.{unwrap_or}
 use Rattle.std.specs.Prelude.{slice_get}
 use Rattle.mir_ty.proofs.ListLemmas.{slice_get-append_left, slice_get-last}
 use Rattle.src_meaning.specs.Scopes.{Exit}
-use Rattle.scope_code.specs.Code.{Code}
 use Rattle.scope_code.specs.Ops as ops
 use Rattle.scope_code.specs.Ops.{Op}
 use Rattle.cfg_build.specs.Build.{Frame}
@@ -80,10 +79,16 @@ module _ (f : Frame) (words : List Op) (marks more : List Mark) where
       let before : mark_at (marks ++ more) d ≡ mark_at marks d = same_mark d is.1.1.0 in
       let own : mark_at (marks ++ more) e ≡ mark_at marks e = same_mark e here in (
         d,
-        (is.1.0, (slice_get-append_left marks more d _ is.1.1.0 ∙ ap (λ (m : Mark). Some m) (sym before), (
-          ap (λ (m : Mark). m.has_end) own ∙ is.1.1.1.0 ∙ ap (λ (m : Mark). m.has_end || (lowers_arm f arm).has_end) (sym before),
-          ap (λ (m : Mark). m.arms) own ∙ is.1.1.1.1 ∙ ap (λ (m : Mark). m.arms) (sym before),
-        ))),
+        (
+          is.1.0,
+          (
+            slice_get-append_left marks more d _ is.1.1.0 ∙ ap (λ (m : Mark). Some m) (sym before),
+            (
+              ap (λ (m : Mark). m.has_end) own ∙ is.1.1.1.0 ∙ ap (λ (m : Mark). m.has_end || (lowers_arm f arm).has_end) (sym before),
+              ap (λ (m : Mark). m.arms) own ∙ is.1.1.1.1 ∙ ap (λ (m : Mark). m.arms) (sym before),
+            ),
+          ),
+        ),
       )
   still_follows ArmsBegin parts s e here is =
       let own : mark_at (marks ++ more) e ≡ mark_at marks e = same_mark e here in
@@ -93,13 +98,28 @@ module _ (f : Frame) (words : List Op) (marks more : List Mark) where
   still_cover [] n jumps is = is
   still_cover (part ∷ parts) n jumps is = (
     is.0,
-    (is.1.0, (is.1.1.0, (is.1.1.1.0, (
-      part_still_stands part is.0 is.1.0 is.1.1.1.1.0,
-      (still_behind is.1.0 is.1.1.0 is.1.1.1.1.1.0, (is.1.1.1.1.1.1.0, (
-        still_follows part parts is.0 is.1.0 is.1.1.1.1.1.0.0 is.1.1.1.1.1.1.1.0,
-        still_cover parts is.0 is.1.1.0 is.1.1.1.1.1.1.1.1,
-      ))),
-    )))),
+    (
+      is.1.0,
+      (
+        is.1.1.0,
+        (
+          is.1.1.1.0,
+          (
+            part_still_stands part is.0 is.1.0 is.1.1.1.1.0,
+            (
+              still_behind is.1.0 is.1.1.0 is.1.1.1.1.1.0,
+              (
+                is.1.1.1.1.1.1.0,
+                (
+                  still_follows part parts is.0 is.1.0 is.1.1.1.1.1.0.0 is.1.1.1.1.1.1.1.0,
+                  still_cover parts is.0 is.1.1.0 is.1.1.1.1.1.1.1.1,
+                ),
+              ),
+            ),
+          ),
+        ),
+      ),
+    ),
   )
 
 module _ (f : Frame) (words : List Op) (marks : List Mark) where
@@ -119,8 +139,14 @@ module _ (f : Frame) (words : List Op) (marks : List Mark) where
   pub covers_more : (part : Part) (parts : List Part) (s : ℕ) (before jumps : List Exit) (m : Mark) → Cover f words marks parts s before → StandsPart f words (marks_with m) part s (length marks) → m.jumps ≡ length before → jumps ≡ before ++ jumps_of f part → Follows f words (marks_with m) part parts s (length marks) → Cover f words (marks_with m) (part ∷ parts) (length (marks_with m)) jumps
   covers_more part parts s before jumps m covered stands behind are follows = (
     s,
-    (length marks, (before, (
-      length_push marks m,
-      (stands, (behind_last m before behind, (are, (follows, still_cover f words marks (m ∷ []) parts s before covered)))),
-    ))),
+    (
+      length marks,
+      (
+        before,
+        (
+          length_push marks m,
+          (stands, (behind_last m before behind, (are, (follows, still_cover f words marks (m ∷ []) parts s before covered)))),
+        ),
+      ),
+    ),
   )

@@ -1,5 +1,5 @@
 -- Lengths of lists to which something is added.
-use Rattle.std.proofs.Common.{◌≡◌, ◌∙◌, ◌++◌, ◌∷◌, ◌+◌, ℕ, suc, List, [], length, refl, ap}
+use Rattle.std.proofs.Common.{◌≡◌, ◌++◌, ◌∷◌, suc, List, [], length, refl, ap}
 
 pub length_push : {X : Type 0} (xs : List X) (x : X) → length (xs ++ x ∷ []) ≡ suc (length xs)
 length_push [] x = refl

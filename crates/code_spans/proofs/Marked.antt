@@ -2,7 +2,7 @@
 use Rattle.std.proofs.Common.{◌≡◌, ◌∙◌, ◌++◌, ◌∷◌, ◌-◌, ◌+◌, ◌&&◌, ◌||◌, not, ℕ, suc, Bool, true, false, List, [], Option, Some, None, length, take, drop, reverse, refl, sym, ap, subst, append_assoc, add-zero, arith}
 use Rattle.std.proofs.Math.Bool.{and-true, or-false}
 use Rattle.std.proofs.Math.Seq.{take-append_seam, drop-append_seam}
-use Rattle.std.proofs.lemmas.List.{append-nil, reverse-append, length-reverse}
+use Rattle.std.proofs.lemmas.List.{append-nil, reverse-append}
 use Rattle.std.proofs.lemmas.Option.{none-some, same_Some}
 use Rattle.std.specs.Option.{option_and_then}
 use Rattle.std.specs.Prelude.{slice_get}
@@ -13,15 +13,15 @@ use Rattle.scope_code.specs.Code.{Code, Arms, no_arm, an_arm, Arm, Taken, Empty,
 use Rattle.scope_code.specs.Ops as ops
 use Rattle.scope_code.specs.Ops.{Op, onto}
 use Rattle.cfg_build.specs.Build.{Frame, act_by, Done, is_last, done_by, jumps_if, outside, is_left_by}
-use Rattle.cfg_build.specs.Codes.{lowers, lowers_arm, lowers_arms, some_end}
-use Rattle.code_spans.specs.MarkRules.{Marking, mark_at, no_mark, last, first, cut, own_jumps, leaf, around_one, of_both, of_either, around_loop, arm_of_one, arm_of_two, empty_arm, of_arms, before_arms, marked, all_marked, none_marked, both_end, arm_behind}
-use Rattle.code_spans.specs.Spans.{IsMarked, IsArmMarked, IsLeaf, OneBefore, TwoBefore, Stands, StandArms}
+use Rattle.cfg_build.specs.Codes.{lowers}
+use Rattle.code_spans.specs.MarkRules.{Marking, mark_at, last, first, cut, own_jumps, leaf, around_one, of_both, of_either, around_loop, arm_of_one, arm_of_two, empty_arm, of_arms, before_arms, marked, all_marked, none_marked, both_end, arm_behind}
+use Rattle.code_spans.specs.Spans.{IsMarked, IsArmMarked, IsLeaf, OneBefore, TwoBefore, Stands}
 use Rattle.code_spans.specs.declared.marks.Mark.{Mark}
 use Rattle.code_spans.proofs.Lengths.{length_push}
 use Rattle.code_spans.proofs.Parts.{Part, ACode, AnArm, ArmsBegin, gathered, matched, matching, taken, parted, of_one, of_two}
 use Rattle.code_spans.proofs.Parting.{parts_of}
 use Rattle.code_spans.proofs.Standing.{still_stands, arms_still_stand, code_says, Says}
-use Rattle.code_spans.proofs.Covering.{Cover, StandsPart, Follows, ArmFollows, IsBehind, jumps_of, in_match, same_mark, marks_with, last_marked, covers_more}
+use Rattle.code_spans.proofs.Covering.{Cover, StandsPart, Follows, ArmFollows, jumps_of, in_match, same_mark, last_marked, covers_more}
 use Rattle.code_spans.proofs.Gathering.{Gathered, gathers_cover}
 
 before_is : (n e : ℕ) → n ≡ suc e → n - 1 ≡ e
@@ -64,10 +64,16 @@ module _ (f : Frame) (words : List Op) (m : Marking) where
       let same : mark_at (marks ++ own ∷ []) e ≡ mark_at marks e = same_mark f words marks (own ∷ []) e here in
       let at_last : mark_at (marks ++ own ∷ []) n ≡ own = last_marked f words marks own in (
         e,
-        (covered.1.1.1.0, (slice_get-append_left marks (own ∷ []) e _ here ∙ ap (λ (o : Mark). Some o) (sym same), (
-          ap (λ (o : Mark). o.has_end) at_last ∙ ends ∙ ap (λ (k : ℕ). (mark_at marks k).has_end || has_end) number ∙ ap (λ (o : Mark). o.has_end || has_end) (sym same),
-          ap (λ (o : Mark). o.arms) at_last ∙ arms ∙ ap (λ (k : ℕ). (mark_at marks k).arms) number ∙ ap (λ (o : Mark). o.arms) (sym same),
-        ))),
+        (
+          covered.1.1.1.0,
+          (
+            slice_get-append_left marks (own ∷ []) e _ here ∙ ap (λ (o : Mark). Some o) (sym same),
+            (
+              ap (λ (o : Mark). o.has_end) at_last ∙ ends ∙ ap (λ (k : ℕ). (mark_at marks k).has_end || has_end) number ∙ ap (λ (o : Mark). o.has_end || has_end) (sym same),
+              ap (λ (o : Mark). o.arms) at_last ∙ arms ∙ ap (λ (k : ℕ). (mark_at marks k).arms) number ∙ ap (λ (o : Mark). o.arms) (sym same),
+            ),
+          ),
+        ),
       )
 
   -- Words that are code by themselves.
@@ -106,7 +112,7 @@ module _ (f : Frame) (words : List Op) (m : Marking) where
       let before : List Exit = covered.1.1.0 in
       let said : Says f words marks s (n - 1) (lowers f inner).has_end × ((last m).jumps ≡ length before) = last_says inner parts n m.jumps covered in
       let one : OneBefore f words (marks ++ own ∷ []) (Stands f words (marks ++ own ∷ []) inner) s n =
-          (e, (covered.1.1.1.0, still_stands f words marks (own ∷ []) inner s e covered.1.1.1.1.0)) in
+      (e, (covered.1.1.1.0, still_stands f words marks (own ∷ []) inner s e covered.1.1.1.1.0)) in
       covers_more f words marks part parts s before left own covered.1.1.1.1.1.1.1.1
       (stands s (starts ∙ said.0.0) said.0.1 one) (jumps ∙ said.1) are (follows s before said.0.0 covered.1.1.1.1.1.1.1.1)
 
@@ -126,13 +132,13 @@ module _ (f : Frame) (words : List Op) (m : Marking) where
       let said : Says f words marks s ((last m).start - 1) (lowers f one).has_end × ((first m).jumps ≡ length before) = subst P (sym said2.0.0) said1 in
       let stands1 : Stands f words (marks ++ own ∷ []) one s e = still_stands f words marks (own ∷ []) one s e firsts.1.1.1.1.0 in
       let stands2 : Stands f words (marks ++ own ∷ []) another (suc e) e2 =
-          subst (λ (begins : ℕ). Stands f words (marks ++ own ∷ []) another begins e2) firsts.1.1.1.0
-          (still_stands f words marks (own ∷ []) another s2 e2 covered.1.1.1.1.0) in
+      subst (λ (begins : ℕ). Stands f words (marks ++ own ∷ []) another begins e2) firsts.1.1.1.0
+      (still_stands f words marks (own ∷ []) another s2 e2 covered.1.1.1.1.0) in
       let two : TwoBefore f words (marks ++ own ∷ []) (Stands f words (marks ++ own ∷ []) one) (Stands f words (marks ++ own ∷ []) another) s n =
-          (e2, (e, (covered.1.1.1.0, (stands1, stands2)))) in
+      (e2, (e, (covered.1.1.1.0, (stands1, stands2)))) in
       let before2_is : before2 ≡ before ++ (lowers f one).jumps = firsts.1.1.1.1.1.1.0 in
       let all : m.jumps ≡ (before ++ (lowers f one).jumps) ++ (lowers f another).jumps =
-          covered.1.1.1.1.1.1.0 ∙ ap (λ (js : List Exit). js ++ (lowers f another).jumps) before2_is in
+      covered.1.1.1.1.1.1.0 ∙ ap (λ (js : List Exit). js ++ (lowers f another).jumps) before2_is in
       covers_more f words marks part parts s before left own firsts.1.1.1.1.1.1.1.1
       (stands s (starts ∙ said.0.0) said.0.1 said2.0.1 two) (jumps ∙ said.1)
       (are before said.0.1 (said2.1 ∙ ap (λ (js : List Exit). length js) before2_is) all)
@@ -167,8 +173,11 @@ module _ (f : Frame) (words : List Op) (m : Marking) where
   then_covers : (one another : Code) (parts : List Part) → Covered (ACode another ∷ ACode one ∷ parts) → slice_get words n ≡ Some ops.Then → Covers (of_both m) (ACode (code.Then one another) ∷ parts)
   then_covers one another parts covered at =
       two_covers one another (ACode (code.Then one another)) parts both_mark (of_both m).jumps covered refl refl
-      (λ s starts had1 had2 two. (is_marked both_mark s ops.Then (lowers f (code.Then one another)).has_end at starts
-      (both_are (first m).has_end (last m).has_end (lowers f one).has_end (lowers f another).has_end had1 had2), two))
+      (λ s starts had1 had2 two. (
+        is_marked both_mark s ops.Then (lowers f (code.Then one another)).has_end at starts
+            (both_are (first m).has_end (last m).has_end (lowers f one).has_end (lowers f another).has_end had1 had2),
+        two,
+      ))
       (λ before had1 counts are. ap (λ (b : Bool). cut b (last m).jumps m.jumps) had1
       ∙ cut_is (lowers f one).has_end (last m).jumps before (lowers f one).jumps (lowers f another).jumps m.jumps counts are)
       (λ s before starts had1 had2 rest. tt)
@@ -179,8 +188,11 @@ module _ (f : Frame) (words : List Op) (m : Marking) where
   branch_covers : (node : ℕ) (on : code.Condition) (one another : Code) (parts : List Part) → Covered (ACode another ∷ ACode one ∷ parts) → slice_get words n ≡ Some (ops.Branches node on) → Covers (of_either m) (ACode (code.Branches node on one another) ∷ parts)
   branch_covers node on one another parts covered at =
       two_covers one another (ACode (code.Branches node on one another)) parts either_mark m.jumps covered refl refl
-      (λ s starts had1 had2 two. (is_marked either_mark s (ops.Branches node on) (lowers f (code.Branches node on one another)).has_end at starts
-      (either_are (first m).has_end (last m).has_end (lowers f one).has_end (lowers f another).has_end had1 had2), two))
+      (λ s starts had1 had2 two. (
+        is_marked either_mark s (ops.Branches node on) (lowers f (code.Branches node on one another)).has_end at starts
+            (either_are (first m).has_end (last m).has_end (lowers f one).has_end (lowers f another).has_end had1 had2),
+        two,
+      ))
       (λ before had1 counts are. are ∙ append_assoc before (lowers f one).jumps (lowers f another).jumps)
       (λ s before starts had1 had2 rest. tt)
 
@@ -193,9 +205,9 @@ module _ (f : Frame) (words : List Op) (m : Marking) where
       let said : Says f words marks covered.0 (n - 1) (lowers f turn).has_end × ((last m).jumps ≡ length before) = last_says turn parts n m.jumps covered in
       let are : m.jumps ≡ before ++ (lowers f turn).jumps = covered.1.1.1.1.1.1.0 in
       let kept : take (last m).jumps m.jumps ≡ before =
-          ap (λ (k : ℕ). take k m.jumps) said.1 ∙ ap (take (length before)) are ∙ take-append_seam before (lowers f turn).jumps in
+      ap (λ (k : ℕ). take k m.jumps) said.1 ∙ ap (take (length before)) are ∙ take-append_seam before (lowers f turn).jumps in
       let own : own_jumps m ≡ (lowers f turn).jumps =
-          ap (λ (k : ℕ). drop k m.jumps) said.1 ∙ ap (drop (length before)) are ∙ drop-append_seam before (lowers f turn).jumps in
+      ap (λ (k : ℕ). drop k m.jumps) said.1 ∙ ap (drop (length before)) are ∙ drop-append_seam before (lowers f turn).jumps in
       one_covers turn (ACode (code.Loops id turn)) parts (loop_mark id) (around_loop id m).jumps covered refl refl
       (λ s starts had one. (is_marked (loop_mark id) s (ops.Loops id) (lowers f (code.Loops id turn)).has_end at starts (ap (is_left_by id) own), one))
       (ap (λ (js : List Exit). js ++ outside id (own_jumps m)) kept ∙ ap (λ (js : List Exit). before ++ outside id js) own)
@@ -248,14 +260,14 @@ module _ (f : Frame) (words : List Op) (m : Marking) where
   match_covers : (node : ℕ) (parts : List Part) (found : Arms × List Part) → gathered no_arm parts ≡ Some found → Covered parts → slice_get words n ≡ Some (ops.Matches node) → Covers (of_arms m) (matching node found)
   match_covers node parts found are covered at =
       let g : Gathered f words marks n n m.jumps false found =
-          gathers_cover f words marks parts no_arm found n n m.jumps m.jumps are covered refl (sym (append-nil m.jumps)) in
+      gathers_cover f words marks parts no_arm found n n m.jumps m.jumps are covered refl (sym (append-nil m.jumps)) in
       let s : ℕ = g.0 in
       let before : List Exit = g.1.0 in
       let c : Code = code.Matches node found.0 in
       let ends : (last m).has_end ≡ (lowers f c).has_end = sym (g.1.1.1.1.1.1.1.0 ∙ or-false (last m).has_end) in
       let own : Mark = match_mark in
       let begin : (mark_at marks (last m).arms).jumps ≡ length before =
-          ap (λ (k : ℕ). (mark_at marks k).jumps) g.1.1.1.1.1.1.0 ∙ g.1.1.1.1.0.1 in
+      ap (λ (k : ℕ). (mark_at marks k).jumps) g.1.1.1.1.1.1.0 ∙ g.1.1.1.1.0.1 in
       covers_more f words marks (ACode c) found.1 s before m.jumps own g.1.1.1.1.1.1.1.1
       (is_marked own s (ops.Matches node) (lowers f c).has_end at g.1.1.1.1.1.1.0 ends, (g.1.1.0, arms_still_stand f words marks (own ∷ []) found.0 (suc s) n g.1.1.1.0))
       begin g.1.1.1.1.1.0 tt
@@ -374,6 +386,7 @@ module _ (f : Frame) where
     where
       here : slice_get words (length m.marks) ≡ Some word
       here = ap (slice_get words) counts ∙ ap (λ (ws : List Op). slice_get ws (length done)) split ∙ at_seam done rest word
+
       by_parts : (parts' : List Part) (o : Option (List Part)) → parted (reverse done) ≡ o → option_and_then (taken word) o ≡ Some parts' → Cover f words (marked f word m).marks parts' (length (marked f word m).marks) (marked f word m).jumps
       by_parts parts' None is are = absurd (none-some parts' are)
       by_parts parts' (Some parts) is are = marked_covers f words m word parts parts' (covers parts is) here are
@@ -396,7 +409,7 @@ module _ (f : Frame) where
       let m : Marking = all_marked f words none_marked in
       let start : CoversAll words [] none_marked = λ parts is. subst (λ ps. Cover f words [] ps 0 []) (same_Some [] parts is) (refl, refl) in
       let covered : Cover f words m.marks (ACode c ∷ []) (length m.marks) m.jumps =
-          all_cover words [] words none_marked refl refl start (ACode c ∷ []) (ap parted are ∙ parts_of c [] [] refl) in
+      all_cover words [] words none_marked refl refl start (ACode c ∷ []) (ap parted are ∙ parts_of c [] [] refl) in
       let e : ℕ = covered.1.0 in
       let counts : length m.marks ≡ length words = length_all words none_marked ∙ (omega arith) in
       let ends : e ≡ length words - 1 = sym (before_is (length words) e (sym counts ∙ covered.1.1.1.0)) in

@@ -1,14 +1,13 @@
 -- Where code stands, it still stands when more is marked; and what is marked where it ends.
-use Rattle.std.proofs.Common.{◌≡◌, ◌∙◌, ◌++◌, ◌∷◌, ℕ, suc, Bool, List, [], Some, length, ap}
+use Rattle.std.proofs.Common.{◌≡◌, ◌∙◌, ◌++◌, ℕ, suc, Bool, List, ap}
 use Rattle.std.specs.Option.{unwrap_or}
-use Rattle.std.specs.Prelude.{slice_get}
 use Rattle.mir_ty.proofs.ListLemmas.{slice_get-append_left}
 use Rattle.scope_code.specs.Code as code
 use Rattle.scope_code.specs.Code.{Code, Arms, no_arm, an_arm, Arm, Taken, Empty, no_guard, a_guard}
 use Rattle.scope_code.specs.Ops.{Op}
 use Rattle.cfg_build.specs.Build.{Frame}
 use Rattle.cfg_build.specs.Codes.{lowers}
-use Rattle.code_spans.specs.Spans.{IsMarked, IsArmMarked, IsLeaf, Stands, OneBefore, TwoBefore, StandArms, StandsArm}
+use Rattle.code_spans.specs.Spans.{IsMarked, IsArmMarked, Stands, StandArms, StandsArm}
 use Rattle.code_spans.specs.MarkRules.{mark_at, no_mark}
 use Rattle.code_spans.specs.declared.marks.Mark.{Mark}
 

@@ -23,7 +23,7 @@ module _ (f : Frame) (words : List Op) (marks : List Mark) (one another : Code) 
   first_is d m ends begins two =
       let same : two.0 ≡ d = second_is d ends two in
       let said : (mark_at marks d).start ≡ suc two.1.0 =
-          ap (λ (k : ℕ). (mark_at marks k).start) (sym same) ∙ (code_says f words marks another (suc two.1.0) two.0 two.1.1.1.1).0 in
+      ap (λ (k : ℕ). (mark_at marks k).start) (sym same) ∙ (code_says f words marks another (suc two.1.0) two.0 two.1.1.1.1).0 in
       let both : suc two.1.0 ≡ suc m = sym said ∙ begins in
       omega arith
 
@@ -32,7 +32,7 @@ module _ (f : Frame) (words : List Op) (marks : List Mark) (one another : Code) 
       let same : two.0 ≡ d = second_is d ends two in
       let first : two.1.0 ≡ m = first_is d m ends begins two in
       let other : Stands f words marks another (suc m) two.0 =
-          subst (λ (k : ℕ). Stands f words marks another (suc k) two.0) first two.1.1.1.1 in (
+      subst (λ (k : ℕ). Stands f words marks another (suc k) two.0) first two.1.1.1.1 in (
         subst (λ (k : ℕ). Stands f words marks one start k) first two.1.1.1.0,
         subst (λ (k : ℕ). Stands f words marks another (suc m) k) same other,
       )

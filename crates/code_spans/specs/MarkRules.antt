@@ -1,5 +1,5 @@
 -- What is marked at each word, by what is marked before it.
-use Rattle.std.specs.Prelude.{ℕ, ◌-◌, not, Bool, true, false, ◌&&◌, ◌||◌, List, [], ◌∷◌, ◌++◌, length, map, take, drop, Option, Some, None, slice_get}
+use Rattle.std.specs.Prelude.{ℕ, ◌-◌, not, Bool, true, false, ◌&&◌, ◌||◌, List, [], ◌∷◌, ◌++◌, length, map, take, drop, Some, None, slice_get}
 use Rattle.std.specs.Option.{unwrap_or}
 use Rattle.src_meaning.specs.Scopes.{Exit}
 use Rattle.scope_code.specs.Ops as ops

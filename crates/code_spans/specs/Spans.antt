@@ -1,5 +1,5 @@
 -- Where code stands among the words of a body, and what is marked there.
-use Rattle.std.specs.Prelude.{ℕ, suc, Bool, true, ◌≡◌, List, Option, Some, None, slice_get}
+use Rattle.std.specs.Prelude.{ℕ, suc, Bool, ◌≡◌, List, Some, None, slice_get}
 use Rattle.scope_code.specs.Code as code
 use Rattle.scope_code.specs.Code.{Code, Arms, no_arm, an_arm, Arm, Taken, Empty, no_guard, a_guard}
 use Rattle.scope_code.specs.Ops as ops

@@ -1,4 +1,4 @@
-use Rattle.std.proofs.Common.{rules, ◌≡◌, ◌∙◌, Some, option_copied}
+use Rattle.std.proofs.Common.{rules, ◌≡◌, ◌∙◌, Some}
 use Rattle.code_lines.specs.Framed.{frame_of, stored}
 use Rattle.code_lines.proofs.Stored.{last_is}
 use Rattle.code_lines.proofs.storing.is_last.Goals as goal

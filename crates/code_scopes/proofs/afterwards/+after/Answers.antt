@@ -1,4 +1,4 @@
-use Rattle.std.proofs.Common.{rules, ◌≡◌, ◌∙◌, ◌∷◌, ◌++◌, ℕ, suc, Bool, true, false, List, [], Some, None, map, slice_get, option_copied, refl, sym, ap, subst}
+use Rattle.std.proofs.Common.{rules, ◌≡◌, ◌∙◌, ℕ, suc, Bool, true, false, List, Some, map, slice_get, refl, sym, ap, subst}
 use Rattle.std.proofs.lemmas.Option.{none-some}
 use Rattle.std.proofs.lemmas.Result.{on_ok_weaker}
 use Rattle.cfg_build.specs.Build as build
@@ -18,7 +18,7 @@ pub after-returns-in-Changes : goal.after-returns-in-Changes
 after-returns-in-Changes t c =
     let ws : List words.Op = c.args.code.words.now in
     let at : slice_get (map op_of ws) c.args.end ≡ Some (op_of (words.Op.Changes c.in-Changes.by)) =
-        word_at ws c.args.end c.in-Some.word.now (words.Op.Changes c.in-Changes.by) (sym c.in-Some.ensures) c.in-Changes.is in
+    word_at ws c.args.end c.in-Some.word.now (words.Op.Changes c.in-Changes.by) (sym c.in-Some.ensures) c.in-Changes.is in
     on_ok_weaker c.change.result
     (λ made f code start stands. of_change f (map op_of ws) c.args.code.marks.now code start c.args.end stands
     (scopes_of c.args.scopes.now) (scopes_of c.change.new.scopes) (change_of c.in-Changes.by) at made) c.change.ensures
@@ -27,7 +27,7 @@ pub after-returns-in-Leaves : goal.after-returns-in-Leaves
 after-returns-in-Leaves t c = λ f code start stands.
     let ws : List words.Op = c.args.code.words.now in
     let at : slice_get (map op_of ws) c.args.end ≡ Some (op_of words.Op.Leaves) =
-        word_at ws c.args.end c.in-Some.word.now words.Op.Leaves (sym c.in-Some.ensures) c.in-Leaves.is in
+    word_at ws c.args.end c.in-Some.word.now words.Op.Leaves (sym c.in-Some.ensures) c.in-Leaves.is in
     of_leave f (map op_of ws) c.args.code.marks.now code start c.args.end stands
     (scopes_of c.args.scopes.now) (scopes_of c.leave.new.scopes) at (c.leave.ensures f)
 
@@ -35,7 +35,7 @@ pub after-returns-in_ok-change-in-From : goal.after-returns-in_ok-change-in-From
 after-returns-in_ok-change-in-From t c =
     let ws : List words.Op = c.args.code.words.now in
     let at : slice_get (map op_of ws) c.args.end ≡ Some (op_of (words.Op.From c.in-From.by)) =
-        word_at ws c.args.end c.in-Some.word.now (words.Op.From c.in-From.by) (sym c.in-Some.ensures) c.in-From.is in
+    word_at ws c.args.end c.in-Some.word.now (words.Op.From c.in-From.by) (sym c.in-Some.ensures) c.in-From.is in
     on_ok_weaker c.after_one.result
     (λ made f code start stands. of_from f (map op_of ws) c.args.code.marks.now code start c.args.end stands
     (scopes_of c.args.scopes.now) (scopes_of c.after_one.new.scopes) (change_of c.in-From.by) (scopes_of c.change-in-From.new.scopes) at
@@ -45,7 +45,7 @@ pub after-returns-in_ok-after_one-in-InScope : goal.after-returns-in_ok-after_on
 after-returns-in_ok-after_one-in-InScope t c = λ f code start stands.
     let ws : List words.Op = c.args.code.words.now in
     let at : slice_get (map op_of ws) c.args.end ≡ Some (op_of (words.Op.InScope c.in-InScope.node c.in-InScope.for_temporaries)) =
-        word_at ws c.args.end c.in-Some.word.now (words.Op.InScope c.in-InScope.node c.in-InScope.for_temporaries) (sym c.in-Some.ensures) c.in-InScope.is in
+    word_at ws c.args.end c.in-Some.word.now (words.Op.InScope c.in-InScope.node c.in-InScope.for_temporaries) (sym c.in-Some.ensures) c.in-InScope.is in
     of_scope f (map op_of ws) c.args.code.marks.now code start c.args.end stands
     (scopes_of c.args.scopes.now) (scopes_of c.leave-in-InScope.new.scopes) c.in-InScope.node.0 c.in-InScope.for_temporaries
     (scopes_of c.enter.new.scopes) (scopes_of c.after_one-in-InScope.new.scopes) at c.in_ok-enter-in-InScope.ensures
@@ -55,7 +55,7 @@ pub after-returns-in-Replaces : goal.after-returns-in-Replaces
 after-returns-in-Replaces t c =
     let ws : List words.Op = c.args.code.words.now in
     let at : slice_get (map op_of ws) c.args.end ≡ Some (op_of (words.Op.Replaces c.in-Replaces.node c.in-Replaces.place c.in-Replaces.key)) =
-        word_at ws c.args.end c.in-Some.word.now (words.Op.Replaces c.in-Replaces.node c.in-Replaces.place c.in-Replaces.key) (sym c.in-Some.ensures) c.in-Replaces.is in
+    word_at ws c.args.end c.in-Some.word.now (words.Op.Replaces c.in-Replaces.node c.in-Replaces.place c.in-Replaces.key) (sym c.in-Some.ensures) c.in-Replaces.is in
     on_ok_weaker c.take.result
     (λ made f code start stands. of_replaced f (map op_of ws) c.args.code.marks.now code start c.args.end stands
     (scopes_of c.args.scopes.now) (scopes_of c.take.new.scopes) (record { node = c.in-Replaces.node.0; place = named c.in-Replaces.place }) c.in-Replaces.key.0 at made) c.take.ensures
@@ -64,7 +64,7 @@ pub after-returns-in-Then : goal.after-returns-in-Then
 after-returns-in-Then t c =
     let ws : List words.Op = c.args.code.words.now in
     let at : slice_get (map op_of ws) c.args.end ≡ Some (op_of words.Op.Then) =
-        word_at ws c.args.end c.in-Some.word.now words.Op.Then (sym c.in-Some.ensures) c.in-Then.is in
+    word_at ws c.args.end c.in-Some.word.now words.Op.Then (sym c.in-Some.ensures) c.in-Then.is in
     on_ok_weaker c.after_both.result
     (λ made f code start stands. of_both f (map op_of ws) c.args.code.marks.now code start c.args.end stands
     (scopes_of c.args.scopes.now) (scopes_of c.after_both.new.scopes) at (λ one another two. made f one another start two)) c.after_both.ensures
@@ -73,7 +73,7 @@ pub after-returns-in-Branches : goal.after-returns-in-Branches
 after-returns-in-Branches t c =
     let ws : List words.Op = c.args.code.words.now in
     let at : slice_get (map op_of ws) c.args.end ≡ Some (op_of (words.Op.Branches c.in-Branches.node c.in-Branches.on)) =
-        word_at ws c.args.end c.in-Some.word.now (words.Op.Branches c.in-Branches.node c.in-Branches.on) (sym c.in-Some.ensures) c.in-Branches.is in
+    word_at ws c.args.end c.in-Some.word.now (words.Op.Branches c.in-Branches.node c.in-Branches.on) (sym c.in-Some.ensures) c.in-Branches.is in
     on_ok_weaker c.after_either.result
     (λ made f code start stands. of_either f (map op_of ws) c.args.code.marks.now code start c.args.end stands
     (scopes_of c.args.scopes.now) (scopes_of c.after_either.new.scopes) c.in-Branches.node.0 (condition_of c.in-Branches.on) at (λ one another two. made f one another start two)) c.after_either.ensures

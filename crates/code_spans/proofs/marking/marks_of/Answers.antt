@@ -19,10 +19,10 @@ returns c = λ code are.
     let items_are : items ≡ c.args.code.now.ops = search rules in
     let gone = drop_of_length-le items c.loop-word-test.false in
     let marked : marking_of c.loop-word.marks ≡ all_marked f all none_marked =
-        sym (ap (λ rest. all_marked f (map op_of rest) (marking_of c.loop-word.marks)) gone) ∙ c.loop-word.invariant in
+    sym (ap (λ rest. all_marked f (map op_of rest) (marking_of c.loop-word.marks)) gone) ∙ c.loop-word.invariant in
     let spelled : reverse all ≡ onto code [] = ap (λ (ws : List words.Op). reverse (map op_of ws)) items_are ∙ are in
     let at : Stands f all c.loop-word.marks.marks code 0 (length all - 1) =
-        subst (λ (m : Marking). Stands f all m.marks code 0 (length all - 1)) (sym marked) (all_stand f all code spelled) in
+    subst (λ (m : Marking). Stands f all m.marks code 0 (length all - 1)) (sym marked) (all_stand f all code spelled) in
     let counted : Stands f all c.loop-word.marks.marks code 0 (length items - 1) =
-        subst (λ (n : ℕ). Stands f all c.loop-word.marks.marks code 0 (n - 1)) (length-map items op_of) at in
+    subst (λ (n : ℕ). Stands f all c.loop-word.marks.marks code 0 (n - 1)) (length-map items op_of) at in
     subst (λ (ws : List words.Op). Stands f (map op_of ws) c.loop-word.marks.marks code 0 (length ws - 1)) items_are counted

@@ -1,5 +1,4 @@
-use Rattle.std.proofs.Common.{rules, ◌≡◌, ◌<◌, ◌≤◌, ℕ, suc, List, map, refl, arith}
-use Rattle.scope_code.specs.Ops.{Op}
+use Rattle.std.proofs.Common.{rules, ◌≡◌, ◌<◌, ℕ, suc, List, map, refl}
 use Rattle.scope_code.specs.View.{op_of}
 use Rattle.code_spans.specs.MarkRules.{mark_at}
 use Rattle.code_spans.specs.declared.marks.Mark.{Mark}

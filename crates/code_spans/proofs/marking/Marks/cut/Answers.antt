@@ -1,7 +1,6 @@
-use Rattle.std.proofs.Common.{rules, ◌≡◌, ◌∙◌, List, map, take, sym, ap, false}
+use Rattle.std.proofs.Common.{rules, ◌≡◌, ◌∙◌, map, sym, ap, false}
 use Rattle.std.proofs.lemmas.List.{take-map}
 use Rattle.scope_code.specs.View.{exit_of}
-use Rattle.scope_code.specs.declared.code.Exit.{Exit}
 use Rattle.code_spans.specs.MarkRules as rule
 use Rattle.code_spans.proofs.marking.Marks.cut.Goals as goal
 
