@@ -1,0 +1,2 @@
+pub mod Nodeless
+mod Stored

@@ -1,0 +1,2 @@
+pub mod MarkRules
+pub mod Spans
