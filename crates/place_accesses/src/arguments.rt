@@ -31,7 +31,11 @@ pub struct Argument {
 }
 
 /// What an argument of this form refers to, if it is a borrow.
-pub fn refers_by(alloc: Global, aliases: &[Alias], form: &Form) -> Result<Option<Referring>, NoMemory>
+pub fn refers_by(
+    alloc: Global,
+    aliases: &[Alias],
+    form: &Form,
+) -> Result<Option<Referring>, NoMemory>
     ensures { IfOk result (λ r. referring_if_any r ≡ rules.refers_by (aliases_in aliases.now) (form_of form.now)) }
 {
     match form {

@@ -1,7 +1,7 @@
 //! Guards: none changes a place that overlaps its scrutinee, nor stores into a binding of its arm or borrows one by
 //! `&mut`.
-ghost use Rattle.std.specs.Prelude.{◌≡◌, ◌++◌, IfOk, OnOk, map};
-ghost use Rattle.std.specs.List.{filter_map};
+ghost use Rattle.std.specs.Prelude.{◌≡◌, ◌==◌, ◌&&◌, ◌||◌, IfOk, OnOk, map};
+ghost use Rattle.std.specs.List.{filter_map, list_any};
 ghost use Rattle.typing_rules.specs.Accesses as rules;
 ghost use Rattle.typing_rules.specs.Accesses.{◌⊕◌};
 ghost use Rattle.place_accesses.specs.View.{accessed_in, aliases_in, bound_in, key_if_any, place_if_any, told_in};
@@ -13,12 +13,18 @@ use crate::{Accessed, Alias, Place, Told};
 use mir_base::{Key, List, NoMemory, Pos};
 use std::alloc::Global;
 
+fn has_key(key: Key, bounds: &[Bound]) -> bool
+    ensures { result ≡ list_any (λ bound. bound.key.0 == key.0) bounds.now }
+{
+    bounds.iter().any(|bound| bound.key.0 == key.0)
+}
+
 /// Whether a key is that of a binding.
 fn is_bound(root: Option<Key>, bounds: &[Bound]) -> bool
     ensures { result ≡ rules.is_bound (key_if_any root) (map bound_in bounds.now) }
 {
     match root {
-        Some(root) => bounds.iter().any(|bound| bound.key.0 == root.0),
+        Some(root) => has_key(root, bounds),
         None => false,
     }
 }
@@ -66,7 +72,11 @@ pub fn of_guard(
 }
 
 /// The aliases inside a guard: the bindings of its arm, before those around it.
-pub fn aliases_with(alloc: Global, bounds: &[Bound], aliases: &[Alias]) -> Result<List<Alias>, NoMemory>
+pub fn aliases_with(
+    alloc: Global,
+    bounds: &[Bound],
+    aliases: &[Alias],
+) -> Result<List<Alias>, NoMemory>
     ensures { IfOk result (λ all. aliases_in all ≡ rules.aliases_with (map bound_in bounds.now) (aliases_in aliases.now)) }
 {
     let mut all = List::new(alloc);

@@ -6,8 +6,10 @@
 mod access;
 mod arguments;
 mod bindings;
+mod expressions;
 mod guards;
 mod place;
 
 pub use access::{Access, Accessed, Told};
+pub use expressions::tell;
 pub use place::{Alias, Place, Step};
