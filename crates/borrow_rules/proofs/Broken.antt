@@ -1,6 +1,5 @@
 -- What is broken by the parameters that were found is what is broken by the least set.
-use Rattle.std.proofs.Common.{◌≡◌, ℕ, Bool, true, false, List, [], ◌∷◌, ◌++◌, map, Option, Some, None, if◌then◌else◌, refl, ap, sym, ◌∙◌}
-use Rattle.std.specs.List.{filter_map}
+use Rattle.std.proofs.Common.{◌≡◌, ℕ, Bool, List, [], ◌∷◌, ◌++◌, map, Some, None, if◌then◌else◌, refl, ap}
 use Rattle.mir_base.specs.declared.place_in_text.Pos.{Pos}
 use Rattle.mir_base.specs.declared.rule.Rule.{Rule}
 use Rattle.typed_tree.specs.Tree.{BodyTree, ParamTree, ProgramTree}
@@ -8,7 +7,7 @@ use Rattle.typed_tree.specs.Nodes.{number_of}
 use Rattle.well_typed.specs.Nodes.{is_drop_body}
 use Rattle.typing_rules.specs.Borrows.{all_broken, broken, of_self, overlaps, replaced_self, replacements, replacing}
 use Rattle.typing_rules.specs.Check.{Broken}
-use Rattle.typing_rules.specs.Replaced.{Param, Passing, bodies_of, is_among, is_replaced, passings, replaceable, stores}
+use Rattle.typing_rules.specs.Replaced.{Param, Passing, bodies_of, is_among, passings, replaceable, stores}
 use Rattle.borrow_rules.proofs.Sets.{any_alike, filter_map_alike, flat_map_alike}
 use Rattle.borrow_rules.specs.Answers.{faults_of}
 use Rattle.borrow_rules.specs.Found.{IsFound}

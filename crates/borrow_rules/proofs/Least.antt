@@ -1,5 +1,5 @@
 -- What is sound and settled is the least set.
-use Rattle.std.proofs.Common.{◌≡◌, ℕ, Bool, true, false, ◌||◌, List, IsTrue, Contains, refl, ◌∙◌, sym}
+use Rattle.std.proofs.Common.{◌≡◌, ℕ, Bool, true, false, List, IsTrue, refl, sym}
 use Rattle.std.proofs.lemmas.Bool.{or_left, or_right}
 use Rattle.mir_ty.specs.ItemTable.{ItemTable}
 use Rattle.typed_tree.specs.Tree.{ProgramTree}

@@ -1,12 +1,12 @@
 -- Tests along lists, and lists that are gone through.
-use Rattle.std.proofs.Common.{◌≡◌, ℕ, zero, suc, ◌+◌, ◌<◌, Bool, true, false, ◌||◌, ◌&&◌, ◌==◌, List, [], ◌∷◌, ◌++◌, length, get_or, map, drop, Option, Some, None, slice_get, if◌then◌else◌, refl, ap, sym, ◌∙◌, inl, inr, add-one, append_assoc}
+use Rattle.std.proofs.Common.{◌≡◌, ℕ, ◌+◌, ◌<◌, Bool, true, false, ◌||◌, ◌&&◌, ◌==◌, List, [], ◌∷◌, ◌++◌, length, get_or, map, drop, Option, Some, None, slice_get, if◌then◌else◌, refl, ap, sym, ◌∙◌, inl, inr, add-one, append_assoc}
 use Rattle.std.specs.List.{list_any, filter_map, cons_option}
 use Rattle.std.specs.Option.{option_map_or}
 use Rattle.std.proofs.Math.ListN.{drop_of_length-le}
 use Rattle.std.proofs.lemmas.List.{at_drop_more}
 use Rattle.std.proofs.lemmas.Option.{get_or_from_slice_get, slice_get_cases, slice_get_within}
 use Rattle.mir_ty.specs.declared.def.ImplDef.{ImplDef}
-use Rattle.typed_tree.specs.Tree.{BodyTree, ParamTree}
+use Rattle.typed_tree.specs.Tree.{BodyTree}
 use Rattle.typed_tree.specs.View.{param_tree}
 use Rattle.typed_tree.specs.declared.body.Param as rust
 use Rattle.typing_rules.specs.Replaced.{Param, Facts, facts_from, facts_of, is_among, method_in}

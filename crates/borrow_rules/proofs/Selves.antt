@@ -1,8 +1,8 @@
 -- The first parameter of a `Drop` body.
-use Rattle.std.proofs.Common.{◌≡◌, ℕ, zero, Bool, true, false, List, [], ◌∷◌, map, Option, Some, None, slice_get, if◌then◌else◌, refl, ap, sym, ◌∙◌}
+use Rattle.std.proofs.Common.{◌≡◌, Bool, true, List, [], ◌∷◌, map, Option, Some, None, slice_get, if◌then◌else◌, refl, ap, ◌∙◌}
 use Rattle.mir_ty.specs.ItemTable.{ItemTable}
 use Rattle.typed_tree.specs.Nodes.{number_of}
-use Rattle.typed_tree.specs.Tree.{BodyTree, ParamTree}
+use Rattle.typed_tree.specs.Tree.{BodyTree}
 use Rattle.typed_tree.specs.View.{body_of, param_tree}
 use Rattle.typed_tree.specs.declared.body.Param as rust
 use Rattle.typed_tree.specs.declared.body.TBody.{TBody}

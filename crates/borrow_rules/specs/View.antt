@@ -1,5 +1,5 @@
 -- Nodes, parameters and what is known of them in Rust, as the rules of borrows see them.
-use Rattle.std.specs.Prelude.{ℕ, Bool, true, List, [], ◌∷◌, ◌++◌, Option, Some, None, map, option_map}
+use Rattle.std.specs.Prelude.{ℕ, List, [], ◌++◌, Option, Some, None, map, option_map}
 use Rattle.std.specs.Borrow.{Bor}
 use Rattle.std.specs.List.{filter_map, flat_map}
 use Rattle.mir_base.specs.declared.place_in_text.Key.{Key}

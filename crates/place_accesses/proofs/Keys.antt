@@ -1,5 +1,5 @@
 -- Keys among bindings, and aliases by their keys.
-use Rattle.std.proofs.Common.{◌≡◌, ℕ, ◌+◌, ◌<◌, ◌==◌, ◌||◌, Bool, true, false, List, [], ◌∷◌, Some, None, Option, map, drop, length, get_or, refl, sym, ap, ◌∙◌}
+use Rattle.std.proofs.Common.{◌≡◌, ℕ, ◌==◌, ◌||◌, false, List, [], ◌∷◌, Some, None, map, refl, ap}
 use Rattle.std.specs.List.{list_any}
 use Rattle.place_accesses.specs.View.{bound_in}
 use Rattle.place_accesses.specs.declared.bindings.Bound.{Bound}

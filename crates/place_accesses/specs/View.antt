@@ -1,5 +1,5 @@
 -- Places, accesses and what is told of an expression in Rust, as the rules of borrows see them.
-use Rattle.std.specs.Prelude.{ℕ, List, [], ◌∷◌, Option, Some, None, map, option_map}
+use Rattle.std.specs.Prelude.{ℕ, List, [], ◌∷◌, Option, None, map, option_map}
 use Rattle.mir_base.specs.declared.place_in_text.Key.{Key}
 use Rattle.mir_base.specs.declared.place_in_text.Pos.{Pos}
 use Rattle.place_accesses.specs.declared.access.Access as rust

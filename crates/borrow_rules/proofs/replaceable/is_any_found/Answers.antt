@@ -1,4 +1,4 @@
-use Rattle.std.proofs.Common.{◌≡◌, ◌||◌, true, false, Bool, Some, None, slice_get, drop, rules, refl, ap, sym, ◌∙◌, ◌+◌, arith}
+use Rattle.std.proofs.Common.{◌≡◌, ◌||◌, true, false, Bool, Some, None, slice_get, drop, rules, ap, sym, ◌∙◌, ◌+◌, arith}
 use Rattle.std.proofs.lemmas.Option.{slice_get_within}
 use Rattle.std.specs.List.{list_any}
 use Rattle.mir_ty.specs.declared.def.ImplDef.{ImplDef}

@@ -1,4 +1,4 @@
-use Rattle.std.proofs.Common.{◌≡◌, ℕ, Bool, true, false, List, length, map, rules, sym, subst}
+use Rattle.std.proofs.Common.{◌≡◌, ℕ, Bool, false, List, length, map, rules, sym, subst}
 use Rattle.std.proofs.lemmas.List.{length-map}
 use Rattle.typed_tree.specs.Tree.{ProgramTree}
 use Rattle.typed_tree.specs.View.{program_of}

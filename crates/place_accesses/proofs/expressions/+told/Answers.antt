@@ -1,12 +1,11 @@
-use Rattle.std.proofs.Common.{◌≡◌, ◌++◌, ◌∷◌, [], true, List, Option, rules, refl, sym, ap, ◌∙◌, map}
+use Rattle.std.proofs.Common.{◌≡◌, ◌++◌, ◌∷◌, [], true, List, Option, rules, sym, ap, ◌∙◌, map}
 use Rattle.std.proofs.lemmas.Result.{on_ok_weaker}
 use Rattle.typed_tree.specs.Tree as tree
 use Rattle.typed_tree.specs.Tree.{node}
 use Rattle.typed_tree.specs.View.{tree_of, form_of, maybe_of, nodes_from}
 use Rattle.typed_tree.specs.declared.node.Form.{the_lemmas}
 use Rattle.typed_tree.specs.declared.node.Node.{Node}
-use Rattle.typing_rules.specs.Accesses as rules
-use Rattle.typing_rules.specs.Accesses.{Told, ◌⊕◌, Argument, Place, accesses_of, arguments, bound, of_scrutinee, of_let, passed_together, place_of, told, told_arm, told_arms, told_guard, told_maybe}
+use Rattle.typing_rules.specs.Accesses.{◌⊕◌, Argument, Place, accesses_of, arguments, bound, of_scrutinee, of_let, passed_together, place_of, told, told_arm, told_arms, told_guard, told_maybe}
 use Rattle.place_accesses.specs.Forms.{argument_told, arm_told, branch_told, call_told, parts_told}
 use Rattle.place_accesses.specs.View.{aliases_in, argument_in, bound_in, place_if_any, told_in}
 use Rattle.place_accesses.proofs.Arms.{by_form}
