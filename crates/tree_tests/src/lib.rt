@@ -3,8 +3,6 @@
 #![tactic(auto)]
 
 #[cfg(test)]
-mod borrows;
-#[cfg(test)]
 mod patterns;
 #[cfg(test)]
 mod trees;
