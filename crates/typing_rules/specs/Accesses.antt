@@ -19,27 +19,27 @@ pub record Place : Type 0 where
   pub steps : List Step
   pub has_ended : Bool
 
-abbrev variable_place : ℕ → Place
+abbrev pub variable_place : ℕ → Place
 variable_place key = record { key = key; steps = []; has_ended = false }
 
-abbrev with_step : Step → Place → Place
+abbrev pub with_step : Step → Place → Place
 with_step step p = if p.has_ended then p else record p { steps = p.steps ++ step ∷ [] }
 
-abbrev with_end : Place → Place
+abbrev pub with_end : Place → Place
 with_end p = record p { has_ended = true }
 
-abbrev is_same_step : Step → Step → Bool
+abbrev pub is_same_step : Step → Step → Bool
 is_same_step (ToPart a) (ToPart b) = a == b
 is_same_step ToContent ToContent = true
 is_same_step _ _ = false
 
 -- the one begins with the other
-abbrev begin_alike : List Step → List Step → Bool
+abbrev pub begin_alike : List Step → List Step → Bool
 begin_alike [] steps = true
 begin_alike steps [] = true
 begin_alike (a ∷ as_) (b ∷ bs) = is_same_step a b && begin_alike as_ bs
 
-abbrev overlap : Place → Place → Bool
+abbrev pub overlap : Place → Place → Bool
 overlap a b = a.key == b.key && begin_alike a.steps b.steps
 
 -- a temporary overlaps nothing
@@ -52,11 +52,11 @@ overlap_if_any _ _ = false
 abbrev pub Aliases : Type 0
 Aliases = List (ℕ × Option Place)
 
-abbrev or_variable : ℕ → Option (ℕ × Option Place) → Option Place
+abbrev pub or_variable : ℕ → Option (ℕ × Option Place) → Option Place
 or_variable key None = Some (variable_place key)
 or_variable key (Some alias) = alias.1
 
-abbrev place_of_key : Aliases → ℕ → Option Place
+abbrev pub place_of_key : Aliases → ℕ → Option Place
 place_of_key aliases key = or_variable key (find (λ (a : ℕ × Option Place). a.0 == key) aliases)
 
 module _ (aliases : Aliases) where
@@ -64,7 +64,7 @@ module _ (aliases : Aliases) where
     pub place_of : Node → Option Place
     place_of (node id at ty by form) = place_of_form form
 
-    place_of_form : Form → Option Place
+    pub place_of_form : Form → Option Place
     place_of_form (Variable key) = place_of_key aliases key
     place_of_form (Captured closure part name) = option_map (with_step (ToPart part)) (place_of_key aliases closure)
     place_of_form (Field base part) = option_map (with_step (ToPart part)) (place_of base)
@@ -74,10 +74,10 @@ module _ (aliases : Aliases) where
 
 -- the key of the variable at a place's root
 abbrev mutual
-  root_of : Node → Option ℕ
+  pub root_of : Node → Option ℕ
   root_of (node id at ty by form) = root_of_form form
 
-  root_of_form : Form → Option ℕ
+  pub root_of_form : Form → Option ℕ
   root_of_form (Variable key) = Some key
   root_of_form (Captured closure part name) = Some closure
   root_of_form (Field base part) = root_of base
@@ -118,28 +118,28 @@ pub record Told : Type 0 where
   pub accesses : List Accessed
   pub conflicts : List Pos
 
-abbrev quiet : Told
+abbrev pub quiet : Told
 quiet = record { accesses = []; conflicts = [] }
 
 infixr 5 ◌⊕◌
-abbrev ◌⊕◌ : Told → Told → Told
+abbrev pub ◌⊕◌ : Told → Told → Told
 a ⊕ b = record { accesses = a.accesses ++ b.accesses; conflicts = a.conflicts ++ b.conflicts }
 
-abbrev one : Access → Option Place → Option ℕ → Pos → Told
+abbrev pub one : Access → Option Place → Option ℕ → Pos → Told
 one access place root at =
     record { accesses = record { access = access; place = place; root = root; at = at } ∷ []; conflicts = [] }
 
-abbrev conflicting : List Pos → Told
+abbrev pub conflicting : List Pos → Told
 conflicting at = record { accesses = []; conflicts = at }
 
-abbrev access_by : Option Use → Option Access
+abbrev pub access_by : Option Use → Option Access
 access_by (Some Use.Move) = Some Moves
 access_by (Some Use.Copy) = Some Reads
 access_by (Some Use.Borrow) = Some Borrows
 access_by (Some Use.BorrowMut) = Some BorrowsUniquely
 access_by _ = None
 
-abbrev own_access : Option Access → Option Place → Option ℕ → Pos → Told
+abbrev pub own_access : Option Access → Option Place → Option ℕ → Pos → Told
 own_access None place root at = quiet
 own_access (Some access) place root at = one access place root at
 
@@ -156,58 +156,58 @@ pub record Argument : Type 0 where
   pub at : Pos
   pub told : Told
 
-abbrev refers_by : Aliases → Form → Option Referring
+abbrev pub refers_by : Aliases → Form → Option Referring
 refers_by aliases (Borrow unique base) = Some record { place = place_of aliases base; unique = unique }
 refers_by aliases _ = None
 
 -- two references of one list overlap and one of them is `&mut`: at the later one
-abbrev overlap_together : Referring → Option Referring → Bool
+abbrev pub overlap_together : Referring → Option Referring → Bool
 overlap_together r None = false
 overlap_together r (Some s) = (r.unique || s.unique) && overlap_if_any r.place s.place
 
 -- an access that a reference before it does not allow: a change; behind an explicit `&mut` any access
-abbrev is_against : Bool → Option Place → Accessed → Bool
+abbrev pub is_against : Bool → Option Place → Accessed → Bool
 is_against allows_none place a = (allows_none || changes a.access) && overlap_if_any place a.place
 
-abbrev against : Bool → Option Place → Accessed → Option Pos
+abbrev pub against : Bool → Option Place → Accessed → Option Pos
 against allows_none place a = if is_against allows_none place a then Some a.at else None
 
-abbrev at_if : Bool → Pos → List Pos
+abbrev pub at_if : Bool → Pos → List Pos
 at_if b at = if b then at ∷ [] else []
 
-abbrev against_one : Bool → Referring → Argument → List Pos
+abbrev pub against_one : Bool → Referring → Argument → List Pos
 against_one is_receiver r later =
     at_if (overlap_together r later.refers) later.at ++
     filter_map (against (r.unique && not is_receiver) r.place) later.told.accesses
 
-abbrev against_all : Bool → Option Referring → List Argument → List Pos
+abbrev pub against_all : Bool → Option Referring → List Argument → List Pos
 against_all is_receiver None later = []
 against_all is_receiver (Some r) [] = []
 against_all is_receiver (Some r) (a ∷ as_) = against_one is_receiver r a ++ against_all is_receiver (Some r) as_
 
-abbrev conflicts_among : List Argument → List Pos
+abbrev pub conflicts_among : List Argument → List Pos
 conflicts_among [] = []
 conflicts_among (a ∷ as_) = against_all a.is_receiver a.refers as_ ++ conflicts_among as_
 
-abbrev all_told : List Argument → Told
+abbrev pub all_told : List Argument → Told
 all_told [] = quiet
 all_told (a ∷ as_) = a.told ⊕ all_told as_
 
-abbrev passed_together : List Argument → Told
+abbrev pub passed_together : List Argument → Told
 passed_together args = all_told args ⊕ conflicting (conflicts_among args)
 
 -- ---- patterns
 
-abbrev access_of_binding : Option Use → Access
+abbrev pub access_of_binding : Option Use → Access
 access_of_binding (Some Use.Move) = Moves
 access_of_binding _ = Reads
 
 -- the parts that the bindings of a pattern take, each with the binding's key
 abbrev mutual
-  bound : Option Place → Node → List (ℕ × Accessed)
+  pub bound : Option Place → Node → List (ℕ × Accessed)
   bound place (node id at ty by form) = bound_by place id at by form
 
-  bound_by : Option Place → ℕ → Pos → Option Use → Form → List (ℕ × Accessed)
+  pub bound_by : Option Place → ℕ → Pos → Option Use → Form → List (ℕ × Accessed)
   bound_by place id at by (Binding name) =
       (id, record { access = access_of_binding by; place = place; root = None; at = at }) ∷ []
   bound_by place id at by (StructPattern fields) = bound_fields place fields
@@ -216,57 +216,57 @@ abbrev mutual
   bound_by place id at by (ArrayPattern elements) = bound_parts place 0 elements
   bound_by place id at by _ = []
 
-  bound_fields : Option Place → Fields → List (ℕ × Accessed)
+  pub bound_fields : Option Place → Fields → List (ℕ × Accessed)
   bound_fields place no_field = []
   bound_fields place (a_field number value rest) =
       bound (option_map (with_step (ToPart number)) place) value ++ bound_fields place rest
 
-  bound_parts : Option Place → ℕ → Nodes → List (ℕ × Accessed)
+  pub bound_parts : Option Place → ℕ → Nodes → List (ℕ × Accessed)
   bound_parts place k no_node = []
   bound_parts place k (a_node first rest) =
       bound (option_map (with_step (ToPart k)) place) first ++ bound_parts place (suc k) rest
 
-abbrev accesses_of : List (ℕ × Accessed) → Told
+abbrev pub accesses_of : List (ℕ × Accessed) → Told
 accesses_of bounds = record { accesses = map (λ (b : ℕ × Accessed). b.1) bounds; conflicts = [] }
 
-abbrev alias_of : ℕ × Accessed → ℕ × Option Place
+abbrev pub alias_of : ℕ × Accessed → ℕ × Option Place
 alias_of b = (b.0, b.1.place)
 
-abbrev aliases_with : List (ℕ × Accessed) → Aliases → Aliases
+abbrev pub aliases_with : List (ℕ × Accessed) → Aliases → Aliases
 aliases_with bounds aliases = map alias_of bounds ++ aliases
 
 -- ---- guards
 
-abbrev is_key : ℕ → Option ℕ → Bool
+abbrev pub is_key : ℕ → Option ℕ → Bool
 is_key key None = false
 is_key key (Some root) = key == root
 
-abbrev is_bound : Option ℕ → List (ℕ × Accessed) → Bool
+abbrev pub is_bound : Option ℕ → List (ℕ × Accessed) → Bool
 is_bound root bounds = list_any (λ (b : ℕ × Accessed). is_key b.0 root) bounds
 
 -- A guard does not change a place that overlaps its scrutinee, nor store into or borrow by `&mut` a binding of its arm.
-abbrev against_guard : Option Place → List (ℕ × Accessed) → Accessed → Option Pos
+abbrev pub against_guard : Option Place → List (ℕ × Accessed) → Accessed → Option Pos
 against_guard scrutinee bounds a =
     if (changes a.access && overlap_if_any scrutinee a.place) || (replaces a.access && is_bound a.root bounds) then
     Some a.at
     else None
 
-abbrev of_guard : Option Place → List (ℕ × Accessed) → Told → Told
+abbrev pub of_guard : Option Place → List (ℕ × Accessed) → Told → Told
 of_guard scrutinee bounds told = told ⊕ conflicting (filter_map (against_guard scrutinee bounds) told.accesses)
 
-abbrev is_one_name : Node → Bool
+abbrev pub is_one_name : Node → Bool
 is_one_name (node id at ty by (Binding name)) = true
 is_one_name _ = false
 
 -- a pattern with parts takes them out of the initialiser's place
-abbrev of_let : Aliases → Node → Node → Told
+abbrev pub of_let : Aliases → Node → Node → Told
 of_let aliases pattern value =
     if is_one_name pattern then quiet else accesses_of (bound (place_of aliases value) pattern)
 
-abbrev of_scrutinee : Aliases → Node → Node → Told
+abbrev pub of_scrutinee : Aliases → Node → Node → Told
 of_scrutinee aliases pattern scrutinee = accesses_of (bound (place_of aliases scrutinee) pattern)
 
-abbrev receiver_of : Aliases → Node → Told → Argument
+abbrev pub receiver_of : Aliases → Node → Told → Argument
 receiver_of aliases (node id at ty by form) told =
     record { refers = refers_by aliases form; is_receiver = true; at = at; told = told }
 
@@ -278,10 +278,10 @@ abbrev mutual
       form) at
 
   -- what is inside a place, without its own use
-  inside : Aliases → Node → Told
+  pub inside : Aliases → Node → Told
   inside aliases (node id at ty by form) = told_form aliases at form
 
-  told_form : Aliases → Pos → Form → Told
+  pub told_form : Aliases → Pos → Form → Told
   told_form aliases at (Field base part) = inside aliases base
   told_form aliases at (Index base index count) =
       inside aliases base ⊕ told aliases index ⊕ one Borrows (option_map with_end (place_of aliases base)) (root_of
@@ -331,23 +331,23 @@ abbrev mutual
   told_form aliases at (Return value) = told_maybe aliases value
   told_form aliases at _ = quiet
 
-  told_all : Aliases → Nodes → Told
+  pub told_all : Aliases → Nodes → Told
   told_all aliases no_node = quiet
   told_all aliases (a_node first rest) = told aliases first ⊕ told_all aliases rest
 
-  told_fields : Aliases → Fields → Told
+  pub told_fields : Aliases → Fields → Told
   told_fields aliases no_field = quiet
   told_fields aliases (a_field number value rest) = told aliases value ⊕ told_fields aliases rest
 
-  told_maybe : Aliases → MaybeNode → Told
+  pub told_maybe : Aliases → MaybeNode → Told
   told_maybe aliases absent = quiet
   told_maybe aliases (present value) = told aliases value
 
-  arguments : Aliases → Nodes → List Argument
+  pub arguments : Aliases → Nodes → List Argument
   arguments aliases no_node = []
   arguments aliases (a_node first rest) = argument aliases first ∷ arguments aliases rest
 
-  argument : Aliases → Node → Argument
+  pub argument : Aliases → Node → Argument
   argument aliases (node id at ty by form) = record {
     refers = refers_by aliases form;
     is_receiver = false;
@@ -357,17 +357,17 @@ abbrev mutual
         (root_of_form form) at;
   }
 
-  told_arms : Aliases → Option Place → Nodes → Told
+  pub told_arms : Aliases → Option Place → Nodes → Told
   told_arms aliases scrutinee no_node = quiet
   told_arms aliases scrutinee (a_node first rest) = told_arm aliases scrutinee first ⊕ told_arms aliases scrutinee rest
 
-  told_arm : Aliases → Option Place → Node → Told
+  pub told_arm : Aliases → Option Place → Node → Told
   told_arm aliases scrutinee (node id at ty by (Arm pattern guard body)) =
       told_guard aliases scrutinee (bound scrutinee pattern) guard ⊕ accesses_of (bound scrutinee pattern) ⊕ told
       aliases body
   told_arm aliases scrutinee _ = quiet
 
-  told_guard : Aliases → Option Place → List (ℕ × Accessed) → MaybeNode → Told
+  pub told_guard : Aliases → Option Place → List (ℕ × Accessed) → MaybeNode → Told
   told_guard aliases scrutinee bounds absent = quiet
   told_guard aliases scrutinee bounds (present guard) =
       of_guard scrutinee bounds (told (aliases_with bounds aliases) guard)

@@ -15,47 +15,47 @@ use Rattle.typing_rules.specs.Check.{Broken}
 use Rattle.typing_rules.specs.Program.{typed_program}
 use Rattle.typing_rules.specs.Replaced.{Param, Passing, stores, passings, is_replaced, replaceable}
 
-abbrev broken : Rule → Pos → Broken
+abbrev pub broken : Rule → Pos → Broken
 broken rule at = record { rule = rule; at = at }
 
 -- where references overlap in a body
-abbrev overlaps : BodyTree → List Broken
+abbrev pub overlaps : BodyTree → List Broken
 overlaps body = map (broken Rule.T14) (told [] body.block).conflicts
 
 -- where a `Drop` body replaces what its `self` names
-abbrev replacing : ItemTable → List Param → Passing → Option Pos
+abbrev pub replacing : ItemTable → List Param → Passing → Option Pos
 replacing items params p = if is_replaced items params p then Some p.at else None
 
-abbrev replacements : ItemTable → List Param → ℕ → BodyTree → List Broken
+abbrev pub replacements : ItemTable → List Param → ℕ → BodyTree → List Broken
 replacements items params self body =
     map (broken Rule.T15) (stores self body ++ filter_map (replacing items params) (passings self body))
 
-abbrev of_self : ItemTable → List Param → BodyTree → List ParamTree → List Broken
+abbrev pub of_self : ItemTable → List Param → BodyTree → List ParamTree → List Broken
 of_self items params body [] = []
 of_self items params body (self ∷ rest) = replacements items params (number_of self.pattern) body
 
-abbrev replaced_self : ItemTable → List Param → BodyTree → List Broken
+abbrev pub replaced_self : ItemTable → List Param → BodyTree → List Broken
 replaced_self items params body = if is_drop_body items body.number then of_self items params body body.params else []
 
 abbrev pub all_broken : ProgramTree → List Broken
 all_broken p = flat_map (λ body. overlaps body ++ replaced_self p.items (replaceable p) body) p.bodies
 
 -- the first in the text, and at one place the lower rule
-abbrev is_before : Pos → Pos → Bool
+abbrev pub is_before : Pos → Pos → Bool
 is_before a b = nat_lt a.line b.line || (a.line == b.line && nat_lt a.col b.col)
 
-abbrev is_overlap : Rule → Bool
+abbrev pub is_overlap : Rule → Bool
 is_overlap Rule.T14 = true
 is_overlap _ = false
 
-abbrev comes_first : Broken → Broken → Bool
+abbrev pub comes_first : Broken → Broken → Bool
 comes_first a b = is_before a.at b.at || (not (is_before b.at a.at) && is_overlap a.rule)
 
-abbrev earlier : Broken → Option Broken → Broken
+abbrev pub earlier : Broken → Option Broken → Broken
 earlier a None = a
 earlier a (Some b) = if comes_first a b then a else b
 
-abbrev first_of : List Broken → Option Broken
+abbrev pub first_of : List Broken → Option Broken
 first_of [] = None
 first_of (b ∷ bs) = Some (earlier b (first_of bs))
 
@@ -64,11 +64,11 @@ broken_borrow p = first_of (all_broken p)
 
 -- ---- a text
 
-abbrev unless_broken : ProgramTree → Option Broken → Result ProgramTree Broken
+abbrev pub unless_broken : ProgramTree → Option Broken → Result ProgramTree Broken
 unless_broken p None = Ok p
 unless_broken p (Some b) = Err b
 
-abbrev unless_borrows : Result ProgramTree Broken → Result ProgramTree Broken
+abbrev pub unless_borrows : Result ProgramTree Broken → Result ProgramTree Broken
 unless_borrows (Err e) = Err e
 unless_borrows (Ok p) = unless_broken p (broken_borrow p)
 

@@ -19,21 +19,21 @@ pub data Callee : Type 0 where
   OfTrait : (trait_no method : ℕ) → Callee
 
 -- exactly what a variable names
-abbrev content_of : Node → Option ℕ
+abbrev pub content_of : Node → Option ℕ
 content_of (node id at ty by (Deref (node id' at' ty' by' (Variable key)))) = Some key
 content_of _ = None
 
 -- `&mut *p`, which a `&mut` variable that is passed on is too
-abbrev passes_key : Node → Option ℕ
+abbrev pub passes_key : Node → Option ℕ
 passes_key (node id at ty by (Borrow true base)) = content_of base
 passes_key _ = None
 
-abbrev is_key : ℕ → Option ℕ → Bool
+abbrev pub is_key : ℕ → Option ℕ → Bool
 is_key key None = false
 is_key key (Some other) = key == other
 
 -- a store into exactly `*p`, by where it stands
-abbrev store_of : ℕ → Node → Option Pos
+abbrev pub store_of : ℕ → Node → Option Pos
 store_of key (node id at ty by (Assign place value)) = if is_key key (content_of place) then Some at else None
 store_of key _ = None
 
@@ -41,7 +41,7 @@ abbrev pub stores : ℕ → BodyTree → List Pos
 stores key body = filter_map (store_of key) (nodes_of body.block)
 
 -- the numbers of the parameters for which a variable is passed
-abbrev numbers_for : ℕ → ℕ → Nodes → List ℕ
+abbrev pub numbers_for : ℕ → ℕ → Nodes → List ℕ
 numbers_for key k no_node = []
 numbers_for key k (a_node first rest) =
     if is_key key (passes_key first) then k ∷ numbers_for key (suc k) rest else numbers_for key (suc k) rest
@@ -51,10 +51,10 @@ pub record Passing : Type 0 where
   pub callee : Callee
   pub number : ℕ
 
-abbrev passing : Pos → Callee → ℕ → Passing
+abbrev pub passing : Pos → Callee → ℕ → Passing
 passing at callee number = record { at = at; callee = callee; number = number }
 
-abbrev passings_of : ℕ → Node → List Passing
+abbrev pub passings_of : ℕ → Node → List Passing
 passings_of key (node id at ty by (Call body args)) = map (passing at (OfBody body)) (numbers_for key 0 args)
 passings_of key (node id at ty by (MethodCall body receiver args)) =
     map (passing at (OfBody body)) (numbers_for key 0 (a_node receiver args))
@@ -73,18 +73,18 @@ pub record Facts : Type 0 where
   pub is_stored : Bool
   pub passed : List Passing
 
-abbrev is_some_pos : List Pos → Bool
+abbrev pub is_some_pos : List Pos → Bool
 is_some_pos [] = false
 is_some_pos (at ∷ rest) = true
 
-abbrev facts_of : BodyTree → ℕ → ParamTree → Facts
+abbrev pub facts_of : BodyTree → ℕ → ParamTree → Facts
 facts_of body k param = record {
   param = record { body = body.number; number = k };
   is_stored = is_some_pos (stores (number_of param.pattern) body);
   passed = passings (number_of param.pattern) body;
 }
 
-abbrev facts_from : BodyTree → ℕ → List ParamTree → List Facts
+abbrev pub facts_from : BodyTree → ℕ → List ParamTree → List Facts
 facts_from body k [] = []
 facts_from body k (param ∷ params) = facts_of body k param ∷ facts_from body (suc k) params
 
@@ -98,7 +98,7 @@ abbrev pub is_among : List Param → ℕ → ℕ → Bool
 is_among params number body = list_any (is_param body number) params
 
 -- the bodies that are called
-abbrev method_in : ℕ → ℕ → ImplDef → Option ℕ
+abbrev pub method_in : ℕ → ℕ → ImplDef → Option ℕ
 method_in trait_no method def = if def.trait_no == trait_no then slice_get def.bodies method else None
 
 abbrev pub bodies_of : ItemTable → Callee → List ℕ

@@ -1,0 +1,4 @@
+pub mod Alike
+pub mod Arms
+pub mod Joined
+pub mod Keys

@@ -1,0 +1,98 @@
+//! Guards: none changes a place that overlaps its scrutinee, nor stores into a binding of its arm or borrows one by
+//! `&mut`.
+ghost use Rattle.std.specs.Prelude.{◌≡◌, ◌==◌, ◌&&◌, ◌||◌, IfOk, OnOk, map};
+ghost use Rattle.std.specs.List.{filter_map, list_any};
+ghost use Rattle.typing_rules.specs.Accesses as rules;
+ghost use Rattle.typing_rules.specs.Accesses.{◌⊕◌};
+ghost use Rattle.place_accesses.specs.View.{accessed_in, aliases_in, bound_in, key_if_any, place_if_any, told_in};
+
+use crate::access::{changes, replaces};
+use crate::bindings::Bound;
+use crate::place::{copied, overlap_if_any};
+use crate::{Accessed, Alias, Place, Told};
+use mir_base::{Key, List, NoMemory, Pos};
+use std::alloc::Global;
+
+fn has_key(key: Key, bounds: &[Bound]) -> bool
+    ensures { result ≡ list_any (λ bound. bound.key.0 == key.0) bounds.now }
+{
+    bounds.iter().any(|bound| bound.key.0 == key.0)
+}
+
+/// Whether a key is that of a binding.
+fn is_bound(root: Option<Key>, bounds: &[Bound]) -> bool
+    ensures { result ≡ rules.is_bound (key_if_any root) (map bound_in bounds.now) }
+{
+    match root {
+        Some(root) => has_key(root, bounds),
+        None => false,
+    }
+}
+
+fn is_against_guard(scrutinee: &Option<Place>, bounds: &[Bound], accessed: &Accessed) -> bool
+    ensures { result ≡ ((rules.changes (accessed_in accessed.now).access && rules.overlap_if_any (place_if_any scrutinee.now) (accessed_in accessed.now).place) || (rules.replaces (accessed_in accessed.now).access && rules.is_bound (accessed_in accessed.now).root (map bound_in bounds.now))) }
+{
+    (changes(accessed.access) && overlap_if_any(scrutinee, &accessed.place))
+        || (replaces(accessed.access) && is_bound(accessed.root, bounds))
+}
+
+/// Where a guard does what it may not.
+fn against_guard(
+    alloc: Global,
+    scrutinee: &Option<Place>,
+    bounds: &[Bound],
+    accesses: &[Accessed],
+) -> Result<Vec<Pos>, NoMemory>
+    ensures { IfOk result (λ conflicts. conflicts.items ≡
+        filter_map (rules.against_guard (place_if_any scrutinee.now) (map bound_in bounds.now)) (map accessed_in accesses.now)) }
+{
+    let mut conflicts = Vec::new(alloc);
+    for accessed in accesses {
+        if is_against_guard(scrutinee, bounds, accessed) {
+            conflicts.push(accessed.at)?;
+        }
+    }
+    Ok(conflicts)
+}
+
+/// What is told of a guard, and where it does what it may not.
+pub fn of_guard(
+    alloc: Global,
+    scrutinee: &Option<Place>,
+    bounds: &[Bound],
+    told: Told,
+    out: &mut Told,
+) -> Result<(), NoMemory>
+    ensures { OnOk result (told_in out.new ≡ told_in out.old ⊕
+        rules.of_guard (place_if_any scrutinee.now) (map bound_in bounds.now) (told_in told)) }
+{
+    let conflicts = against_guard(alloc, scrutinee, bounds, told.accesses.as_slice())?;
+    out.append(told)?;
+    out.append_conflicts(conflicts)
+}
+
+/// The aliases inside a guard: the bindings of its arm, before those around it.
+pub fn aliases_with(
+    alloc: Global,
+    bounds: &[Bound],
+    aliases: &[Alias],
+) -> Result<List<Alias>, NoMemory>
+    ensures { IfOk result (λ all. aliases_in all ≡ rules.aliases_with (map bound_in bounds.now) (aliases_in aliases.now)) }
+{
+    let mut all = List::new(alloc);
+    for bound in bounds {
+        let place = copied(alloc, &bound.taken.place)?;
+        all.push(Alias {
+            key: bound.key,
+            place,
+        })?;
+    }
+    for alias in aliases {
+        let place = copied(alloc, &alias.place)?;
+        all.push(Alias {
+            key: alias.key,
+            place,
+        })?;
+    }
+    Ok(all)
+}
