@@ -1,28 +1,26 @@
 -- Each line of a trait that may stand is found.
-use Rattle.std.proofs.Common.{◌≡◌, ℕ, zero, suc, ◌<◌, ◌≤◌, Bool, true, false, nat_eq, nat_lt, if◌then◌else◌, List, [], ◌∷◌, ◌++◌, map, length, codes, Option, Some, None, slice_get, refl, ap, sym, subst, ◌∙◌, arith, append_assoc, length-append, eqb-true, eq-eqb}
-use Rattle.std.specs.Prelude.{⊤}
+use Rattle.std.proofs.Common.{◌≡◌, ℕ, zero, suc, ◌≤◌, Bool, true, false, nat_eq, if◌then◌else◌, List, [], ◌∷◌, ◌++◌, map, length, codes, Option, Some, None, refl, ap, sym, subst, ◌∙◌, arith, append_assoc, length-append, eqb-true}
 use Rattle.std.specs.Str.{is_utf8}
-use Rattle.std.proofs.lemmas.Bool.{and_parts, and_from, false≢true}
+use Rattle.std.proofs.lemmas.Bool.{and_parts, false≢true}
 use Rattle.mir_ty.specs.declared.def.TraitDef.{TraitDef}
 use Rattle.mir_ty.specs.ItemTable.{ItemTable}
 use Rattle.cfg_graph.specs.WellFormed.NameFaults.{same_name, stands_in_names, is_name}
 use Rattle.mir_text.specs.Compared.{SigSeen}
-use Rattle.mir_text.specs.Lines.{Tree, tree_text, trees_in_row, method_words, line_text, TraitLine}
-use Rattle.mir_text.specs.Lists.{behind_commas, joined, in_braces, line}
+use Rattle.mir_text.specs.Lines.{Tree, tree_text, trees_in_row, method_words}
+use Rattle.mir_text.specs.Lists.{behind_commas, in_braces}
 use Rattle.mir_text.specs.Reading.Lines.{ended}
-use Rattle.mir_text.specs.Reading.Rows.{many, many_within, after, comma}
-use Rattle.mir_text.specs.Reading.Words.{Found, bind, chosen, as_, strip, span}
+use Rattle.mir_text.specs.Reading.Rows.{many_within, after, comma}
+use Rattle.mir_text.specs.Reading.Words.{Found, bind, chosen, as_, strip}
 use Rattle.mir_text.specs.Types.{trait_name, name_of_trait}
 use Rattle.mir_text.proofs.Reading.Basics.{stops, span_run, behind5}
 use Rattle.mir_text.proofs.Reading.Listed.{same_as_itself}
-use Rattle.listing_types.specs.TypeReading.{more_types, type_read, type_within}
-use Rattle.listing_types.specs.TypesFound.{Stands, EachStands, closes}
+use Rattle.listing_types.specs.TypeReading.{more_types, type_within}
+use Rattle.listing_types.specs.TypesFound.{EachStands, closes}
 use Rattle.listing_types.proofs.Complete.{type_reads, found_at, name_all, parts_read, as_trees, all_stand, texts_of}
 use Rattle.listing_types.proofs.Depth.{parts_deep, some_name}
-use Rattle.listing_lines.specs.LineReading.{name_read}
 use Rattle.listing_lines.proofs.Complete.{name_reads}
 use Rattle.listing_items.specs.ItemReading.{blank_behind, blank_name}
-use Rattle.listing_traits.specs.TraitReading.{self_text, self_mark, own_from, own_read, self_read, closed_params, params_from, params_read, result_from, method_from, method_read, with_more, some_methods, closed_braces, methods_behind, methods_read, trait_from, own_head_from, own_head, trait_read}
+use Rattle.listing_traits.specs.TraitReading.{self_text, own_from, own_read, self_read, closed_params, params_from, params_read, result_from, method_from, method_read, with_more, closed_braces, methods_behind, methods_read, trait_from, own_head_from, trait_read}
 use Rattle.listing_traits.specs.TraitsFound.{ParamsStand, MethodStands, MethodsStand, found_method, TraitsAreRead}
 
 blank_name_reads : (name r : List ℕ) → is_name name ≡ true → is_utf8 name ≡ true → blank_name (name ++ (codes " " ++ r)) ≡ Some (name, r)

@@ -1,6 +1,6 @@
 -- Methods that are read into a table.
 use Rattle.std.proofs.Common.{◌≡◌, ℕ, zero, suc, ◌<◌, List, [], ◌∷◌, ◌++◌, All, map, length, codes, Option, Some, None, slice_get, refl, ap, sym, subst, ◌∙◌, arith, append_assoc, append-nil}
-use Rattle.std.specs.Prelude.{⊤, Bool, true, false, Result, Ok, Err, IfOk}
+use Rattle.std.specs.Prelude.{Bool, true, false, Result, Ok, Err}
 use Rattle.std.specs.Result.{IsErr}
 use Rattle.std.specs.Borrow.{Bor}
 use Rattle.std.proofs.lemmas.Bool.{false≢true}
@@ -19,7 +19,6 @@ use Rattle.mir_text.specs.Compared.{SigSeen, sig_seen}
 use Rattle.mir_text.specs.Reading.Rows.{many, many_within, comma}
 use Rattle.mir_text.specs.Reading.Words.{Found}
 use Rattle.mir_text.proofs.Reading.Basics.{Every}
-use Rattle.listing_parts.specs.declared.error.ReadError.{ReadError}
 use Rattle.listing_types.specs.Table.{AreRead, Grow, WithTypes, under, text_under}
 use Rattle.listing_types.proofs.FoundRows.{map-append, then_grow, still_types}
 use Rattle.listing_types.proofs.Texts.{every_from_all, text_grown, texts_grown, no_less, still_there}
@@ -56,7 +55,7 @@ method_found heads old new n sig rest name params answer found read within own g
           ∙ ap (λ (s : Sig). let one : Found SigSeen = Some (sig_seen (under heads new) s, rest.now) in one) (sym made);
       within =
           subst (IsMethod new.types n) (sym made)
-              (record { head = record { params = still_types heads old new params grow within; answer = there }; receiver = begin_stays old new grow.others n params own });
+          (record { head = record { params = still_types heads old new params grow within; answer = there }; receiver = begin_stays old new grow.others n params own });
       missing = λ e. absurd (cc e);
       grow = grow;
     }
@@ -90,7 +89,7 @@ params_found heads old new n first others params words rest found read within ow
           ∙ ap (λ (ids : List TyId). let one : Found (List (List ℕ)) = Some (map (text_under heads new) ids, rest.now) in one) (sym made);
       within =
           subst (AreTypes new.types) (sym made)
-              (All-cons (λ (id : TyId). id.0 < length new.types) first others (let less = no_less old new grow.others in omega arith) all);
+          (All-cons (λ (id : TyId). id.0 < length new.types) first others (let less = no_less old new grow.others in omega arith) all);
       own = subst (BeginWithSelf new n) (sym made) (self_stays old new grow.others n first own);
       missing = λ e. absurd (cc e);
       grow = grow;

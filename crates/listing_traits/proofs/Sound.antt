@@ -1,15 +1,15 @@
 -- What is found of the line of a trait is the line in front.
-use Rattle.std.proofs.Common.{◌≡◌, ℕ, zero, suc, Bool, true, false, if◌then◌else◌, List, [], ◌∷◌, ◌++◌, map, length, codes, Option, Some, None, slice_get, refl, ap, sym, ◌∙◌, append_assoc, inl, inr}
+use Rattle.std.proofs.Common.{◌≡◌, ℕ, zero, suc, Bool, true, false, if◌then◌else◌, List, [], ◌∷◌, ◌++◌, map, length, codes, Some, None, slice_get, refl, ap, sym, ◌∙◌, append_assoc, inl, inr}
 use Rattle.std.specs.Prelude.{◌⊎◌}
 use Rattle.std.proofs.lemmas.Option.{same_Some, none-some}
 use Rattle.mir_ty.specs.declared.def.TraitDef.{TraitDef}
 use Rattle.mir_ty.specs.ItemTable.{ItemTable}
 use Rattle.cfg_graph.specs.WellFormed.NameFaults.{same_name, stands_in_names}
 use Rattle.mir_text.specs.Compared.{SigSeen}
-use Rattle.mir_text.specs.Lists.{behind_commas, joined, in_braces, in_parentheses, line}
+use Rattle.mir_text.specs.Lists.{behind_commas, in_braces, in_parentheses}
 use Rattle.mir_text.specs.Reading.Lines.{ended}
 use Rattle.mir_text.specs.Reading.Rows.{many, many_within, comma}
-use Rattle.mir_text.specs.Reading.Words.{Found, bind, chosen, or_else, as_, said, strip, span}
+use Rattle.mir_text.specs.Reading.Words.{Found, bind, as_, said, strip, span}
 use Rattle.mir_text.specs.Types.{trait_name, name_of_trait}
 use Rattle.mir_text.proofs.Reading.Basics.{behind5}
 use Rattle.listing_parts.proofs.LineByLine.{strip_sound}
@@ -19,7 +19,7 @@ use Rattle.listing_types.proofs.Splits.{split, either, one_of_two, same_found, s
 use Rattle.listing_lines.specs.LineReading.{name_read}
 use Rattle.listing_lines.proofs.Sound.{name_sound, ended_sound, as_sound}
 use Rattle.listing_items.specs.ItemReading.{blank_behind, blank_name}
-use Rattle.listing_traits.specs.TraitReading.{self_text, self_mark, own_from, own_read, self_read, closed_params, params_from, params_read, result_from, method_from, method_read, with_more, some_methods, closed_braces, methods_behind, methods_read, trait_from, own_head_from, own_head, trait_read}
+use Rattle.listing_traits.specs.TraitReading.{self_text, self_mark, own_read, self_read, params_from, params_read, result_from, method_from, method_read, with_more, some_methods, closed_braces, methods_behind, methods_read, trait_from, own_head_from, own_head}
 use Rattle.listing_traits.specs.TraitsFound.{written_method, TraitsAreSound}
 
 blank_sound : (t name r : List ℕ) → blank_name t ≡ Some (name, r) → t ≡ name ++ (codes " " ++ r)

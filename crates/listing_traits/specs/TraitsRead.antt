@@ -1,5 +1,5 @@
 -- What the readers of methods and traits answer, as definitions see it.
-use Rattle.std.specs.Prelude.{◌≡◌, ℕ, ◌<◌, Bool, List, [], ◌∷◌, ◌++◌, Option, Some, None, map, length, Result, Err, IfOk, All, option_and_then, slice_get}
+use Rattle.std.specs.Prelude.{◌≡◌, ℕ, ◌<◌, Bool, List, ◌++◌, Some, None, map, length, Result, Err, IfOk, All, option_and_then, slice_get}
 use Rattle.std.specs.Borrow.{Bor}
 use Rattle.mir_base.specs.declared.memory.NoMemory.{NoMemory}
 use Rattle.mir_ty.specs.declared.def.Sig.{Sig}

@@ -16,12 +16,7 @@ use mir_base::{List, Name, NoMemory};
 use mir_ty::{Items, Sig, TyId};
 use std::alloc::Global;
 
-fn make_method(
-    alloc: Global,
-    name: &str,
-    params: List<TyId>,
-    answer: TyId,
-) -> Result<Sig, NoMemory>
+fn make_method(alloc: Global, name: &str, params: List<TyId>, answer: TyId) -> Result<Sig, NoMemory>
     ensures { IfOk result (λ sig. sig ≡ reading.sig_of name.now params answer) }
 {
     let name = Name::from_str(alloc, name)?;

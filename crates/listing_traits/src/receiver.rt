@@ -25,7 +25,11 @@ fn own_name<'a>(own: &str, text: &'a [u8]) -> Option<&'a [u8]>
     ensures { option_copied result ≡ reading.own_read own.now text.now }
 {
     let (word, rest) = name(text);
-    if word == own.as_bytes() { Some(rest) } else { None }
+    if word == own.as_bytes() {
+        Some(rest)
+    } else {
+        None
+    }
 }
 
 /// Whether the reference of `self` is `&mut`, and what stands behind its type.
@@ -39,16 +43,15 @@ pub fn receiver<'a>(own: &str, text: &'a [u8]) -> Option<(bool, &'a [u8])>
 fn reference(unique: bool, to: TyId) -> Ty
     ensures { result ≡ reading.reference_to unique to }
 {
-    if unique { Ty::Unique(to) } else { Ty::Shared(to) }
+    if unique {
+        Ty::Unique(to)
+    } else {
+        Ty::Shared(to)
+    }
 }
 
 /// The type of `self` in the trait with number `n`.
-pub fn self_type(
-    heads: &Items,
-    items: &mut Items,
-    n: u32,
-    unique: bool,
-) -> Result<TyId, NoMemory>
+pub fn self_type(heads: &Items, items: &mut Items, n: u32, unique: bool) -> Result<TyId, NoMemory>
     requires read { AreRead heads.now items.old.types }
     requires head { n < length heads.now.traits }
     ensures { GivesSelf heads.now items.old items.new n unique result }

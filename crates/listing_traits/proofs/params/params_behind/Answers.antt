@@ -1,5 +1,4 @@
 use Rattle.std.proofs.Common.{rules, ◌≡◌, ◌∷◌, Some, map}
-use Rattle.mir_ty.specs.AreItems.{AreTypes}
 use Rattle.listing_types.specs.Table.{text_under}
 use Rattle.listing_types.specs.TypeReading.{more_types}
 use Rattle.listing_traits.specs.TraitReading.{closed_params}
