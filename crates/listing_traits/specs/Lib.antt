@@ -1,0 +1,3 @@
+pub mod TraitReading
+pub mod TraitsFound
+pub mod TraitsRead
