@@ -1,9 +1,8 @@
 -- Chains of drops.
-use Rattle.std.proofs.Common.{◌≡◌, ◌∙◌, ◌++◌, ◌∷◌, ◌==◌, ◌&&◌, ℕ, false, List, [], Option, Some, None, map, reverse, length, take, get_or, suc, ◌<◌, if◌then◌else◌, refl, sym, ap}
+use Rattle.std.proofs.Common.{◌≡◌, ◌∙◌, ◌++◌, ◌∷◌, ◌==◌, ◌&&◌, ℕ, false, List, [], Option, Some, None, map, reverse, length, take, get_or, suc, ◌<◌, if◌then◌else◌, sym, ap}
 use Rattle.std.proofs.Math.Seq.{take-suc}
 use Rattle.scope_code.specs.View.{entry_of}
 use Rattle.std.proofs.lemmas.List.{reverse-append, map-append, length-map}
-use Rattle.cfg_build.specs.Build as build
 use Rattle.cfg_build.specs.Build.{Frame, Building, chain, chain_or, chain_among, kept_chain, ending, place_of, same_entries}
 use Rattle.cfg_graph.specs.declared.terminator.Term.{Term}
 use Rattle.cfg_graph.specs.declared.terminator.Unwind.{Unwind}

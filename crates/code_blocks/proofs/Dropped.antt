@@ -1,7 +1,6 @@
 -- One entry more is dropped.
 use Rattle.std.proofs.Common.{◌≡◌, ◌∙◌, ◌++◌, ◌∷◌, ◌+◌, ◌<◌, ℕ, Bool, true, false, List, [], take, get_or, length, refl, sym, ap, append_assoc, add-one, if◌then◌else◌}
 use Rattle.std.proofs.Math.Seq.{take-suc}
-use Rattle.cfg_build.specs.Build as build
 use Rattle.cfg_build.specs.Build.{Frame, Rest, Building, drop_all, panic_drops}
 use Rattle.mir_ty.specs.Facts.{needs_drop}
 use Rattle.src_meaning.specs.Scopes as scopes

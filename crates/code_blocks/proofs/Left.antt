@@ -1,13 +1,11 @@
 -- One scope more is left.
-use Rattle.std.proofs.Common.{◌≡◌, ◌∙◌, ◌++◌, ◌∷◌, ◌≤◌, ℕ, Bool, true, false, not, List, [], length, map, sym, ap, subst}
+use Rattle.std.proofs.Common.{◌≡◌, ◌∙◌, ◌++◌, ◌∷◌, ◌≤◌, ℕ, Bool, true, not, List, [], length, map, sym, ap, subst}
 use Rattle.std.proofs.lemmas.Bool.{le-ltb}
 use Rattle.std.proofs.lemmas.List.{length-reverse, length-map}
 use Rattle.std.specs.Prelude.{nat_lt}
-use Rattle.cfg_build.specs.Build as build
 use Rattle.cfg_build.specs.Build.{Frame, Rest, Building, leaves_one, leaves_to, drop_all, ending}
 use Rattle.cfg_code.specs.Spots.{Way}
 use Rattle.cfg_graph.specs.declared.terminator.Term.{Term}
-use Rattle.src_meaning.specs.Scopes as scopes
 use Rattle.src_meaning.specs.Scopes.{Scopes, needing_drop}
 use Rattle.code_scopes.specs.Scoped.{entries_of, scope_of, scopes_of}
 use Rattle.code_scopes.proofs.Lists.{scopes_last}

@@ -1,11 +1,8 @@
 -- How large tests are, and what they are.
 use Rattle.std.proofs.Common.{◌≡◌, ◌∙◌, ◌+◌, ◌<◌, ◌∷◌, ℕ, suc, List, [], map, refl, sym, ap, subst, arith, rules}
-use Rattle.cfg_graph.specs.declared.place.Place.{Place}
-use Rattle.cfg_graph.specs.Places.{named}
-use Rattle.mir_base.specs.declared.place_in_text.NodeId.{NodeId}
 use Rattle.src_meaning.specs.Shape.{PatternTest, IsVariant, IsNumber, IsTruth, AnyOf, PatternTests, no_test, a_test, Alternatives, no_alternative, an_alternative}
 use Rattle.pattern_lower.specs.Seen.{test_of, tests_in, tests_from, alternatives_from}
-use Rattle.pattern_lower.specs.declared.found.Test.{Test, Any, Equal, Truth, the_lemmas}
+use Rattle.pattern_lower.specs.declared.found.Test.{Test, Any, the_lemmas}
 
 abbrev mutual
   pub test_size : PatternTest → ℕ

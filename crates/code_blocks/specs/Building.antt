@@ -1,5 +1,5 @@
 -- What contracts see of blocks that are made.
-use Rattle.std.specs.Prelude.{ℕ, Bool, true, false, List, Option, map, reverse, option_map}
+use Rattle.std.specs.Prelude.{ℕ, Bool, true, false, List, map, reverse, option_map}
 use Rattle.cfg_build.specs.Build as build
 use Rattle.cfg_code.specs.Spots as spots
 use Rattle.cfg_code.specs.Spots.{loop_ways}

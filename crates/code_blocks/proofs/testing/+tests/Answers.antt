@@ -4,10 +4,10 @@ use Rattle.cfg_build.specs.Build as build
 use Rattle.cfg_graph.specs.Places.{named}
 use Rattle.code_lines.specs.Framed.{frame_of}
 use Rattle.pattern_lower.specs.Seen.{test_of, tests_in, alternatives_from}
-use Rattle.pattern_lower.specs.declared.found.Test.{Any, the_lemmas}
+use Rattle.pattern_lower.specs.declared.found.Test.{the_lemmas}
 use Rattle.src_meaning.specs.Shape.{PatternTest, IsNumber, IsTruth, AnyOf}
 use Rattle.store_model.specs.Effects as effects
-use Rattle.code_blocks.specs.Building.{built_of, building_of}
+use Rattle.code_blocks.specs.Building.{building_of}
 use Rattle.code_blocks.proofs.Tested.{any_is, any_fits, any_size, test_size}
 use Rattle.code_blocks.proofs.testing.+tests.Goals as goal
 

@@ -1,4 +1,3 @@
-use Rattle.std.proofs.Common.{rules, ◌≡◌}
 use Rattle.code_lines.specs.Framed.{frame_of}
 use Rattle.code_scopes.specs.Scoped.{scopes_of}
 use Rattle.code_blocks.specs.Building.{built_of, rest_of, building_of}
