@@ -1,0 +1,5 @@
+mod Chained
+mod Doing
+mod Dropped
+mod Left
+mod Tested

@@ -1,0 +1,185 @@
+//! Effects, panics, and assignments whose old value is dropped.
+ghost use Rattle.std.specs.Prelude.{◌≡◌, ◌∷◌, [], IfOk, OnOk};
+ghost use Rattle.cfg_build.specs.Build as build;
+ghost use Rattle.cfg_graph.specs.Places.{named};
+ghost use Rattle.code_lines.specs.Framed.{frame_of};
+ghost use Rattle.code_scopes.specs.Scoped.{scopes_of};
+ghost use Rattle.scope_code.specs.View.{effect_of};
+ghost use Rattle.src_meaning.specs.Forms.{site_of_key};
+ghost use Rattle.code_blocks.specs.Building.{built_of, rest_of, building_of, ways_of};
+
+use crate::blocks::Blocks;
+use crate::ways::Ways;
+use cfg_graph::{Kind, Operand, Place, Stmt, Term, Unwind};
+use code_lines::{Frame, is_last, place, statement, terminator, whole_place};
+use code_scopes::{Scope, copied, panic_drops, take};
+use mir_base::{Key, NoMemory, NodeId, Why};
+use scope_code::Action;
+use std::alloc::Global;
+
+/// An effect is done, as a statement, or as a terminator with its two ways on.
+fn done(
+    alloc: Global,
+    frame: Frame,
+    node: NodeId,
+    action: &Action,
+    scopes: &[Scope],
+    blocks: &mut Blocks,
+) -> Result<(), NoMemory>
+    ensures { OnOk result (built_of blocks.new ≡ build.done (frame_of frame.entry) node.0
+        (build.done_by (frame_of frame.entry) (effect_of node.0 action.now)) (scopes_of scopes.now)
+        (rest_of blocks.old.rest) (building_of blocks.old)) }
+{
+    if let Action::Stmt(stmt) = action {
+        let line = statement(alloc, frame, stmt)?;
+        return blocks.add_line(line, node);
+    }
+    let then = blocks.close(alloc, Kind::Plain)?;
+    let drops = panic_drops(alloc, frame.items, scopes)?;
+    let unwind = blocks.unwind_to(alloc, frame, drops.as_slice())?;
+    match terminator(alloc, frame, action, then, unwind)? {
+        Some(term) => {
+            blocks.end(alloc, term, node);
+            Ok(())
+        }
+        None => Ok(()),
+    }
+}
+
+/// An effect. No run comes behind one that stores into a place of type `!`: the block goes on to the one that returns.
+///
+/// # Errors
+///
+/// [`NoMemory`] where memory is wanted.
+pub fn act(
+    alloc: Global,
+    frame: Frame,
+    node: NodeId,
+    action: &Action,
+    ways: Ways,
+    scopes: &[Scope],
+    blocks: &mut Blocks,
+) -> Result<(), NoMemory>
+    ensures { OnOk result (built_of blocks.new ≡
+        (build.act (frame_of frame.entry) node.0 (effect_of node.0 action.now)).build (ways_of ways.entry)
+        (scopes_of scopes.now) (rest_of blocks.old.rest) (building_of blocks.old)) }
+{
+    if is_last(alloc, frame, action)? {
+        blocks.end(alloc, Term::Goto(ways.returns), node);
+    }
+    done(alloc, frame, node, action, scopes, blocks)
+}
+
+/// A panic starts.
+///
+/// # Errors
+///
+/// [`NoMemory`] where memory is wanted.
+pub fn panic(
+    alloc: Global,
+    frame: Frame,
+    node: NodeId,
+    why: Why,
+    scopes: &[Scope],
+    blocks: &mut Blocks,
+) -> Result<(), NoMemory>
+    ensures { OnOk result (built_of blocks.new ≡ build.unwinding (frame_of frame.entry) (Term.Panic why) node.0
+        (build.panic_drops (frame_of frame.entry) (scopes_of scopes.now)) (building_of blocks.old)) }
+{
+    let drops = panic_drops(alloc, frame.items, scopes)?;
+    let unwind = blocks.unwind_to(alloc, frame, drops.as_slice())?;
+    blocks.end(alloc, Term::Panic { why, unwind }, node);
+    Ok(())
+}
+
+/// What stands under a key is dropped.
+///
+/// # Errors
+///
+/// [`NoMemory`] where memory is wanted.
+pub fn drop_under(
+    alloc: Global,
+    frame: Frame,
+    key: Key,
+    scopes: &[Scope],
+    blocks: &mut Blocks,
+) -> Result<(), NoMemory>
+    ensures { OnOk result (built_of blocks.new ≡ build.drop_one (frame_of frame.entry) (site_of_key key.0)
+        (build.panic_drops (frame_of frame.entry) (scopes_of scopes.now)) (rest_of blocks.old.rest) (building_of blocks.old)) }
+{
+    let drops = panic_drops(alloc, frame.items, scopes)?;
+    blocks.drop_one(alloc, frame, key, drops.as_slice())
+}
+
+/// What stands under a key is stored at a place, before what is open.
+fn store(
+    alloc: Global,
+    frame: Frame,
+    node: NodeId,
+    to: &Place,
+    key: Key,
+    blocks: &mut Blocks,
+) -> Result<(), NoMemory>
+    ensures { OnOk result (built_of blocks.new ≡ (
+      build.with_line
+          (build.put_into (frame_of frame.entry) (record { node = node.0; place = named to.now }) key.0) node.0
+          (rest_of blocks.old.rest),
+      building_of blocks.old,
+    )) }
+{
+    let to = place(alloc, frame, to)?;
+    let from = whole_place(alloc, frame, key)?;
+    blocks.add_line(Stmt::Put(to, Operand::Moved(from)), node)
+}
+
+/// What a panic drops once what stands under a key is taken.
+fn unwind_without(
+    alloc: Global,
+    frame: Frame,
+    key: Key,
+    scopes: &[Scope],
+    blocks: &mut Blocks,
+) -> Result<u32, NoMemory>
+    ensures { IfOk result (λ number. (number, building_of blocks.new) ≡ build.chain (frame_of frame.entry)
+        (build.panic_drops (frame_of frame.entry) (build.taken (frame_of frame.entry) (key.0 ∷ []) (scopes_of scopes.now)))
+        (building_of blocks.old)) }
+{
+    let mut without = copied(alloc, scopes)?;
+    take(alloc, &[key], &mut without)?;
+    let drops = panic_drops(alloc, frame.items, without.as_slice())?;
+    blocks.chain(alloc, frame, drops.as_slice())
+}
+
+/// What a place holds is dropped, and what stands under a key is stored there, whether the drop panics or not.
+///
+/// # Errors
+///
+/// [`NoMemory`] where memory is wanted.
+pub fn replace(
+    alloc: Global,
+    frame: Frame,
+    node: NodeId,
+    to: &Place,
+    key: Key,
+    scopes: &[Scope],
+    blocks: &mut Blocks,
+) -> Result<(), NoMemory>
+    ensures { OnOk result (built_of blocks.new ≡ build.replaces_from (frame_of frame.entry)
+        (record { node = node.0; place = named to.now }) key.0 (scopes_of scopes.now)
+        (rest_of blocks.old.rest) (building_of blocks.old)) }
+{
+    store(alloc, frame, node, to, key, blocks)?;
+    let then = blocks.close(alloc, Kind::Plain)?;
+    let down = unwind_without(alloc, frame, key, scopes, blocks)?;
+    blocks.end(alloc, Term::Goto(down), node);
+    store(alloc, frame, node, to, key, blocks)?;
+    let unwind = Unwind::Block(blocks.close(alloc, Kind::Cleanup)?);
+    let place = place(alloc, frame, to)?;
+    let term = Term::DropAt {
+        place,
+        then,
+        unwind,
+    };
+    blocks.end(alloc, term, node);
+    Ok(())
+}

@@ -1,0 +1,172 @@
+//! Blocks that are made, and the lines of the one that is open.
+ghost use Rattle.std.specs.Prelude.{◌≡◌, ◌++◌, [], IfOk, OnOk, map, reverse};
+ghost use Rattle.cfg_build.specs.Build as build;
+ghost use Rattle.code_blocks.specs.Building.{line_of, rest_of, made_of, building_of, built_of};
+
+use cfg_graph::{Block, Kind, Stmt, Term};
+use mir_base::{List, NoMemory, NodeId};
+use scope_code::Entry;
+use std::alloc::Global;
+use std::mem;
+
+/// A statement, and the number of its node.
+#[derive(Drop)]
+pub struct Line {
+    pub stmt: Stmt,
+    pub node: NodeId,
+}
+
+/// The end of a block: its lines from the last to the first, its terminator, and the terminator's node.
+#[derive(Drop)]
+pub struct Open {
+    pub lines: List<Line>,
+    pub term: Term,
+    pub node: NodeId,
+}
+
+/// A block, and the nodes of its lines, its terminator's the last.
+#[derive(Drop)]
+pub struct Made {
+    pub block: Block,
+    pub nodes: List<NodeId>,
+}
+
+/// The block that drops these entries, the youngest last, while a panic unwinds.
+#[derive(Drop)]
+pub struct Chain {
+    pub entries: List<Entry>,
+    pub block: u32,
+}
+
+/// The blocks so far, `None` where a number is given out and the block is still to be made; their chains of drops; and
+/// what is open.
+#[derive(Drop)]
+pub struct Blocks {
+    pub made: List<Option<Made>>,
+    pub chains: List<Chain>,
+    pub rest: Open,
+}
+
+/// Lines are taken apart, from the last to the first.
+fn take_lines(
+    lines: &mut List<Line>,
+    stmts: &mut List<Stmt>,
+    nodes: &mut List<NodeId>,
+) -> Result<(), NoMemory>
+    ensures { OnOk result ((lines.new ≡ [])
+        × ((stmts.new ≡ stmts.old ++ map (λ l. l.stmt) (reverse (map line_of lines.old)))
+        × (map (λ n. n.0) nodes.new ≡ map (λ n. n.0) nodes.old ++ map (λ l. l.node) (reverse (map line_of lines.old))))) }
+{
+    while let Some(line) = lines.pop() {
+        let Line { stmt, node } = line;
+        stmts.push(stmt)?;
+        nodes.push(node)?;
+    }
+    Ok(())
+}
+
+impl Open {
+    /// What is open becomes a block, and what goes to another block is open behind it.
+    fn finish(&mut self, alloc: Global, kind: Kind, rank: u32, term: Term) -> Result<Made, NoMemory>
+        ensures { IfOk result (λ made. (made_of made ≡ build.made kind rank (rest_of self.old))
+            × (rest_of self.new ≡ build.ending term self.old.node.0)) }
+    {
+        let mut stmts = List::new(alloc);
+        let mut nodes = List::new(alloc);
+        take_lines(&mut self.lines, &mut stmts, &mut nodes)?;
+        nodes.push(self.node)?;
+        let block = Block {
+            kind,
+            rank,
+            stmts,
+            term: mem::replace(&mut self.term, term),
+        };
+        Ok(Made { block, nodes })
+    }
+}
+
+impl Blocks {
+    /// No block, with what is open.
+    pub fn new(alloc: Global, term: Term, node: NodeId) -> Blocks
+        ensures { built_of result ≡ (build.ending term node.0, record { blocks = []; chains = [] }) }
+    {
+        Blocks {
+            made: List::new(alloc),
+            chains: List::new(alloc),
+            rest: Open {
+                lines: List::new(alloc),
+                term,
+                node,
+            },
+        }
+    }
+
+    /// The number of the next block.
+    pub fn next_number(&self) -> Result<u32, NoMemory>
+        ensures { IfOk result (λ number. number ≡ build.next_number (building_of self.now)) }
+    {
+        let count = self.made.len();
+        if count > u32::MAX as usize {
+            return Err(NoMemory);
+        }
+        Ok(count as u32)
+    }
+
+    /// What is open becomes a block, to which what is open then goes.
+    pub fn close(&mut self, alloc: Global, kind: Kind) -> Result<u32, NoMemory>
+        ensures { IfOk result (λ number. (number ≡ build.next_number (building_of self.old))
+            × (built_of self.new ≡ (
+              build.ending (Term.Goto number) self.old.rest.node.0,
+              build.closed kind (rest_of self.old.rest) (building_of self.old),
+            ))) }
+    {
+        let number = self.next_number()?;
+        let made = self.rest.finish(alloc, kind, number, Term::Goto(number))?;
+        self.made.push(Some(made))?;
+        Ok(number)
+    }
+
+    /// A number is given out for a block that is made later.
+    pub fn reserve(&mut self) -> Result<u32, NoMemory>
+        ensures { IfOk result (λ number. (number ≡ build.next_number (building_of self.old))
+            × (built_of self.new ≡ (rest_of self.old.rest, build.reserved (building_of self.old)))) }
+    {
+        let number = self.next_number()?;
+        self.made.push(None)?;
+        Ok(number)
+    }
+
+    /// What is open becomes the block with a number that was given out; then what is open goes to it.
+    pub fn fill(&mut self, alloc: Global, kind: Kind, number: u32) -> Result<(), NoMemory>
+        ensures { OnOk result (built_of self.new ≡ (
+          build.ending (Term.Goto number) self.old.rest.node.0,
+          build.filled kind number (rest_of self.old.rest) (building_of self.old),
+        )) }
+    {
+        let rank = self.next_number()?;
+        let made = self.rest.finish(alloc, kind, rank, Term::Goto(number))?;
+        if (number as usize) < self.made.len() {
+            self.made.set(number as usize, Some(made));
+        }
+        Ok(())
+    }
+
+    /// Only a terminator is open.
+    pub fn end(&mut self, alloc: Global, term: Term, node: NodeId)
+        ensures { built_of self.new ≡ (build.ending term node.0, building_of self.old) }
+    {
+        self.rest = Open {
+            lines: List::new(alloc),
+            term,
+            node,
+        };
+    }
+
+    /// A statement stands before what is open.
+    pub fn add_line(&mut self, stmt: Stmt, node: NodeId) -> Result<(), NoMemory>
+        ensures { OnOk result (built_of self.new ≡
+            (build.with_line stmt node.0 (rest_of self.old.rest), building_of self.old)) }
+    {
+        self.rest.lines.push(Line { stmt, node })
+    }
+}

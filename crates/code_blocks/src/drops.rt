@@ -1,0 +1,82 @@
+//! Drops.
+ghost use Rattle.std.specs.Prelude.{◌≡◌, ◌∷◌, ◌++◌, [], OnOk};
+ghost use Rattle.cfg_build.specs.Build as build;
+ghost use Rattle.code_lines.specs.Framed.{frame_of};
+ghost use Rattle.code_scopes.specs.Scoped.{entries_of, scopes_of};
+ghost use Rattle.mir_ty.specs.Facts.{needs_drop};
+ghost use Rattle.scope_code.specs.View.{entry_of};
+ghost use Rattle.src_meaning.specs.Forms.{site_of_key};
+ghost use Rattle.src_meaning.specs.Scopes.{needing_drop};
+ghost use Rattle.code_blocks.specs.Building.{built_of, rest_of, building_of, drop_next};
+
+use crate::blocks::Blocks;
+use cfg_graph::{Kind, Term};
+use code_lines::{Frame, whole_place};
+use code_scopes::{Scope, panic_drops};
+use mir_base::{Key, List, NoMemory, NodeId};
+use scope_code::Entry;
+use std::alloc::Global;
+
+impl Blocks {
+    /// What stands under a key is dropped, and these entries, the youngest last, after a panic out of it.
+    pub fn drop_one(
+        &mut self,
+        alloc: Global,
+        frame: Frame,
+        key: Key,
+        entries: &[Entry],
+    ) -> Result<(), NoMemory>
+        ensures { OnOk result (built_of self.new ≡ build.drop_one (frame_of frame.entry) (site_of_key key.0)
+            (entries_of entries.now) (rest_of self.old.rest) (building_of self.old)) }
+    {
+        let then = self.close(alloc, Kind::Plain)?;
+        let unwind = self.unwind_to(alloc, frame, entries)?;
+        let place = whole_place(alloc, frame, key)?;
+        let term = Term::DropAt {
+            place,
+            then,
+            unwind,
+        };
+        self.end(alloc, term, NodeId(key.0));
+        Ok(())
+    }
+
+    /// One entry more is dropped before those that are older, if its type needs it.
+    fn drop_next(
+        &mut self,
+        alloc: Global,
+        frame: Frame,
+        entry: &Entry,
+        below: &mut List<Entry>,
+    ) -> Result<(), NoMemory>
+        ensures { OnOk result ((built_of self.new ≡ drop_next (frame_of frame.entry)
+            (needs_drop frame.entry.items.now entry.now.ty) (entry_of entry.now) (entries_of below.old) (built_of self.old))
+            × (entries_of below.new ≡ needing_drop frame.entry.items.now (entry_of entry.now ∷ []) ++ entries_of below.old)) }
+    {
+        if frame.items.needs_drop(entry.ty) {
+            self.drop_one(alloc, frame, entry.key, below.as_slice())?;
+            return below.push(*entry);
+        }
+        Ok(())
+    }
+
+    /// Entries are dropped, the youngest, which is the last, first; after a panic the rest of them and what is in the
+    /// scopes around.
+    pub fn drop_all(
+        &mut self,
+        alloc: Global,
+        frame: Frame,
+        entries: &[Entry],
+        around: &[Scope],
+    ) -> Result<(), NoMemory>
+        ensures { OnOk result (built_of self.new ≡ build.drop_all (frame_of frame.entry)
+            (needing_drop frame.entry.items.now (entries_of entries.now)) (scopes_of around.now)
+            (rest_of self.old.rest) (building_of self.old)) }
+    {
+        let mut below = panic_drops(alloc, frame.items, around)?;
+        for entry in entries {
+            self.drop_next(alloc, frame, entry, &mut below)?;
+        }
+        Ok(())
+    }
+}
