@@ -3,6 +3,8 @@
 #![tactic(auto)]
 
 #[cfg(test)]
+mod borrows;
+#[cfg(test)]
 mod patterns;
 #[cfg(test)]
 mod trees;
