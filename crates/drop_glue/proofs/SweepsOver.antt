@@ -1,12 +1,11 @@
 -- What is gone over, one thing after another.
-use Rattle.std.proofs.Common.{◌≡◌, ℕ, suc, ◌+◌, List, [], ◌∷◌, ◌++◌, map, Option, Some, None, refl, ap, sym, subst, ◌∙◌, append_assoc, append-nil, arith}
+use Rattle.std.proofs.Common.{◌≡◌, ℕ, suc, ◌+◌, List, [], ◌∷◌, ◌++◌, map, Option, Some, None, refl, ap, sym, subst, ◌∙◌, append_assoc, arith}
 use Rattle.std.proofs.lemmas.List.{map-append}
 use Rattle.std.specs.Prelude.{option_and_then, slice_get}
-use Rattle.std.specs.Borrow.{Bor}
 use Rattle.std.specs.declared.alloc.Global.{Global}
 use Rattle.std.specs.declared.boxed.Box.{Box as TheBox}
 use Rattle.drop_glue.specs.declared.sweeping.Sweeps.{Sweeps}
-use Rattle.drop_glue.specs.Left.{type_of_number, found_of}
+use Rattle.drop_glue.specs.Left.{type_of_number, found_of, own_impl}
 use Rattle.drop_glue.specs.Swept.{freed, freed_parts, HasType, IsFoundAgain, IsSwept, ArePartsSwept, IsSweptBy, AreSwept, freed_by, freed_before, PutsBefore, GoesOver}
 use Rattle.mir_base.specs.declared.trace.Event.{Event}
 use Rattle.mir_steps.specs.declared.told.Told.{Told}
@@ -15,12 +14,12 @@ use Rattle.mir_ty.specs.ItemTable.{ItemTable}
 use Rattle.mir_ty.specs.Parts.{parts_of}
 use Rattle.mir_ty.specs.declared.ty.TyId.{TyId}
 use Rattle.store_model.proofs.Values.Datum.{datum_of-Parts, datum_of-Boxed}
-use Rattle.store_model.specs.Concrete.Drops.{drop_impl}
+use Rattle.store_model.specs.Concrete.Drops.{Stage, Begins, drop_impl}
 use Rattle.store_model.specs.Concrete.Location.{DynamicType, OfType, type_of_part, concrete_ty}
 use Rattle.store_model.specs.declared.address.At.TheVariants.{Inside}
 use Rattle.store_model.specs.declared.value.Value.{Value}
 use Rattle.store_model.specs.declared.value.Value.TheVariants.{Parts, Boxed}
-use Rattle.store_model.specs.Values.Datum.{Datum, Aggregate, Box, a_part, data_from, datum_of}
+use Rattle.store_model.specs.Values.Datum.{Aggregate, Box, a_part, data_from, datum_of}
 
 module _ (items : ItemTable) where
   -- what was added last comes first
@@ -41,33 +40,33 @@ module _ (items : ItemTable) where
   nothing_put work Holds events h e = record { swept = λ all. (h, all); freed = λ after. sym (ap (λ l. l ++ freed_before work after) e) }
 
   -- the parts of a value come next
-  pub parts_put : (value : Value) (variant : ℕ) (serial : Option ℕ) (values : List Value) (dynamic : DynamicType) → value ≡ Parts variant serial values → IsFoundAgain items dynamic →
-      drop_impl items (concrete_ty items dynamic) ≡ None → (old new : List Sweeps) (last : Sweeps) → new ≡ old ++ last ∷ [] →
+  pub parts_put : (stage : Stage) (value : Value) (variant : ℕ) (serial : Option ℕ) (values : List Value) (dynamic : DynamicType) → value ≡ Parts variant serial values → IsFoundAgain items dynamic →
+      own_impl stage (drop_impl items (concrete_ty items dynamic)) ≡ None → (old new : List Sweeps) (last : Sweeps) → new ≡ old ++ last ∷ [] →
       (IsSweptBy items last → ArePartsSwept items (data_from (map datum_of values)) dynamic variant 0) → freed_by last ≡ freed_parts (data_from (map datum_of values)) →
-      PutsBefore items old (IsSwept items (datum_of value) dynamic) (freed (datum_of value)) new
-  parts_put value variant serial values dynamic is again none old new last pushed swept freeds =
+      PutsBefore items old (IsSwept items stage (datum_of value) dynamic) (freed (datum_of value)) new
+  parts_put stage value variant serial values dynamic is again none old new last pushed swept freeds =
       let is_datum : datum_of value ≡ Aggregate variant serial (data_from (map datum_of values)) = ap datum_of is ∙ datum_of-Parts variant serial values in
       record {
         swept = λ all.
             let h = swept_pushed old last (subst (AreSwept items) pushed all) in
-            (subst (λ d. IsSwept items d dynamic) (sym is_datum) (again, none, swept h.0), h.1);
+            (subst (λ d. IsSwept items stage d dynamic) (sym is_datum) (again, none, swept h.0), h.1);
         freed = λ after.
             ap (λ w. freed_before w after) pushed ∙ freed_pushed old last after ∙ ap (λ l. l ++ freed_before old after) (freeds ∙ ap freed (sym is_datum));
       }
 
   -- the content of a box comes next, and then the box
-  pub content_put : (value : Value) (serial : ℕ) (impl_no : Option ℕ) (inside : TheBox Value Global) (dynamic child : DynamicType) → value ≡ Boxed serial impl_no inside → IsFoundAgain items dynamic →
+  pub content_put : (stage : Stage) (value : Value) (serial : ℕ) (impl_no : Option ℕ) (inside : TheBox Value Global) (dynamic child : DynamicType) → value ≡ Boxed serial impl_no inside → IsFoundAgain items dynamic →
       type_of_part items Inside (datum_of value) dynamic ≡ Some child → (old mid new : List Sweeps) (last : Sweeps) → mid ≡ old ++ Sweeps.Boxed serial ∷ [] → new ≡ mid ++ last ∷ [] →
-      (IsSweptBy items last → IsSwept items (datum_of inside.value) child) → freed_by last ≡ freed (datum_of inside.value) →
-      PutsBefore items old (IsSwept items (datum_of value) dynamic) (freed (datum_of value)) new
-  content_put value serial impl_no inside dynamic child is again typed old mid new last pushed_box pushed swept freeds =
+      (IsSweptBy items last → IsSwept items Begins (datum_of inside.value) child) → freed_by last ≡ freed (datum_of inside.value) →
+      PutsBefore items old (IsSwept items stage (datum_of value) dynamic) (freed (datum_of value)) new
+  content_put stage value serial impl_no inside dynamic child is again typed old mid new last pushed_box pushed swept freeds =
       let is_datum : datum_of value ≡ Box serial impl_no (datum_of inside.value) = ap datum_of is ∙ datum_of-Boxed serial impl_no inside in
       let typed' : type_of_part items Inside (Box serial impl_no (datum_of inside.value)) dynamic ≡ Some child = ap (λ d. type_of_part items Inside d dynamic) (sym is_datum) ∙ typed in
       record {
         swept = λ all.
             let h = swept_pushed mid last (subst (AreSwept items) pushed all) in
             let k = swept_pushed old (Sweeps.Boxed serial) (subst (AreSwept items) pushed_box h.1) in
-            (subst (λ d. IsSwept items d dynamic) (sym is_datum) (again, subst (λ o. HasType o (IsSwept items (datum_of inside.value))) (sym typed') (swept h.0)), k.1);
+            (subst (λ d. IsSwept items stage d dynamic) (sym is_datum) (again, subst (λ o. HasType o (IsSwept items Begins (datum_of inside.value))) (sym typed') (swept h.0)), k.1);
         freed = λ after.
             ap (λ w. freed_before w after) pushed ∙ freed_pushed mid last after
             ∙ ap (λ l. freed_by last ++ l) (ap (λ w. freed_before w after) pushed_box ∙ freed_pushed old (Sweeps.Boxed serial) after)
@@ -84,7 +83,7 @@ module _ (items : ItemTable) where
   pub part_put : (parts : List Value) (first : Value) (others : List Value) → parts ≡ first ∷ others → (variant n other : ℕ) (dynamic : DynamicType) → other ≡ n + 1 → (id : TyId) →
       option_and_then (λ ty. slice_get (parts_of items ty variant) n) (concrete_ty items dynamic) ≡ Some id → (old mid new : List Sweeps) (rest last : Sweeps) → mid ≡ old ++ rest ∷ [] → new ≡ mid ++ last ∷ [] →
       (IsSweptBy items rest → ArePartsSwept items (data_from (map datum_of others)) dynamic variant other) → freed_by rest ≡ freed_parts (data_from (map datum_of others)) →
-      (IsSweptBy items last → IsSwept items (datum_of first) (OfType id)) → freed_by last ≡ freed (datum_of first) →
+      (IsSweptBy items last → IsSwept items Begins (datum_of first) (OfType id)) → freed_by last ≡ freed (datum_of first) →
       PutsBefore items old (ArePartsSwept items (data_from (map datum_of parts)) dynamic variant n) (freed_parts (data_from (map datum_of parts))) new
   part_put parts first others is variant n other dynamic next id typed old mid new rest last pushed_rest pushed rest_swept rest_freed swept freeds =
       let split : data_from (map datum_of parts) ≡ a_part (datum_of first) (data_from (map datum_of others)) = ap (λ l. data_from (map datum_of l)) is in
@@ -94,7 +93,7 @@ module _ (items : ItemTable) where
             let h = swept_pushed mid last (subst (AreSwept items) pushed all) in
             let k = swept_pushed old rest (subst (AreSwept items) pushed_rest h.1) in (
               subst (λ d. ArePartsSwept items d dynamic variant n) (sym split) (
-                subst (λ o. HasType o (IsSwept items (datum_of first))) (sym (typed_part dynamic variant n id typed)) (swept h.0),
+                subst (λ o. HasType o (IsSwept items Begins (datum_of first))) (sym (typed_part dynamic variant n id typed)) (swept h.0),
                 subst (ArePartsSwept items (data_from (map datum_of others)) dynamic variant) later (rest_swept k.0),
               ),
               k.1,

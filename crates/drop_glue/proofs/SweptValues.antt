@@ -1,8 +1,8 @@
 -- What is left where a value was dropped in which no `Drop` body is to run.
 use Rattle.std.proofs.Common.{◌≡◌, ◌⊎◌, inl, inr, ℕ, suc, ◌==◌, ◌+◌, ◌<◌, ◌≤◌, List, [], ◌∷◌, ◌++◌, length, Bool, true, false, Option, Some, None, refl, ap, sym, subst, ◌∙◌, arith, append_assoc, append-nil}
 use Rattle.std.specs.Option.{option_map_or}
-use Rattle.drop_glue.specs.Left.{from_part, expected_if, VisitsLeft, is_still, type_of_number, IsPlain, own_impl, Level, PartsOf, ContentOf, at_path, found_as, LeavesLeft, GoesLeft, ReadLeft}
-use Rattle.drop_glue.specs.Swept.{freed, freed_parts, HasType, IsFoundAgain, IsSwept, ArePartsSwept, holds_parts, with_events}
+use Rattle.drop_glue.specs.Left.{from_part, expected_if, VisitsLeft, is_still, type_of_number, IsPlain, Level, PartsOf, ContentOf, at_path, found_as, LeavesLeft, GoesLeft, ReadLeft}
+use Rattle.drop_glue.specs.Swept.{freed, freed_parts, HasType, IsFoundAgain, IsSwept, ArePartsSwept, is_there, with_events}
 use Rattle.drop_glue.proofs.Below.{same_number, cell_stored, as_many, stored_in, local_of, located_stored, located_step, into_is, next_part, stands_at}
 use Rattle.drop_glue.proofs.Dropping.{part_replaced}
 use Rattle.drop_glue.proofs.DropSteps.{still_is, typed_by_number, clear_goes, free_goes, leave_goes, go_content, go_end, go_part, visit_reads, read_gone, read_plain, read_parts, read_box}
@@ -12,8 +12,8 @@ use Rattle.store_model.proofs.Values.OnePart.{with_part-with_part}
 use Rattle.store_model.specs.declared.address.Addr.{Addr}
 use Rattle.store_model.specs.declared.address.At.{At}
 use Rattle.store_model.specs.declared.address.At.TheVariants.{Part, Inside}
-use Rattle.store_model.specs.Concrete.Drops.{Stage, Begins, HasRun, drop_impl, if_still_typed, same_if, gone_at, freed_there, freed_at}
-use Rattle.store_model.specs.Concrete.Location.{Setting, DynamicType, Located, concrete_ty, into, located_at, stored_at, type_of_part}
+use Rattle.store_model.specs.Concrete.Drops.{Stage, Begins, if_still_typed, same_if, gone_at, freed_there, freed_at}
+use Rattle.store_model.specs.Concrete.Location.{Setting, DynamicType, Located, into, located_at, stored_at, type_of_part}
 use Rattle.store_model.specs.Concrete.State.{State, Activation, Cells, cell, with_cell, at_depth, with_cell_at, with_event, Bodies}
 use Rattle.store_model.specs.Effects.{Mode, Out, Go}
 use Rattle.store_model.specs.Values.Access.{part, with_part, replaced}
@@ -68,10 +68,6 @@ stored_over setting w address s there below new later =
 
 no_events : (w : State) → with_events [] w ≡ w
 no_events w = ap (λ t. record w { trace = t }) (append-nil w.trace)
-
-own_none : (stage : Stage) (of : Option (ℕ × ℕ)) → of ≡ None → own_impl stage of ≡ None
-own_none Begins of e = e
-own_none HasRun of e = refl
 
 module _ (setting : Setting) (run : Bodies) (depth key : ℕ) where
   abbrev at : List At → Addr
@@ -175,7 +171,7 @@ module _ (setting : Setting) (run : Bodies) (depth key : ℕ) where
     -- where something stands so, its drop comes to this
     abbrev ComesTo : Datum → (List Level → State → List At → Type 0) → Stage → Type 0
     ComesTo value Comes stage =
-        (levels : List Level) (w : State) (path : List At) (dynamic : DynamicType) → located_at setting w (at path) ≡ Some (found path dynamic value) → IsSwept setting.items value dynamic →
+        (levels : List Level) (w : State) (path : List At) (dynamic : DynamicType) → located_at setting w (at path) ≡ Some (found path dynamic value) → IsSwept setting.items stage value dynamic →
         Reads levels w path stage (found path dynamic value) → Comes levels w path
 
     abbrev Sweeps : Datum → Type 0
@@ -203,12 +199,12 @@ module _ (setting : Setting) (run : Bodies) (depth key : ℕ) where
       within = inl refl;
     }
 
-    plain_swept : (value : Datum) → IsPlain value → (levels : List Level) (w : State) (path : List At) (dynamic : DynamicType) → located_at setting w (at path) ≡ Some (found path dynamic value) →
-        IsFoundAgain setting.items dynamic → Reads levels w path Begins (found path dynamic value) → Leaves levels (after [] path w) path
-    plain_swept value plain levels w path dynamic there again reads =
+    plain_swept : (stage : Stage) (value : Datum) → IsPlain value → (levels : List Level) (w : State) (path : List At) (dynamic : DynamicType) → located_at setting w (at path) ≡ Some (found path dynamic value) →
+        IsFoundAgain setting.items dynamic → Reads levels w path stage (found path dynamic value) → Leaves levels (after [] path w) path
+    plain_swept stage value plain levels w path dynamic there again reads =
         subst (λ v. Leaves levels v path) (sym (no_events (stored_at (at path) Gone w)))
         (clear_goes setting run depth key levels mode panicked out w (stored_at (at path) Gone w) path dynamic
-        (read_plain setting run depth key levels mode panicked out w path Begins (found path dynamic value) there reads plain) (gone_goes w path dynamic (found path dynamic value) there again))
+        (read_plain setting run depth key levels mode panicked out w path stage (found path dynamic value) there reads plain) (gone_goes w path dynamic (found path dynamic value) there again))
 
     no_part_swept : PartsSweep no_part
     no_part_swept levels w path dynamic variant next total serial now there from counted again swept goes =
@@ -221,7 +217,7 @@ module _ (setting : Setting) (run : Bodies) (depth key : ℕ) where
     a_part_swept first rest sweeps others levels w path dynamic variant next total serial now there from counted again swept goes =
         go (type_of_number setting.items dynamic variant next) refl swept.0
       where
-        go : (o : Option DynamicType) → type_of_number setting.items dynamic variant next ≡ o → HasType o (IsSwept setting.items first) → Leaves levels (after (freed first ++ freed_parts rest) path w) path
+        go : (o : Option DynamicType) → type_of_number setting.items dynamic variant next ≡ o → HasType o (IsSwept setting.items Begins first) → Leaves levels (after (freed first ++ freed_parts rest) path w) path
         go None e h = absurd h
         go (Some child) e h =
             let whole = found path dynamic (Aggregate variant serial now) in
@@ -250,12 +246,12 @@ module _ (setting : Setting) (run : Bodies) (depth key : ℕ) where
     aggregate_swept stage variant serial parts sweep levels w path dynamic there swept reads =
         sweep levels w path dynamic variant 0 (count parts) serial parts there refl (let k : 0 + count parts ≡ count parts = omega arith in k) swept.0 swept.2
         (read_parts setting run depth key levels mode panicked out w path stage (found path dynamic (Aggregate variant serial parts)) there reads variant serial parts refl
-        (own_none stage (drop_impl setting.items (concrete_ty setting.items dynamic)) swept.1))
+        swept.1)
 
     box_swept : (stage : Stage) (serial : ℕ) (impl_no : Option ℕ) (inside : Datum) → Sweeps inside → SweepsWhole (Box serial impl_no inside) stage
     box_swept stage serial impl_no inside sweeps levels w path dynamic there swept reads = go (type_of_part setting.items Inside (Box serial impl_no inside) dynamic) refl swept.1
       where
-        go : (o : Option DynamicType) → type_of_part setting.items Inside (Box serial impl_no inside) dynamic ≡ o → HasType o (IsSwept setting.items inside) →
+        go : (o : Option DynamicType) → type_of_part setting.items Inside (Box serial impl_no inside) dynamic ≡ o → HasType o (IsSwept setting.items Begins inside) →
             Leaves levels (after (freed inside ++ Event.Freed serial ∷ []) path w) path
         go None e h = absurd h
         go (Some child) e h =
@@ -276,29 +272,29 @@ module _ (setting : Setting) (run : Bodies) (depth key : ℕ) where
     mutual
       value_swept : (value : Datum) → Sweeps value
       value_swept Gone = gone_swept
-      value_swept (Number number) = whole_swept (Number number) (plain_swept (Number number) tt)
-      value_swept (Truth truth) = whole_swept (Truth truth) (plain_swept (Truth truth) tt)
-      value_swept UnitValue = whole_swept UnitValue (plain_swept UnitValue tt)
+      value_swept (Number number) = whole_swept (Number number) (plain_swept Begins (Number number) tt)
+      value_swept (Truth truth) = whole_swept (Truth truth) (plain_swept Begins (Truth truth) tt)
+      value_swept UnitValue = whole_swept UnitValue (plain_swept Begins UnitValue tt)
       value_swept (Aggregate variant serial parts) = whole_swept (Aggregate variant serial parts) (aggregate_swept Begins variant serial parts (parts_swept parts))
       value_swept (Box serial impl_no inside) = whole_swept (Box serial impl_no inside) (box_swept Begins serial impl_no inside (value_swept inside))
-      value_swept (Address address) = whole_swept (Address address) (plain_swept (Address address) tt)
+      value_swept (Address address) = whole_swept (Address address) (plain_swept Begins (Address address) tt)
 
       parts_swept : (parts : Data) → PartsSweep parts
       parts_swept no_part = no_part_swept
       parts_swept (a_part first rest) = a_part_swept first rest (value_swept first) (parts_swept rest)
 
-    all_swept : (stage : Stage) (value : Datum) → holds_parts value ≡ true → SweepsWhole value stage
+    all_swept : (stage : Stage) (value : Datum) → is_there value ≡ true → SweepsWhole value stage
     all_swept stage (Aggregate variant serial parts) e = aggregate_swept stage variant serial parts (parts_swept parts)
     all_swept stage (Box serial impl_no inside) e = box_swept stage serial impl_no inside (value_swept inside)
     all_swept stage Gone e = absurd (cc)
-    all_swept stage (Number number) e = absurd (cc)
-    all_swept stage (Truth truth) e = absurd (cc)
-    all_swept stage UnitValue e = absurd (cc)
-    all_swept stage (Address address) e = absurd (cc)
+    all_swept stage (Number number) e = plain_swept stage (Number number) tt
+    all_swept stage (Truth truth) e = plain_swept stage (Truth truth) tt
+    all_swept stage UnitValue e = plain_swept stage UnitValue tt
+    all_swept stage (Address address) e = plain_swept stage (Address address) tt
 
     -- what was read is dropped in one go
-    pub read_swept : (levels : List Level) (w : State) (path : List At) (stage : Stage) (s : Located) → located_at setting w (at path) ≡ Some s → IsSwept setting.items s.value s.dynamic → holds_parts s.value ≡ true →
+    pub read_swept : (levels : List Level) (w : State) (path : List At) (stage : Stage) (s : Located) → located_at setting w (at path) ≡ Some s → IsSwept setting.items stage s.value s.dynamic → is_there s.value ≡ true →
         Reads levels w path stage s → Leaves levels (after (freed s.value) path w) path
-    read_swept levels w path stage s there swept of_parts reads =
+    read_swept levels w path stage s there swept stands reads =
         let same : s ≡ found path s.dynamic s.value = ap (λ a. record { address = a; dynamic = s.dynamic; value = s.value }) (stands_at setting w (at path) s there) in
-        all_swept stage s.value of_parts levels w path s.dynamic (there ∙ ap Some same) swept (subst (Reads levels w path stage) same reads)
+        all_swept stage s.value stands levels w path s.dynamic (there ∙ ap Some same) swept (subst (Reads levels w path stage) same reads)

@@ -8,7 +8,7 @@ use Rattle.drop_glue.specs.declared.reading.Kind.{Kind}
 use Rattle.drop_glue.specs.declared.reading.OwnDrop.{OwnDrop}
 use Rattle.drop_glue.specs.Left.{Level, PartsOf, ContentOf, own_impl, type_of_number, expected_if, is_still, is_expected, told_serial, finished, found_as, HasLeft, LeavesLeft, GoesLeft, ClearsLeft, VisitsLeft, ReadLeft, AwaitsLeft, EntersLeft, Again}
 use Rattle.drop_glue.specs.Reading.{ShowsValue, FindsIt, IsFound, pair_of}
-use Rattle.drop_glue.specs.Swept.{SweptAt}
+use Rattle.drop_glue.specs.Swept.{IsSwept, freed, is_there, with_events}
 use Rattle.drop_glue.proofs.SweptValues.{read_swept}
 use Rattle.drop_glue.specs.Turns.{level_of, within, levels_of, mode_by, stage_by, TurnLeft, IsOf, GoesOn, Begins, GoesOnPart, IsContainer, enters_of, expected_by, left_if, Clears, Frees, IsDropOf}
 use Rattle.drop_glue.proofs.Below.{into_is, into_untyped, stands_at}
@@ -235,12 +235,12 @@ module _ (setting : Setting) (run : Bodies) (w : State) (out : Out State) (drops
       visit_reads setting run depth key (levels_of drops.levels) (mode_by drops.unwinds) drops.panicked out w drops.address.path (stage_by has_run) (option_map dynamic_of expected) h s e f
 
   -- what is swept leaves the address
-  pub visited_swept : (v : State) → SweptAt setting drops.address w v → ((s : Located) → located_at setting w drops.address ≡ Some s → is_expected setting.items (option_map dynamic_of expected) s.dynamic ≡ true) →
-      TurnLeft setting run v out drops Turn.Leaves
-  visited_swept v swept is =
-      subst (λ v. TurnLeft setting run v out drops Turn.Leaves) (sym swept.is)
-      (read_swept setting run depth key (mode_by drops.unwinds) drops.panicked out (levels_of drops.levels) w drops.address.path (stage_by has_run) swept.s swept.there swept.swept swept.of_parts
-      (visited_reads swept.s swept.there (is swept.s swept.there)))
+  pub visited_swept : (s : Located) → located_at setting w drops.address ≡ Some s → is_expected setting.items (option_map dynamic_of expected) s.dynamic ≡ true →
+      IsSwept setting.items (stage_by has_run) s.value s.dynamic → is_there s.value ≡ true →
+      TurnLeft setting run (with_events (freed s.value) (stored_at drops.address Gone w)) out drops Turn.Leaves
+  visited_swept s there is swept stands =
+      read_swept setting run depth key (mode_by drops.unwinds) drops.panicked out (levels_of drops.levels) w drops.address.path (stage_by has_run) s there swept stands
+      (visited_reads s there is)
 
 -- What clears and frees.
 
@@ -332,7 +332,7 @@ alone mode (Go w) = refl
 alone mode (Unwind w) = refl
 alone mode (Halts halt w) = refl
 
-pub is_drop_of : (address : Addr) (unwinds : Bool) (drops : Drops) → drops ≡ record { address = address; levels = []; unwinds = unwinds; panicked = false } → IsDropOf address unwinds drops
+pub is_drop_of : (address : Addr) (unwinds : Bool) (drops : Drops) → drops ≡ record { address = address; levels = []; unwinds = unwinds; panicked = false; sweeps = true } → IsDropOf address unwinds drops
 is_drop_of address unwinds drops e setting run w fuel dynamic l =
     let here = found_as setting run address.depth address.key.0 address.path (dynamic_of dynamic) Gone in
     let mode = mode_by unwinds in

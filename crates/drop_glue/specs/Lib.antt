@@ -1,4 +1,5 @@
 pub mod Left
 pub mod Reading
+pub mod Seen
 pub mod Swept
 pub mod Turns

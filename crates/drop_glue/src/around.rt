@@ -18,6 +18,7 @@ impl Drops {
             levels: List::new(alloc),
             unwinds,
             panicked: false,
+            sweeps: true,
         }
     }
 

@@ -26,6 +26,9 @@ pub struct Drops {
     pub unwinds: bool,
     /// Whether a `Drop` body of this drop panicked.
     pub panicked: bool,
+    /// Whether what is read is gone over, to be dropped in one go: not after many parts were gone over in vain, so that
+    /// no value is gone over again and again.
+    pub sweeps: bool,
 }
 
 /// What a drop does next.

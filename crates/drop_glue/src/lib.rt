@@ -8,6 +8,7 @@ mod level;
 mod reading;
 mod sweeping;
 mod turns;
+mod visiting;
 
 pub use drops::{Drops, Turn};
 pub use level::Level;

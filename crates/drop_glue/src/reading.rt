@@ -75,7 +75,8 @@ fn kind_of_value(items: &Items, value: &Value, dynamic: Dynamic) -> Kind
     }
 }
 
-fn kind_of(items: &Items, s: &Located<'_>) -> Kind
+/// What a drop does with what stands somewhere.
+pub fn kind_of(items: &Items, s: &Located<'_>) -> Kind
     ensures { ShowsValue items.now (standing s.now.value) (dynamic_of s.now.dynamic) result }
 {
     match s.value {

@@ -1,34 +1,37 @@
 //! A value in which no `Drop` body is to run is dropped in one turn.
-ghost use Rattle.std.specs.Prelude.{◌≡◌, ◌++◌, map, true, IfOk, OnOk};
-ghost use Rattle.cfg_meaning.specs.Programs.{setting_of};
+ghost use Rattle.std.specs.Prelude.{◌≡◌, ◌++◌, map, true, IfOk};
 ghost use Rattle.drop_glue.specs.Swept.{
   ArePartsSwept,
   GoesOver,
   IsSwept,
   PutsBefore,
-  SweepsAt,
+  SweptSo,
   Sweeping,
   freed,
   freed_parts,
-  holds_parts as holds_parts_of,
-  with_events,
+  is_there as is_there_so,
 };
-ghost use Rattle.mir_base.specs.Trace.{Trace};
-ghost use Rattle.mir_steps.specs.Worlds.{event_of, run_setting, state_of};
-ghost use Rattle.mir_store.specs.Activations.{activations_of};
-ghost use Rattle.mir_store.specs.Standing.{dynamic_of, with_activations};
-ghost use Rattle.store_model.specs.Concrete.Location as location;
+ghost use Rattle.drop_glue.specs.Turns.{stage_by};
+ghost use Rattle.mir_steps.specs.Worlds.{event_of};
+ghost use Rattle.mir_store.specs.Standing.{dynamic_of, standing};
 ghost use Rattle.store_model.specs.Values.Datum.{data_from, datum_of};
 
-use crate::reading::{Found, Kind, is_still, own_drop};
-use crate::turns::take_away;
-use cfg_graph::Graph;
+use crate::reading::{is_still, own_drop};
 use mir_base::{Event, List, NoMemory};
-use mir_steps::{Told, World};
-use mir_store::{Dynamic, Store, field_ty, located_at, type_of_part};
+use mir_steps::Told;
+use mir_store::{Dynamic, Located, field_ty, type_of_part};
 use mir_ty::Items;
 use std::alloc::Global;
-use store_model::{Addr, At, Value};
+use store_model::{At, Value};
+
+/// How it went to go over a value.
+#[derive(Clone, Copy)]
+pub enum Pass {
+    /// All of it was gone over, and no `Drop` body is to run in it.
+    Over,
+    /// A `Drop` body is to run in it, or a part has no type; `late` where many parts had been gone over by then.
+    Ends { late: bool },
+}
 
 /// What is still to be gone over.
 #[derive(Clone, Copy)]
@@ -46,29 +49,32 @@ pub enum Sweeps<'a> {
     Boxed(u64),
 }
 
-/// Whether a value has parts or is a box.
-fn holds_parts(value: &Value) -> bool
-    ensures { result ≡ holds_parts_of (datum_of value.now) }
+/// Whether something stands there.
+fn is_there(value: &Value) -> bool
+    ensures { result ≡ is_there_so (datum_of value.now) }
 {
-    matches!(value, Value::Parts { .. } | Value::Boxed { .. })
+    !matches!(value, Value::Gone)
 }
 
-/// Goes over a value: its parts come next. False where a `Drop` body is to run, or where what is found has no type.
+/// Goes over a value, whose own `Drop` body may have run: its parts come next. False where one is to run, or where what
+/// is found has no type.
 fn sweep_value<'a>(
     items: &Items,
     work: &mut List<Sweeps<'a>>,
     value: &'a Value,
     dynamic: Dynamic,
+    has_run: bool,
 ) -> Result<bool, NoMemory>
     ensures { IfOk result (λ went. went ≡ true → PutsBefore items.now work.old
-        (IsSwept items.now (datum_of value.now) (dynamic_of dynamic)) (freed (datum_of value.now)) work.new) }
+        (IsSwept items.now (stage_by has_run) (datum_of value.now) (dynamic_of dynamic)) (freed (datum_of value.now))
+        work.new) }
 {
     if !is_still(items, dynamic, dynamic) {
         return Ok(false);
     }
     match value {
         Value::Parts { variant, parts, .. } => {
-            if let Some(_) = own_drop(items, false, dynamic) {
+            if let Some(_) = own_drop(items, has_run, dynamic) {
                 return Ok(false);
             }
             work.push(Sweeps::Rest {
@@ -134,7 +140,7 @@ fn sweep_one<'a>(
         (map event_of told.new) work.new) }
 {
     match one {
-        Sweeps::Whole(value, dynamic) => sweep_value(items, work, value, dynamic),
+        Sweeps::Whole(value, dynamic) => sweep_value(items, work, value, dynamic, false),
         Sweeps::Rest {
             parts,
             next,
@@ -148,98 +154,55 @@ fn sweep_one<'a>(
     }
 }
 
-/// Tells of the boxes in a value as they are freed, where no `Drop` body is to run in it. False where one is, or where
-/// a part has no type; then what was told means nothing. What is still to be gone over is a list, so a deep value does
-/// not deepen the stack.
+/// How many parts may be gone over in vain before no more is tried.
+const MANY: u64 = 16;
+
+/// Tells of the boxes in a value as they are freed, where no `Drop` body is to run in it but its own, which may have
+/// run. Where one is, or where a part has no type, what was told means nothing. What is still to be gone over is a list,
+/// so a deep value does not deepen the stack.
 fn sweep(
     alloc: Global,
     items: &Items,
     told: &mut List<Told>,
     value: &Value,
     dynamic: Dynamic,
-) -> Result<bool, NoMemory>
-    ensures { IfOk result (λ swept. swept ≡ true → IsSwept items.now (datum_of value.now) (dynamic_of dynamic)
-        × (map event_of told.new ≡ map event_of told.old ++ freed (datum_of value.now))) }
+    has_run: bool,
+) -> Result<Pass, NoMemory>
+    ensures { IfOk result (λ pass. SweptSo pass (
+        IsSwept items.now (stage_by has_run) (datum_of value.now) (dynamic_of dynamic)
+        × (map event_of told.new ≡ map event_of told.old ++ freed (datum_of value.now)))) }
 {
     let mut work = List::new(alloc);
-    work.push(Sweeps::Whole(value, dynamic))?;
-    for _turn in 0..u64::MAX {
+    if !sweep_value(items, &mut work, value, dynamic, has_run)? {
+        return Ok(Pass::Ends { late: false });
+    }
+    for turn in 0..u64::MAX {
         let Some(one) = work.pop() else {
-            return Ok(true);
+            return Ok(Pass::Over);
         };
         if !sweep_one(items, told, &mut work, one)? {
-            return Ok(false);
+            return Ok(Pass::Ends { late: turn > MANY });
         }
     }
     Err(NoMemory)
 }
 
-/// The same of the value at an address; false also where it has no parts.
-fn sweep_there(
+/// The same of what stands somewhere, where that is tried; it ends at once where nothing stands there.
+pub fn sweep_there(
     alloc: Global,
-    graph: &Graph,
-    store: &Store,
+    items: &Items,
     told: &mut List<Told>,
-    address: &Addr,
-) -> Result<bool, NoMemory>
-    ensures { IfOk result (λ swept. swept ≡ true → Sweeping graph.now.items (location.located_at (setting_of true
-        graph.now) (with_activations (activations_of store.now)) address.now) (map event_of told.old) (map event_of
-        told.new)) }
+    s: &Located<'_>,
+    has_run: bool,
+    tries: bool,
+) -> Result<Pass, NoMemory>
+    ensures { IfOk result (λ pass. SweptSo pass (Sweeping items.now (stage_by has_run) (standing s.now.value)
+        (dynamic_of s.now.dynamic) (map event_of told.old) (map event_of told.new))) }
 {
-    let Some(s) = located_at(alloc, graph, store, address)? else {
-        return Ok(false);
-    };
-    let Some(value) = s.value else {
-        return Ok(false);
-    };
-    if !holds_parts(value) {
-        return Ok(false);
+    match s.value {
+        Some(value) if tries && is_there(value) => sweep(
+            alloc, items, told, value, s.dynamic, has_run,
+        ),
+        _ => Ok(Pass::Ends { late: false }),
     }
-    sweep(alloc, &graph.items, told, value, s.dynamic)
-}
-
-/// Tells of all of these.
-fn tell_all(world: &mut World<'_>, told: &[Told]) -> Result<(), NoMemory>
-    ensures run { run_setting world.new ≡ run_setting world.old }
-    ensures told { OnOk result ((before : Trace) →
-        state_of before world.new ≡ with_events (map event_of told.now) (state_of before world.old)) }
-{
-    for one in told {
-        world.tell(*one)?;
-    }
-    Ok(())
-}
-
-/// Whether a value found so may have parts without a `Drop` body, by what is known before it is gone over.
-fn may_be_swept(items: &Items, found: Found) -> bool {
-    match found.kind {
-        Kind::Parts { .. } => own_drop(items, false, found.dynamic).is_none(),
-        Kind::Boxed { .. } => true,
-        Kind::Nothing | Kind::Plain => false,
-    }
-}
-
-/// Drops the value at an address, found so, in one go, where it has parts and no `Drop` body is to run in it; false
-/// where not, and then nothing changes.
-pub fn sweep_at(
-    alloc: Global,
-    world: &mut World<'_>,
-    address: &Addr,
-    found: Found,
-) -> Result<bool, NoMemory>
-    ensures run { run_setting world.new ≡ run_setting world.old }
-    ensures ticks { OnOk result (world.new.ticks ≡ world.old.ticks) }
-    ensures swept { IfOk result (λ swept. (before : Trace) →
-        SweepsAt (run_setting world.old) address.now (state_of before world.old) swept (state_of before world.new)) }
-{
-    if !may_be_swept(&world.graph.items, found) {
-        return Ok(false);
-    }
-    let mut told = List::new(alloc);
-    if !sweep_there(alloc, world.graph, &world.store, &mut told, address)? {
-        return Ok(false);
-    }
-    take_away(alloc, world, address)?;
-    tell_all(world, told.as_slice())?;
-    Ok(true)
 }

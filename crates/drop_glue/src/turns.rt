@@ -9,44 +9,14 @@ ghost use Rattle.store_model.specs.Concrete.Location.{stored_at};
 ghost use Rattle.store_model.specs.Effects.{Out};
 ghost use Rattle.store_model.specs.Values.Datum.{Gone};
 
-use crate::reading::{Kind, is_expected, is_still, read};
-use crate::sweeping::sweep_at;
+use crate::reading::{Kind, is_still, read};
+use crate::visiting::visit;
 use crate::{Drops, Turn};
 use mir_base::{Event, NoMemory};
 use mir_steps::{Told, World};
 use mir_store::Dynamic;
 use std::alloc::Global;
 use store_model::Addr;
-
-/// Drops what stands at the address, whose own `Drop` body may have run: in one go, where no `Drop` body is to run in
-/// it.
-fn visit(
-    alloc: Global,
-    world: &mut World<'_>,
-    drops: &mut Drops,
-    has_run: bool,
-    expected: Option<Dynamic>,
-) -> Result<Turn, NoMemory>
-    ensures run { run_setting world.new ≡ run_setting world.old }
-    ensures ticks { OnOk result (world.new.ticks ≡ world.old.ticks) }
-    ensures left { IfOk result (λ turn. (before : Trace) (run : Bodies) (out : Out State) →
-        TurnLeft (run_setting world.old) run (state_of before world.old) out drops.old
-        (a_turn.Visits has_run expected) →
-        TurnLeft (run_setting world.old) run (state_of before world.new) out drops.new turn) }
-{
-    let graph = world.graph;
-    let ticks = world.ticks;
-    let Some(found) = read(alloc, graph, &world.store, &drops.address)? else {
-        return Ok(Turn::Stuck);
-    };
-    if !is_expected(&graph.items, expected, found.dynamic) {
-        return Ok(Turn::Stuck);
-    }
-    if sweep_at(alloc, world, &drops.address, found)? {
-        return Ok(Turn::Leaves);
-    }
-    drops.begin(&graph.items, ticks, has_run, found)
-}
 
 /// Leaves an address gone, where what was found there is still found so; false where it is not, and then nothing
 /// changes.

@@ -7,7 +7,7 @@ use Rattle.drop_glue.proofs.sweeping.sweep.Goals as goal
 pub loop-turn-preserved : goal.loop-turn-preserved
 loop-turn-preserved c =
     let items = c.args.items.now in
-    let h = c.in_ok-sweep_one.ensures c.if-not-branch.false in
+    let h = c.in_ok-sweep_one.ensures c.if-not-branch-2.false in
     record {
       swept = λ all.
           let k = h.swept all in

@@ -2,7 +2,7 @@ use Rattle.std.proofs.Common.{◌≡◌, map, drop}
 use Rattle.drop_glue.specs.Swept.{with_events}
 use Rattle.mir_base.specs.Trace.{Trace}
 use Rattle.mir_steps.specs.Worlds.{event_of, run_setting, state_of}
-use Rattle.drop_glue.proofs.sweeping.tell_all.Given as goal
+use Rattle.drop_glue.proofs.visiting.tell_all.Given as goal
 
 abbrev pub invariant-loop-one : goal.invariant-loop-one
 invariant-loop-one l =

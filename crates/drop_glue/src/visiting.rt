@@ -1,0 +1,136 @@
+//! The turn in which what stands at an address is read, and dropped in one go where no `Drop` body is to run in it.
+ghost use Rattle.std.specs.Prelude.{◌≡◌, List as Listed, map, true, IfOk, OnOk};
+ghost use Rattle.cfg_meaning.specs.Programs.{setting_of};
+ghost use Rattle.drop_glue.specs.Seen.{IsSeen};
+ghost use Rattle.drop_glue.specs.Swept.{with_events};
+ghost use Rattle.drop_glue.specs.Turns.{TurnLeft, stage_by};
+ghost use Rattle.drop_glue.specs.declared.drops.Turn.{Turn as a_turn};
+ghost use Rattle.mir_base.specs.Trace.{Trace};
+ghost use Rattle.mir_steps.specs.Worlds.{event_of, run_setting, state_of};
+ghost use Rattle.mir_store.specs.Activations.{activations_of};
+ghost use Rattle.mir_store.specs.Standing.{with_activations};
+ghost use Rattle.store_model.specs.Concrete.Location as location;
+ghost use Rattle.store_model.specs.Concrete.Location.{stored_at};
+ghost use Rattle.store_model.specs.Concrete.State.{Bodies, State};
+ghost use Rattle.store_model.specs.Effects.{Out};
+ghost use Rattle.store_model.specs.Values.Datum.{Gone};
+
+use crate::reading::{Found, is_expected, kind_of};
+use crate::sweeping::{Pass, sweep_there};
+use crate::turns::take_away;
+use crate::{Drops, Turn};
+use cfg_graph::Graph;
+use mir_base::{List, NoMemory};
+use mir_steps::{Told, World};
+use mir_store::{Dynamic, Store, located_at};
+use std::alloc::Global;
+use store_model::Addr;
+
+/// What a visit sees.
+#[derive(Clone, Copy)]
+pub struct Sight {
+    pub found: Found,
+    pub pass: Pass,
+}
+
+/// Reads what stands at an address, whose own `Drop` body may have run, and goes over it where that is tried; `None`
+/// exactly where there is no such place. Where it is gone over, what its drop tells is told.
+fn look(
+    alloc: Global,
+    graph: &Graph,
+    store: &Store,
+    told: &mut List<Told>,
+    address: &Addr,
+    has_run: bool,
+    tries: bool,
+) -> Result<Option<Sight>, NoMemory>
+    ensures { IfOk result (λ sight. IsSeen graph.now.items (stage_by has_run) (location.located_at (setting_of true
+        graph.now) (with_activations (activations_of store.now)) address.now) (map event_of told.old) (map event_of
+        told.new) sight) }
+{
+    let Some(s) = located_at(alloc, graph, store, address)? else {
+        return Ok(None);
+    };
+    let items = &graph.items;
+    let kind = kind_of(items, &s);
+    let found = Found {
+        dynamic: s.dynamic,
+        kind,
+    };
+    let pass = sweep_there(alloc, items, told, &s, has_run, tries)?;
+    Ok(Some(Sight { found, pass }))
+}
+
+/// Tells of all of these.
+fn tell_all(world: &mut World<'_>, told: &[Told]) -> Result<(), NoMemory>
+    ensures run { run_setting world.new ≡ run_setting world.old }
+    ensures told { OnOk result ((before : Trace) →
+        state_of before world.new ≡ with_events (map event_of told.now) (state_of before world.old)) }
+{
+    for one in told {
+        world.tell(*one)?;
+    }
+    Ok(())
+}
+
+/// Leaves an address gone, and tells of all of these.
+fn put_aside(
+    alloc: Global,
+    world: &mut World<'_>,
+    address: &Addr,
+    told: &[Told],
+) -> Result<(), NoMemory>
+    ensures run { run_setting world.new ≡ run_setting world.old }
+    ensures ticks { OnOk result (world.new.ticks ≡ world.old.ticks) }
+    ensures gone { OnOk result ((before : Trace) → state_of before world.new ≡
+        with_events (map event_of told.now) (stored_at address.now Gone (state_of before world.old))) }
+{
+    take_away(alloc, world, address)?;
+    tell_all(world, told)
+}
+
+/// Drops what stands at the address, whose own `Drop` body may have run: in one go, where no other is to run in it.
+pub fn visit(
+    alloc: Global,
+    world: &mut World<'_>,
+    drops: &mut Drops,
+    has_run: bool,
+    expected: Option<Dynamic>,
+) -> Result<Turn, NoMemory>
+    ensures run { run_setting world.new ≡ run_setting world.old }
+    ensures ticks { OnOk result (world.new.ticks ≡ world.old.ticks) }
+    ensures left { IfOk result (λ turn. (before : Trace) (run : Bodies) (out : Out State) →
+        TurnLeft (run_setting world.old) run (state_of before world.old) out drops.old
+        (a_turn.Visits has_run expected) →
+        TurnLeft (run_setting world.old) run (state_of before world.new) out drops.new turn) }
+{
+    let graph = world.graph;
+    let ticks = world.ticks;
+    let mut told = List::new(alloc);
+    let address = &drops.address;
+    let Some(sight) = look(
+        alloc,
+        graph,
+        &world.store,
+        &mut told,
+        address,
+        has_run,
+        drops.sweeps,
+    )?
+    else {
+        return Ok(Turn::Stuck);
+    };
+    if !is_expected(&graph.items, expected, sight.found.dynamic) {
+        return Ok(Turn::Stuck);
+    }
+    match sight.pass {
+        Pass::Over => {
+            put_aside(alloc, world, address, told.as_slice())?;
+            Ok(Turn::Leaves)
+        }
+        Pass::Ends { late } => {
+            drops.sweeps &= !late;
+            drops.begin(&graph.items, ticks, has_run, sight.found)
+        }
+    }
+}
