@@ -4,20 +4,20 @@ use Rattle.drop_glue.specs.declared.drops.Drops.{Drops}
 use Rattle.drop_glue.specs.declared.drops.Turn.{Turn}
 use Rattle.drop_glue.specs.declared.level.Level.{Level}
 use Rattle.drop_glue.specs.Left as left
-use Rattle.drop_glue.specs.Left.{LeavesLeft, GoesLeft, ClearsLeft, FreesLeft, VisitsLeft, ReadLeft, AwaitsLeft, EntersLeft, finished, told_serial, found_as}
+use Rattle.drop_glue.specs.Left.{LeavesLeft, GoesLeft, ClearsLeft, FreesLeft, VisitsLeft, ReadLeft, AwaitsLeft, EntersLeft, finished, own_impl, told_serial, found_as}
 use Rattle.drop_glue.specs.declared.reading.OwnDrop.{OwnDrop}
 use Rattle.mir_store.specs.declared.types.Dynamic.{Dynamic}
 use Rattle.store_model.specs.declared.address.Addr.{Addr}
 use Rattle.store_model.specs.declared.address.At.{At}
 use Rattle.store_model.specs.Values.Datum.{Datum, Gone}
 use Rattle.drop_glue.specs.declared.reading.Found.{Found}
-use Rattle.drop_glue.specs.Reading.{ShowsValue}
+use Rattle.drop_glue.specs.Reading.{ShowsValue, pair_of}
 use Rattle.mir_ty.specs.ItemTable.{ItemTable}
 use Rattle.mir_steps.specs.Steps.{seen, Halted}
 use Rattle.mir_store.specs.Standing.{dynamic_of}
-use Rattle.store_model.specs.Concrete.Drops.{Stage, HasRun, gone_at, freed_at, drop_at}
+use Rattle.store_model.specs.Concrete.Drops.{Stage, HasRun, drop_impl, gone_at, freed_at, drop_at}
 use Rattle.store_model.specs.Concrete.Drops as stages
-use Rattle.store_model.specs.Concrete.Location.{Setting, Located, located_at}
+use Rattle.store_model.specs.Concrete.Location.{Setting, Located, concrete_ty, located_at}
 use Rattle.store_model.specs.Concrete.State.{State, Answer, Returns, Unwinds, Bodies}
 use Rattle.store_model.specs.Effects.{Mode, Normal, Unwinding, Aborted, Stuck, Out, Go, Halts}
 
@@ -87,6 +87,12 @@ abbrev pub GoesOn : Turn → ItemTable → ℕ → Drops → Drops → Turn → 
 GoesOn turn items ticks old new next =
     (setting : Setting) (run : Bodies) (w : State) (out : Out State) → IsOf items ticks setting w →
     TurnLeft setting run w out old turn → TurnLeft setting run w out new next
+
+-- the `Drop` body of what was found that is still to run, if its own may have run
+abbrev pub IsOwn : ItemTable → Bool → Found → Option OwnDrop → Type 0
+IsOwn items has_run found own =
+    option_map pair_of own ≡ own_impl (stage_by has_run)
+    (drop_impl items (concrete_ty items (dynamic_of found.dynamic)))
 
 -- it goes on with what was read
 abbrev pub Begins : ItemTable → ℕ → Bool → Found → Drops → Drops → Turn → Type 0

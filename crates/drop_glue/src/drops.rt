@@ -1,5 +1,5 @@
 ghost use Rattle.std.specs.Prelude.{◌≡◌, ℕ, Bool, suc, ◌++◌, ◌∷◌, [], IfOk, OnOk};
-ghost use Rattle.drop_glue.specs.Turns.{Begins, GoesOn, GoesOnPart, IsContainer, enters_of, expected_by};
+ghost use Rattle.drop_glue.specs.Turns.{Begins, GoesOn, GoesOnPart, IsContainer, IsOwn, enters_of, expected_by};
 ghost use Rattle.drop_glue.specs.declared.drops.Turn.{Turn as a_turn};
 ghost use Rattle.drop_glue.specs.declared.level.Level.{Level as a_level};
 ghost use Rattle.drop_glue.specs.declared.reading.Kind.{Kind as a_kind};
@@ -7,7 +7,7 @@ ghost use Rattle.mir_ty.specs.ItemTable.{ItemTable};
 ghost use Rattle.store_model.specs.declared.address.At.TheVariants.{Part, Inside};
 
 use crate::Level;
-use crate::reading::{Found, Kind, OwnDrop, own_drop};
+use crate::reading::{Found, Kind, OwnDrop};
 use mir_base::{List, NoMemory};
 use mir_store::{Dynamic, field_ty};
 use mir_ty::Items;
@@ -169,15 +169,15 @@ impl Drops {
         })
     }
 
-    /// Begins with a value that was read.
+    /// Begins with a value that was read, and whose own `Drop` body is still to run where there is one.
     pub fn begin(
         &mut self,
-        items: &Items,
         ticks: u64,
-        has_run: bool,
+        own: Option<OwnDrop>,
         found: Found,
     ) -> Result<Turn, NoMemory>
-        ensures { IfOk result (λ turn. Begins items.now ticks has_run found self.old self.new turn) }
+        ensures { IfOk result (λ turn. (items : ItemTable) (has_run : Bool) → IsOwn items has_run found own →
+            Begins items ticks has_run found self.old self.new turn) }
     {
         match found.kind {
             Kind::Nothing => Ok(Turn::Leaves),
@@ -188,7 +188,7 @@ impl Drops {
                 serial,
                 total,
             } => {
-                if let Some(of) = own_drop(items, has_run, found.dynamic) {
+                if let Some(of) = own {
                     return Ok(enters(of, serial, found.dynamic));
                 }
                 self.enter_parts(found.dynamic, variant, total, ticks)?;

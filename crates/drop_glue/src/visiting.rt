@@ -3,7 +3,7 @@ ghost use Rattle.std.specs.Prelude.{◌≡◌, List as Listed, map, true, IfOk, 
 ghost use Rattle.cfg_meaning.specs.Programs.{setting_of};
 ghost use Rattle.drop_glue.specs.Seen.{IsSeen};
 ghost use Rattle.drop_glue.specs.Swept.{with_events};
-ghost use Rattle.drop_glue.specs.Turns.{TurnLeft, stage_by};
+ghost use Rattle.drop_glue.specs.Turns.{TurnLeft};
 ghost use Rattle.drop_glue.specs.declared.drops.Turn.{Turn as a_turn};
 ghost use Rattle.mir_base.specs.Trace.{Trace};
 ghost use Rattle.mir_steps.specs.Worlds.{event_of, run_setting, state_of};
@@ -15,7 +15,7 @@ ghost use Rattle.store_model.specs.Concrete.State.{Bodies, State};
 ghost use Rattle.store_model.specs.Effects.{Out};
 ghost use Rattle.store_model.specs.Values.Datum.{Gone};
 
-use crate::reading::{Found, is_expected, kind_of};
+use crate::reading::{Found, OwnDrop, is_expected, kind_of, own_drop};
 use crate::sweeping::{Pass, sweep_there};
 use crate::turns::take_away;
 use crate::{Drops, Turn};
@@ -30,6 +30,8 @@ use store_model::Addr;
 #[derive(Clone, Copy)]
 pub struct Sight {
     pub found: Found,
+    /// Its own `Drop` body, where that is still to run.
+    pub own: Option<OwnDrop>,
     pub pass: Pass,
 }
 
@@ -44,7 +46,7 @@ fn look(
     has_run: bool,
     tries: bool,
 ) -> Result<Option<Sight>, NoMemory>
-    ensures { IfOk result (λ sight. IsSeen graph.now.items (stage_by has_run) (location.located_at (setting_of true
+    ensures { IfOk result (λ sight. IsSeen graph.now.items has_run (location.located_at (setting_of true
         graph.now) (with_activations (activations_of store.now)) address.now) (map event_of told.old) (map event_of
         told.new) sight) }
 {
@@ -57,8 +59,9 @@ fn look(
         dynamic: s.dynamic,
         kind,
     };
-    let pass = sweep_there(alloc, items, told, &s, has_run, tries)?;
-    Ok(Some(Sight { found, pass }))
+    let own = own_drop(items, has_run, s.dynamic);
+    let pass = sweep_there(alloc, items, told, &s, has_run, tries && own.is_none())?;
+    Ok(Some(Sight { found, own, pass }))
 }
 
 /// Tells of all of these.
@@ -130,7 +133,7 @@ pub fn visit(
         }
         Pass::Ends { late } => {
             drops.sweeps &= !late;
-            drops.begin(&graph.items, ticks, has_run, sight.found)
+            drops.begin(ticks, sight.own, sight.found)
         }
     }
 }

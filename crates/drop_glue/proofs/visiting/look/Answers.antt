@@ -4,6 +4,7 @@ use Rattle.drop_glue.proofs.visiting.look.Goals as goal
 
 pub returns : goal.returns
 returns c = record {
+  own = c.own_drop-own.ensures;
   finds = record {
     s = located_of c.in-Some.s;
     is = sym c.in_ok-s.ensures ∙ ap (option_map located_of) c.in-Some.is;

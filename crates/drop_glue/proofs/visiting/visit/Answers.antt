@@ -19,7 +19,7 @@ returns-in_default-clause-left c = λ before run out h.
     let world = c.args.world.now in
     let address = c.args.drops.now.address in
     let there = located_at (setting_of true world.graph.now) (with_activations (activations_of world.store)) address in
-    let sees = IsSeen world.graph.now.items (stage_by c.args.has_run) there (map event_of c.new-told.result) (map event_of c.look.new.told) in
+    let sees = IsSeen world.graph.now.items c.args.has_run there (map event_of c.new-told.result) (map event_of c.look.new.told) in
     visited_nothing (run_setting world) run (state_of before world) out c.args.drops.now c.args.has_run c.args.expected h
     (nothing_found world before address (subst sees c.in_default.is c.in_ok-sight.ensures))
 
@@ -28,7 +28,7 @@ returns-then-not-is_expected-clause-left c = λ before run out h.
     let world = c.args.world.now in
     let address = c.args.drops.now.address in
     let there = located_at (setting_of true world.graph.now) (with_activations (activations_of world.store)) address in
-    let sees = IsSeen world.graph.now.items (stage_by c.args.has_run) there (map event_of c.new-told.result) (map event_of c.look.new.told) in
+    let sees = IsSeen world.graph.now.items c.args.has_run there (map event_of c.new-told.result) (map event_of c.look.new.told) in
     let finds = (subst sees c.in-Some.is c.in_ok-sight.ensures).finds in
     visited_unexpected (run_setting world) run (state_of before world) out c.args.drops.now c.args.has_run c.args.expected h finds.s
     (something_found world before address c.in-Some.sight.found finds)
@@ -41,7 +41,7 @@ returns-in-Over-clause-left c = λ before run out h.
     let address = c.args.drops.now.address in
     let there = located_at (setting_of true world.graph.now) (with_activations (activations_of world.store)) address in
     let told = map event_of c.look.new.told in
-    let sight = subst (IsSeen items (stage_by c.args.has_run) there (map event_of c.new-told.result) told) c.in-Some.is c.in_ok-sight.ensures in
+    let sight = subst (IsSeen items c.args.has_run there (map event_of c.new-told.result) told) c.in-Some.is c.in_ok-sight.ensures in
     let finds = sight.finds in
     let swept = subst (λ pass. SweptSo pass (Sweeping items (stage_by c.args.has_run) finds.s.value finds.s.dynamic (map event_of c.new-told.result) told)) c.in-Over.is sight.swept in
     let gone = stored_at address Gone (state_of before world) in
@@ -62,11 +62,12 @@ returns-clause-left c =
     let items = world.graph.now.items in
     let address = c.args.drops.now.address in
     let there = located_at (setting_of true world.graph.now) (with_activations (activations_of world.store)) address in
-    let sees = IsSeen items (stage_by c.args.has_run) there (map event_of c.new-told.result) (map event_of c.look.new.told) in
-    let finds = (subst sees c.in-Some.is c.in_ok-sight.ensures).finds in
+    let sees = IsSeen items c.args.has_run there (map event_of c.new-told.result) (map event_of c.look.new.told) in
+    let sight = subst sees c.in-Some.is c.in_ok-sight.ensures in
+    let finds = sight.finds in
     IfOk-weaker c.begin.result _ _
     (λ turn f before run out h.
-    f (run_setting world) run (state_of before world) out finds.s (is_of_run world before) (something_found world before address c.in-Some.sight.found finds) finds.dynamic_is finds.shows
+    f items c.args.has_run sight.own (run_setting world) run (state_of before world) out finds.s (is_of_run world before) (something_found world before address c.in-Some.sight.found finds) finds.dynamic_is finds.shows
     (visited_reads (run_setting world) run (state_of before world) out c.args.drops.now c.args.has_run c.args.expected h finds.s (something_found world before address c.in-Some.sight.found finds)
     (ap (is_expected items (option_map dynamic_of c.args.expected)) finds.dynamic_is ∙ sym c.is_expected.ensures ∙ c.if-not-is_expected.false)))
     c.begin.ensures
