@@ -29,7 +29,7 @@ answer_of env (just ty) = written (all_rules env) ty
 
 -- ---- parameters
 
-abbrev self_ty : Receiver → TyId → Check TyId
+abbrev pub self_ty : Receiver → TyId → Check TyId
 self_ty ByValue ty = pure ty
 self_ty ByShared ty = interned (Ty.Shared ty)
 self_ty ByUnique ty = interned (Ty.Unique ty)
@@ -40,11 +40,11 @@ receiver_ty env at receiver = do
   own ← interned (Ty.Adt n)
   self_ty receiver own
 
-abbrev name_entry : Word → TyId → ℕ → Entry
+abbrev pub name_entry : Word → TyId → ℕ → Entry
 name_entry name ty key = record { name = name; ty = ty; meaning = Local key }
 
 -- a parameter that is one name
-abbrev name_param : Pos → Word → TyId → Check (ParamTree × Entry)
+abbrev pub name_param : Pos → Word → TyId → Check (ParamTree × Entry)
 name_param at name ty = do
   id ← number
   items ← the_items
@@ -52,10 +52,10 @@ name_param at name ty = do
   pure (record { pattern = pattern; ty = ty }, name_entry name ty id)
 
 abbrev mutual
-  is_name_or_wildcard : Syn → Bool
+  pub is_name_or_wildcard : Syn → Bool
   is_name_or_wildcard (syn at form) = is_name_or_wildcard_form form
 
-  is_name_or_wildcard_form : Shape → Bool
+  pub is_name_or_wildcard_form : Shape → Bool
   is_name_or_wildcard_form AnyPattern = true
   is_name_or_wildcard_form (BindPattern name) = true
   is_name_or_wildcard_form (ParensPattern inside) = is_name_or_wildcard inside
@@ -65,7 +65,7 @@ abbrev pub param_expected : Expected
 param_expected = record { is_fixed = false; takes_all = true }
 
 -- the type comes before the pattern, as in a `let`; a reference has a name or `_` for its pattern
-abbrev param : Env → (Syn → Check TyId) → Syn → List Entry → Check (ParamTree × List Entry)
+abbrev pub param : Env → (Syn → Check TyId) → Syn → List Entry → Check (ParamTree × List Entry)
 param env ty_of_param (syn at (ParamOf p ty)) earlier = do
   t ← ty_of_param ty
   items ← the_items
@@ -88,15 +88,15 @@ params_of env ty_of_param (a_syn first rest) earlier = do
 -- ---- bodies
 
 -- at most 2,048 nodes
-abbrev within_limit : Pos → BodyTree → Check BodyTree
+abbrev pub within_limit : Pos → BodyTree → Check BodyTree
 within_limit at body = do
   obeys Rule.T19 at (nat_le (length (numbers_of body)) 2048)
   pure body
 
-abbrev body_of : ℕ → List ParamTree → TyId → Node → BodyTree
+abbrev pub body_of : ℕ → List ParamTree → TyId → Node → BodyTree
 body_of n params answer block = in_text_order (record { number = n; params = params; answer = answer; block = block })
 
-abbrev inside : Env → TyId → List Entry → Env
+abbrev pub inside : Env → TyId → List Entry → Env
 inside env answer entries = with_variables entries (record env { loops = []; answer = answer })
 
 -- the body of a function or a method; it stands before those of its closures
@@ -112,10 +112,10 @@ fn_body env at params answer block = do
 -- ---- closures
 
 -- captures: each a use of a variable outside, which has a name of its own
-abbrev is_captured : Word → List Entry → Bool
+abbrev pub is_captured : Word → List Entry → Bool
 is_captured name entries = is_some (variable entries name)
 
-abbrev capture : Env → ℕ → Syn → List Entry → Check (Node × List Entry)
+abbrev pub capture : Env → ℕ → Syn → List Entry → Check (Node × List Entry)
 capture env k (syn at (Ident name)) earlier = do
   obeys Rule.T01 at (is_captured name env.variables)
   obeys Rule.T02 at (not (is_captured name earlier))
@@ -125,21 +125,21 @@ capture env k (syn at (Ident name)) earlier = do
   pure (n, earlier ++ record { name = name; ty = x.ty; meaning = Capture 0 k } ∷ [])
 capture env k (syn at _) earlier = breaks Rule.T20 at
 
-abbrev captured : Env → ℕ → Syns → List Entry → Check (Nodes × List Entry)
+abbrev pub captured : Env → ℕ → Syns → List Entry → Check (Nodes × List Entry)
 captured env k no_syn earlier = pure (no_node, earlier)
 captured env k (a_syn first rest) earlier = do
   c ← capture env k first earlier
   cs ← captured env (suc k) rest c.1
   pure (a_node c.0 cs.0, cs.1)
 
-abbrev types_of : List Entry → List TyId
+abbrev pub types_of : List Entry → List TyId
 types_of entries = map (λ x. x.ty) entries
 
 -- inside, the captured names are the parts of the closure's value, which is the first parameter
-abbrev inside_closure : Env → List Entry → Env
+abbrev pub inside_closure : Env → List Entry → Env
 inside_closure env captures = with_variables captures (record env { variables = [] })
 
-abbrev closure_body : Env → Pos → ℕ → TyId → List Entry → Syns → MaybeSyn → (Env → Typer) → Check BodyTree
+abbrev pub closure_body : Env → Pos → ℕ → TyId → List Entry → Syns → MaybeSyn → (Env → Typer) → Check BodyTree
 closure_body env at n ty captures params answer block = with_body (λ b. b) (in_new_body do
   self ← name_param at [] ty
   ps ← params_of (inside_closure env captures) (written (all_rules env)) params []

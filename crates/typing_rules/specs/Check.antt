@@ -93,7 +93,7 @@ closure_added captures body =
     )
 
 -- within a body of its own
-abbrev within_body : {A : Type 0} → State → Result (A × State) Broken → Result (A × State) Broken
+abbrev pub within_body : {A : Type 0} → State → Result (A × State) Broken → Result (A × State) Broken
 within_body outer (Ok a) = Ok (a.0, record (a.1) { next_node = outer.next_node; breaks = outer.breaks })
 within_body outer (Err e) = Err e
 
@@ -101,7 +101,7 @@ abbrev pub in_new_body : {A : Type 0} → Check A → Check A
 in_new_body check = λ s. within_body s (check (record s { next_node = 0; breaks = [] }))
 
 -- a body that is whole stands before those of the closures in it
-abbrev put_before : {A : Type 0} → List BodyTree → (A → BodyTree) → Result (A × State) Broken → Result (A × State)
+abbrev pub put_before : {A : Type 0} → List BodyTree → (A → BodyTree) → Result (A × State) Broken → Result (A × State)
     Broken
 put_before earlier body (Ok a) = Ok (a.0, record (a.1) { bodies = earlier ++ body a.0 ∷ a.1.bodies })
 put_before earlier body (Err e) = Err e
@@ -113,7 +113,7 @@ with_body body check = λ s. put_before s.bodies body (check (record s { bodies 
 abbrev pub breaks_out : ℕ → TyId → Check (Unit {0})
 breaks_out loop ty = λ s. Ok (tt, record s { breaks = s.breaks ++ (loop, ty) ∷ [] })
 
-abbrev types_for : ℕ → List (ℕ × TyId) → List TyId
+abbrev pub types_for : ℕ → List (ℕ × TyId) → List TyId
 types_for loop [] = []
 types_for loop (b ∷ bs) = if b.0 == loop then b.1 ∷ types_for loop bs else types_for loop bs
 

@@ -164,7 +164,7 @@ abbrev mutual
   pub callee_of : ItemTable → Env → Syn → Callee
   callee_of items env (syn at form) = callee_by items env form
 
-  callee_by : ItemTable → Env → Shape → Callee
+  pub callee_by : ItemTable → Env → Shape → Callee
   callee_by items env (Parens inside) = callee_of items env inside
   callee_by items env form = callee_form items env form
 

@@ -10,7 +10,7 @@ module _ (f : ℕ → ℕ) where
     pub renumbered : Node → Node
     renumbered (node id at ty by form) = node (f id) at ty by (form_renumbered form)
 
-    form_renumbered : Form → Form
+    pub form_renumbered : Form → Form
     form_renumbered (Number value) = Number value
     form_renumbered (Truth value) = Truth value
     form_renumbered UnitValue = UnitValue
@@ -69,15 +69,15 @@ module _ (f : ℕ → ℕ) where
     form_renumbered (ArrayPattern elements) = ArrayPattern (nodes_renumbered elements)
     form_renumbered (OrPattern alternatives) = OrPattern (nodes_renumbered alternatives)
 
-    nodes_renumbered : Nodes → Nodes
+    pub nodes_renumbered : Nodes → Nodes
     nodes_renumbered no_node = no_node
     nodes_renumbered (a_node first rest) = a_node (renumbered first) (nodes_renumbered rest)
 
-    fields_renumbered : Fields → Fields
+    pub fields_renumbered : Fields → Fields
     fields_renumbered no_field = no_field
     fields_renumbered (a_field number value rest) = a_field number (renumbered value) (fields_renumbered rest)
 
-    maybe_renumbered : MaybeNode → MaybeNode
+    pub maybe_renumbered : MaybeNode → MaybeNode
     maybe_renumbered absent = absent
     maybe_renumbered (present value) = present (renumbered value)
 

@@ -1,6 +1,9 @@
 -- What the checks of expressions promise: what a check gives is well typed in each later state of the walk, wherever a
 -- node may stand in the end whose names and loops are those of the environment.
-use Rattle.std.specs.Prelude.{◌≡◌, ℕ, suc, ◌≤◌, Bool, true, false, not, List, [], ◌∷◌, Option, Some, Result, Ok, Err, IsTrue, Contains, slice_get, is_some}
+use Rattle.std.specs.Prelude.{◌≡◌, ℕ, suc, ◌≤◌, ◌==◌, None, Bool, true, false, not, List, [], ◌∷◌, ◌⊎◌, map, length, Option, Some, Result, Ok, Err, IsTrue, Contains, slice_get, is_some}
+use Rattle.std.specs.List.{list_any}
+use Rattle.mir_ty.specs.declared.adt.Adt.{Adt}
+use Rattle.mir_ty.specs.declared.adt.Variant.{Variant}
 use Rattle.mir_ty.specs.declared.def.ClosureDef.{ClosureDef}
 use Rattle.mir_ty.specs.declared.def.Sig.{Sig}
 use Rattle.mir_ty.specs.declared.def.TraitDef.{TraitDef}
@@ -9,17 +12,20 @@ use Rattle.mir_ty.specs.declared.ty.TyId.{TyId}
 use Rattle.mir_ty.specs.AreItems.{AreDistinct}
 use Rattle.mir_ty.specs.ItemTable.{ItemTable, type_at}
 use Rattle.mir_ty.specs.Parts.{field_ty, held_by, parts_of}
-use Rattle.typed_tree.specs.Tree.{Node}
+use Rattle.typed_tree.specs.Tree.{Node, BodyTree}
 use Rattle.well_typed.specs.Claim.{Holds}
 use Rattle.well_typed.specs.Names.{are_distinct}
 use Rattle.well_typed.specs.Nodes.{typed}
 use Rattle.well_typed.specs.Patterns.{Matched, pattern, names_of, entries_of}
 use Rattle.well_typed.specs.Places.{InScope, LoopAround, Context, entry_with, loop_with, may_move, ty_of, form_of, is_place, Taken, Base}
-use Rattle.well_typed.specs.Types.{fits, inside_of, is_reference, is_unit}
+use Rattle.well_typed.specs.Program.{is_body}
+use Rattle.well_typed.specs.Types.{closure_in, fits, inside_of, is_reference, is_unit, variant_at}
 use Rattle.typing_rules.specs.Check.{Check, State, Broken}
+use Rattle.typing_rules.specs.Named.{is_unit_kind}
 use Rattle.typing_rules.specs.Places.{scalars, agrees, is_fixed, is_shared_root, in_own_guard}
 use Rattle.typing_rules.specs.Rows.{Typer, Expected, Matcher}
-use Rattle.typing_rules.specs.Scope.{Env, Entry, Around, Meaning, Local, Capture, InGuard}
+use Rattle.typing_rules.specs.Scope.{Env, Entry, Around, Meaning, Local, Capture, InGuard, kind_at}
+use Rattle.src_ast.specs.Syntax.{Word, Kind}
 
 -- ---- later states
 
@@ -70,13 +76,30 @@ pub record AreReady (items : ItemTable) : Type 0 where
       slice_get def.methods k ≡ Some sig → IsAlone items sig.result
   pub params : (n : ℕ) (sig : Sig) (ty : TyId) → slice_get items.bodies n ≡ Some sig → Contains sig.params ty →
       IsKnown items ty
-  pub closures : (k : ℕ) (def : ClosureDef) (head : Sig) → slice_get items.closures k ≡ Some def → slice_get
-      items.bodies
-      def.body ≡ Some head → (self : TyId) × (rest : List TyId) × (head.params ≡ self ∷ rest) × (type_at items self ≡
-      Some
-      (Ty.Closure k))
   pub method_params : (n k : ℕ) (def : TraitDef) (sig : Sig) (ty : TyId) → slice_get items.traits n ≡ Some def →
       slice_get def.methods k ≡ Some sig → Contains sig.params ty → IsKnown items ty
+
+-- the head of a closure's body begins with the closure
+abbrev pub AreClosures : ItemTable → Type 0
+AreClosures items =
+    (k : ℕ) (def : ClosureDef) (head : Sig) → slice_get items.closures k ≡ Some def → slice_get items.bodies def.body ≡
+    Some head → (self : TyId) × (rest : List TyId) × (head.params ≡ self ∷ rest) × (type_at items self ≡ Some
+    (Ty.Closure k))
+
+-- a body whose head has its types is well typed
+abbrev pub IsBodyIn : ItemTable → BodyTree → Type 0
+IsBodyIn items body =
+    (head : Sig) → slice_get items.bodies body.number ≡ Some head → head.params ≡ map (λ p. p.ty) body.params →
+    head.result ≡ body.answer → Holds (is_body items body.number head body)
+
+-- a body that is whole: it is well typed among all later items
+abbrev pub IsWhole : ItemTable → BodyTree → Type 0
+IsWhole items body = (later : ItemTable) → Extends items later → AreReady later → AreClosures later → IsBodyIn later
+    body
+
+-- the loops of all breaks so far have numbers that are given out, and what they carry has a type of values
+abbrev pub AreBreaks : State → Type 0
+AreBreaks s = (b : ℕ × TyId) → Contains s.breaks b → (suc b.0 ≤ s.next_node) × IsAlone s.items b.1
 
 -- from a state to a later one
 pub record Grows (s t : State) : Type 0 where
@@ -84,6 +107,8 @@ pub record Grows (s t : State) : Type 0 where
   pub ready : AreReady s.items → AreReady t.items
   pub breaks : (b : ℕ × TyId) → Contains s.breaks b → Contains t.breaks b
   pub numbers : s.next_node ≤ t.next_node
+  pub below : AreBreaks s → AreBreaks t
+  pub made : (body : BodyTree) → Contains t.bodies body → Contains s.bodies body ⊎ IsWhole t.items body
 
 -- ---- what a check gives
 
@@ -133,10 +158,11 @@ abbrev pub IsAround : State → Spot → Around → Type 0
 IsAround w p a = (l : LoopAround) × (loop_with a.loop p.loops ≡ Some l) × (l.loop ≡ a.loop) × (l.has_value ≡
     a.has_value) × Carries w l a.has_value
 
--- a spot whose names and loops are those of an environment
+-- a spot whose names and loops are those of an environment, among items whose closures have their heads
 pub record Stands (env : Env) (w : State) (p : Spot) : Type 0 where
   pub variables : (x : Entry) → Contains env.variables x → Means w.items p x.ty x.meaning
   pub loops : (a : Around) → Contains env.loops a → IsAround w p a
+  pub closures : AreClosures w.items
 
 -- numbers of a body are given out in their order, so those in an environment are below the next
 abbrev pub IsBelow : ℕ → Meaning → Type 0
@@ -144,10 +170,32 @@ IsBelow n (Local key) = suc key ≤ n
 IsBelow n (InGuard key) = suc key ≤ n
 IsBelow n (Capture closure part) = Unit {0}
 
+-- a name without the mark that stands in the names of closures
+abbrev pub is_plain_name : Word → Bool
+is_plain_name name = not (list_any (λ byte. byte == 35) name)
+
+-- What the table of kinds and the names of items say of them: a struct has a variant, what is written without parts has
+-- none, there are as many names as fields, `Self` is there, and the first parameter of a body with a plain name is no
+-- closure.
+pub record KnowsItems (kinds : List (List Kind)) (self_adt : Option ℕ) (items : ItemTable) : Type 0 where
+  pub structs : (n : ℕ) (def : Adt) → slice_get items.adts n ≡ Some def → def.is_enum ≡ false → (v : Variant) ×
+      (variant_at items n 0 ≡ Some v)
+  pub units : (n variant : ℕ) (v : Variant) → variant_at items n variant ≡ Some v → IsTrue (is_unit_kind (kind_at kinds
+      n variant)) → v.fields ≡ []
+  pub named : (n variant : ℕ) (v : Variant) → variant_at items n variant ≡ Some v → length v.field_names ≡ length
+      v.fields
+  pub self : (n : ℕ) → self_adt ≡ Some n → IsTrue (is_some (slice_get items.adts n))
+  pub adts : (n : ℕ) (def : Adt) → slice_get items.adts n ≡ Some def → IsTrue (is_plain_name def.name)
+  pub functions : (body : ℕ) (head : Sig) (self : TyId) (rest : List TyId) → slice_get items.bodies body ≡ Some head →
+      IsTrue (is_plain_name head.name) → head.params ≡ self ∷ rest → (ty : Ty) × (type_at items self ≡ Some ty) ×
+      (closure_in ty ≡ None)
+
 pub record Knows (env : Env) (s : State) : Type 0 where
   pub types : (x : Entry) → Contains env.variables x → IsReady s.items x.ty
   pub keys : (x : Entry) → Contains env.variables x → IsBelow s.next_node x.meaning
   pub loops : (a : Around) → Contains env.loops a → suc a.loop ≤ s.next_node
+  pub breaks : AreBreaks s
+  pub items : KnowsItems env.kinds env.self_adt s.items
 
 -- ---- nodes
 

@@ -52,11 +52,11 @@ abbrev pub with_variables : List Entry → Env → Env
 with_variables new env = record env { variables = joined new env.variables }
 
 -- the loop that a jump leaves: the innermost, or the innermost of that label
-abbrev labelled : Word → Option Word → Bool
+abbrev pub labelled : Word → Option Word → Bool
 labelled name None = false
 labelled name (Some label) = bytes_eq label name
 
-abbrev innermost : List Around → Option Around
+abbrev pub innermost : List Around → Option Around
 innermost [] = None
 innermost (a ∷ around) = Some a
 
@@ -103,7 +103,7 @@ variant_named items adt name =
 abbrev pub field_named : Variant → Word → Option ℕ
 field_named variant name = position_of (bytes_eq name) variant.field_names
 
-abbrev or_unit : Option Kind → Kind
+abbrev pub or_unit : Option Kind → Kind
 or_unit None = Unit_
 or_unit (Some kind) = kind
 

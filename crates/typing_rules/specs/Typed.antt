@@ -23,7 +23,7 @@ use Rattle.typing_rules.specs.Scope.{Env, Entry, variable, with_variables, withi
 use Rattle.src_ast.specs.Syntax.{Word, Syn, syn, Shape, Literal, TruthLiteral, Path, Minus, Bang, Star, Ampersand, Calculate, Compare, Both, Either, Store, CallOf, MethodOf, FieldOf, PartOf, ElementOf, StructOf, FieldInit, Parens, TupleOf, ArrayOf, Braces, IfElse, IfLetElse, MatchOn, ArmOf, LoopOf, WhileOf, WhileLetOf, BreakOf, ContinueOf, ReturnOf, MoveOf, PanicOf, LetOf, Empty, Semi, BindPattern, ParensPattern, Syns, no_syn, a_syn, MaybeSyn, nothing, just}
 use Rattle.typing_rules.specs.Written.{written}
 
-abbrev has_one : Syns → Bool
+abbrev pub has_one : Syns → Bool
 has_one no_syn = false
 has_one (a_syn first rest) = true
 
@@ -35,17 +35,17 @@ makes_unit at (Makes adt variant) want = do
   leaf at ty (tree.Make adt variant tree.no_field) want
 makes_unit at (IsBroken rule) want = breaks rule at
 
-abbrev path_alone : Env → Pos → Option Word → Option Word → Typer
+abbrev pub path_alone : Env → Pos → Option Word → Option Word → Typer
 path_alone env at first second want = do
   items ← the_items
   makes_unit at (path_value items env first second) want
 
 -- the variable of a path that is one name
-abbrev variable_of : Env → Option Word → Option Word → Option Entry
+abbrev pub variable_of : Env → Option Word → Option Word → Option Entry
 variable_of env (Some name) None = variable env.variables name
 variable_of env first second = None
 
-abbrev path_by : Env → Pos → Option Word → Option Word → Option Entry → Typer
+abbrev pub path_by : Env → Pos → Option Word → Option Word → Option Entry → Typer
 path_by env at first second (Some x) want = variable_place at x >>= taken env want
 path_by env at first second None want = path_alone env at first second want
 
@@ -53,13 +53,13 @@ abbrev pub path : Env → Pos → Option Word → Option Word → Typer
 path env at first second = path_by env at first second (variable_of env first second)
 
 -- a variable where a place is gone through
-abbrev variable_base : Env → Pos → Option Word → Option Word → Option Entry → Check Node
+abbrev pub variable_base : Env → Pos → Option Word → Option Word → Option Entry → Check Node
 variable_base env at first second (Some x) = variable_place at x
 variable_base env at first second None = path_alone env at first second None
 
 -- ---- calls
 
-abbrev called_by : Pos → ℕ → Check Node → (List TyId → Check Nodes) → Callee → Typer
+abbrev pub called_by : Pos → ℕ → Check Node → (List TyId → Check Nodes) → Callee → Typer
 called_by at count callee args (Function body is_drop head) =
     rows.call at (tree.Call body) head.result count head.params args (not is_drop)
 called_by at count callee args (Constructor adt variant types) = λ want. do
@@ -74,39 +74,39 @@ called_by at count callee args AValue = rows.closure_call at count callee args
 called_by at count callee args (Unnamed rule) = λ want. breaks rule at
 called_by at count callee args NoCallee = rows.no_call at Rule.T13 args
 
-abbrev called : Env → Pos → Syn → ℕ → Check Node → (List TyId → Check Nodes) → Typer
+abbrev pub called : Env → Pos → Syn → ℕ → Check Node → (List TyId → Check Nodes) → Typer
 called env at callee count value args want = do
   items ← the_items
   called_by at count value args (callee_of items env callee) want
 
 -- ---- literals
 
-abbrev is_plain_number : Shape → Bool
+abbrev pub is_plain_number : Shape → Bool
 is_plain_number (Literal value None) = true
 is_plain_number _ = false
 
 -- a number without a suffix, with a `-` before it or not, in parentheses or not
 abbrev mutual
-  is_plain : Syn → Bool
+  pub is_plain : Syn → Bool
   is_plain (syn at form) = is_plain_form form
 
-  is_plain_form : Shape → Bool
+  pub is_plain_form : Shape → Bool
   is_plain_form (Parens inside) = is_plain inside
   is_plain_form (Minus (syn at form)) = is_plain_number form
   is_plain_form form = is_plain_number form
 
-abbrev literal_in : Syn → Option (ℕ × Option IntKind)
+abbrev pub literal_in : Syn → Option (ℕ × Option IntKind)
 literal_in (syn at (Literal value suffix)) = Some (value, suffix)
 literal_in _ = None
 
 -- a `-` directly before a number belongs to it
-abbrev minus : Pos → Option (ℕ × Option IntKind) → Typer → Typer
+abbrev pub minus : Pos → Option (ℕ × Option IntKind) → Typer → Typer
 minus at (Some n) operand = rows.literal at true n.0 n.1
 minus at None operand = rows.negate at operand
 
 -- ---- references
 
-abbrev passed : Pos → Typer → Option Entry → Referrer
+abbrev pub passed : Pos → Typer → Option Entry → Referrer
 passed at by_value None want is_unique to = by_value (Some want)
 passed at by_value (Some x) want is_unique to = do
   items ← the_items
@@ -128,62 +128,62 @@ abbrev mutual
   is_one_name_form items (ParensPattern inside) = is_one_name items inside
   is_one_name_form items _ = false
 
-abbrev declared : Env → MaybeSyn → Check (Option TyId)
+abbrev pub declared : Env → MaybeSyn → Check (Option TyId)
 declared env nothing = pure None
 declared env (just ty) = Some <$> written (all_rules env) ty
 
-abbrev field_want : Variant → Option ℕ → Option TyId
+abbrev pub field_want : Variant → Option ℕ → Option TyId
 field_want v number = option_and_then (λ k. slice_get v.fields k) number
 
-abbrev no_variant : Variant
+abbrev pub no_variant : Variant
 no_variant = record { name = []; fields = []; field_names = [] }
 
-abbrev variant_of : ItemTable → Target → Variant
+abbrev pub variant_of : ItemTable → Target → Variant
 variant_of items t = option_map_or (λ v. v) (variant_at items t.adt t.variant) no_variant
 
-abbrev or_zero : Option ℕ → ℕ
+abbrev pub or_zero : Option ℕ → ℕ
 or_zero None = 0
 or_zero (Some k) = k
 
-abbrev struct_of : Env → Pos → Option Word → Option Word → (Variant → Check (Fields × Given)) → Typer
+abbrev pub struct_of : Env → Pos → Option Word → Option Word → (Variant → Check (Fields × Given)) → Typer
 struct_of env at first second inits want = do
   items ← the_items
   t ← known Rule.T01 at (target_of items env first second)
   rows.struct_row at t.adt t.variant (variant_of items t).fields (inits (variant_of items t)) want
 
-abbrev matcher : Env → Syn → rows.Matcher
+abbrev pub matcher : Env → Syn → rows.Matcher
 matcher env p e ty = pattern env e ty p []
 
 -- the first of some wants, and the others
-abbrev first_want : List (Option TyId) → Option TyId
+abbrev pub first_want : List (Option TyId) → Option TyId
 first_want [] = None
 first_want (w ∷ ws) = w
 
-abbrev other_wants : List (Option TyId) → List (Option TyId)
+abbrev pub other_wants : List (Option TyId) → List (Option TyId)
 other_wants [] = []
 other_wants (w ∷ ws) = ws
 
-abbrev part_ty : Option TyId → Node → TyId
+abbrev pub part_ty : Option TyId → Node → TyId
 part_ty None n = ty_of n
 part_ty (Some ty) n = ty
 
-abbrev a_statement : Node × Bool × Env → Option Node × Bool × Env
+abbrev pub a_statement : Node × Bool × Env → Option Node × Bool × Env
 a_statement n = (Some n.0, n.1, n.2)
 
-abbrev with_statement : Option Node → Nodes → Nodes
+abbrev pub with_statement : Option Node → Nodes → Nodes
 with_statement None ns = ns
 with_statement (Some n) ns = a_node n ns
 
-abbrev tuple : Pos → Syns → (List (Option TyId) → Check (Nodes × List TyId)) → Typer
+abbrev pub tuple : Pos → Syns → (List (Option TyId) → Check (Nodes × List TyId)) → Typer
 tuple at no_syn parts = leaf at unit tree.UnitValue
 tuple at (a_syn first rest) parts = rows.tuple_row at (suc (count_of rest)) parts
 
 -- A name of a variable, a field, an element, a dereference and such an expression in parentheses are places.
 abbrev mutual
-  is_place_syn : Env → Syn → Bool
+  pub is_place_syn : Env → Syn → Bool
   is_place_syn env (syn at form) = is_place env form
 
-  is_place : Env → Shape → Bool
+  pub is_place : Env → Shape → Bool
   is_place env (Path first second) = is_some (variable_of env first second)
   is_place env (FieldOf base name) = true
   is_place env (PartOf base k) = true
@@ -193,13 +193,13 @@ abbrev mutual
   is_place env _ = false
 
 -- what may be an argument for a reference: `&e`, and a reference variable
-abbrev may_refer : Shape → Bool
+abbrev pub may_refer : Shape → Bool
 may_refer (Ampersand unique base) = true
 may_refer (Path first second) = true
 may_refer (Parens inside) = true
 may_refer _ = false
 
-abbrev is_expression : Shape → Bool
+abbrev pub is_expression : Shape → Bool
 is_expression (LetOf p ty v) = false
 is_expression (Semi e) = false
 is_expression Empty = false
@@ -272,26 +272,26 @@ abbrev mutual
   value env at PanicOf = leaf at never tree.Panic
   value env at form = λ want. breaks Rule.T20 at
 
-  typed_maybe : Env → MaybeSyn → Option TyId → Check MaybeNode
+  pub typed_maybe : Env → MaybeSyn → Option TyId → Check MaybeNode
   typed_maybe env nothing want = pure absent
   typed_maybe env (just e) want = present <$> typed env e want
 
   -- statements, whether one of them has an expression or initialiser of type `!`, and where the rest of the block
   -- stands
-  typed_all : Env → Syns → Check (Nodes × Bool × Env)
+  pub typed_all : Env → Syns → Check (Nodes × Bool × Env)
   typed_all env no_syn = pure (no_node, false, env)
   typed_all env (a_syn first rest) = do
     n ← statement env first
     ns ← typed_all n.2 rest
     pure (with_statement n.0 ns.0, n.1 || ns.1, ns.2)
 
-  statement : Env → Syn → Check (Option Node × Bool × Env)
+  pub statement : Env → Syn → Check (Option Node × Bool × Env)
   statement env (syn at form) =
       if is_expression form then a_statement <$> rows.evaluate at env false (λ want. if is_place env form then place
       env at form >>= taken env want else value env at form want)
       else other_statement env at form
 
-  other_statement : Env → Pos → Shape → Check (Option Node × Bool × Env)
+  pub other_statement : Env → Pos → Shape → Check (Option Node × Bool × Env)
   other_statement env at (LetOf p ty initialiser) = do
     items ← the_items
     n ← rows.let_row at env (is_one_name items p) (declared env ty) (initialised env (is_one_name items p)
@@ -301,16 +301,16 @@ abbrev mutual
   other_statement env at _ = pure (None, false, env)
 
   -- one name takes the value; another pattern takes the place apart, or a temporary
-  initialised : Env → Bool → MaybeSyn → Option TyId → Check MaybeNode
+  pub initialised : Env → Bool → MaybeSyn → Option TyId → Check MaybeNode
   initialised env is_one_name nothing want = pure absent
   initialised env is_one_name (just e) want =
       present <$> (if is_one_name then typed env e want else for_parts env want e)
 
-  for_parts : Env → Option TyId → Syn → Check Node
+  pub for_parts : Env → Option TyId → Syn → Check Node
   for_parts env want (syn at form) =
       if is_place env form then place env at form >>= rows.place_for_parts env want else value env at form want
 
-  typed_args : Env → List TyId → Syns → Check Nodes
+  pub typed_args : Env → List TyId → Syns → Check Nodes
   typed_args env params no_syn = pure no_node
   typed_args env [] (a_syn e es) = do
     n ← typed env e None
@@ -321,18 +321,18 @@ abbrev mutual
     ns ← typed_args env params es
     pure (a_node n ns)
 
-  by_reference : Env → Syn → Referrer
+  pub by_reference : Env → Syn → Referrer
   by_reference env (syn at form) want is_unique to =
       if may_refer form then reference_form env at form want is_unique to
       else (if is_place env form then place env at form >>= taken env (Some want) else value env at form (Some want))
 
-  reference_form : Env → Pos → Shape → Referrer
+  pub reference_form : Env → Pos → Shape → Referrer
   reference_form env at (Ampersand unique base) = rows.borrow at unique (base_of env base)
   reference_form env at (Path first second) = passed at (path env at first second) (variable_of env first second)
   reference_form env at (Parens inside) = by_reference env inside
   reference_form env at _ = λ want is_unique to. breaks Rule.T20 at
 
-  typed_inits : Env → Variant → Syns → Check (Fields × Given)
+  pub typed_inits : Env → Variant → Syns → Check (Fields × Given)
   typed_inits env v no_syn = pure (tree.no_field, [])
   typed_inits env v (a_syn (syn at (FieldInit name init)) rest) = do
     n ← init_value env at name init (field_want v (field_named v name))
@@ -340,25 +340,25 @@ abbrev mutual
     pure (tree.a_field (or_zero (field_named v name)) n fs.0, field_named v name ∷ fs.1)
   typed_inits env v (a_syn (syn at form) rest) = breaks Rule.T20 at
 
-  init_value : Env → Pos → Word → MaybeSyn → Typer
+  pub init_value : Env → Pos → Word → MaybeSyn → Typer
   init_value env at name nothing = path env at (Some name) None
   init_value env at name (just e) = typed env e
 
-  typed_parts : Env → List (Option TyId) → Syns → Check (Nodes × List TyId)
+  pub typed_parts : Env → List (Option TyId) → Syns → Check (Nodes × List TyId)
   typed_parts env wants no_syn = pure (no_node, [])
   typed_parts env wants (a_syn e es) = do
     n ← typed env e (first_want wants)
     ns ← typed_parts env (other_wants wants) es
     pure (a_node n ns.0, part_ty (first_want wants) n ∷ ns.1)
 
-  typed_elements : Env → Option TyId → Syns → Check (Nodes × List TyId)
+  pub typed_elements : Env → Option TyId → Syns → Check (Nodes × List TyId)
   typed_elements env want no_syn = pure (no_node, [])
   typed_elements env want (a_syn e es) = do
     n ← typed env e want
     ns ← typed_elements env want es
     pure (a_node n ns.0, ty_of n ∷ ns.1)
 
-  typed_arms : Env → Expected → TyId → Option TyId → Syns → Check (Nodes × List TyId)
+  pub typed_arms : Env → Expected → TyId → Option TyId → Syns → Check (Nodes × List TyId)
   typed_arms env e ty want no_syn = pure (no_node, [])
   typed_arms env e ty want (a_syn (syn at (ArmOf p guard body)) rest) = do
     n ← rows.arm (pattern env e ty p []) (λ xs. typed_maybe (with_variables (in_guard xs) env) guard (Some bool)) (λ

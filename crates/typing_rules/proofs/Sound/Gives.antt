@@ -1,11 +1,17 @@
 -- Rules for what a check gives, one a step of a row.
-use Rattle.std.proofs.Common.{◌≡◌, ℕ, suc, ◌≤◌, Bool, true, false, Option, Some, None, Result, Ok, Err, IsTrue, refl, arith}
+use Rattle.std.proofs.Common.{◌≡◌, ℕ, suc, ◌≤◌, Bool, true, false, Option, Some, None, Result, Ok, Err, IsTrue, Contains, ◌⊎◌, inl, inr, slice_get, List, refl, ap, sym, subst, ◌∙◌, arith}
+use Rattle.std.specs.Prelude.{is_some, option_and_then}
 use Rattle.mir_base.specs.declared.place_in_text.Pos.{Pos}
 use Rattle.mir_base.specs.declared.rule.Rule.{Rule}
 use Rattle.typing_rules.specs.Check.{Check, State, Broken, and_then, obeys, known, breaks}
-use Rattle.typing_rules.specs.Promises.{AreReady, Grows, Then, Fact, Gives, Knows, IsBelow}
+use Rattle.mir_ty.specs.declared.adt.Adt.{Adt}
+use Rattle.mir_ty.specs.ItemTable.{ItemTable}
+use Rattle.well_typed.specs.Types.{variant_at}
+use Rattle.src_ast.specs.Syntax.{Kind}
+use Rattle.typed_tree.specs.Tree.{BodyTree}
+use Rattle.typing_rules.specs.Promises.{Extends, AreReady, Grows, IsWhole, Then, Fact, Gives, Knows, KnowsItems, IsBelow}
 use Rattle.typing_rules.specs.Scope.{Env, Meaning, Local, Capture, InGuard}
-use Rattle.typing_rules.proofs.Sound.Later.{extends_refl, extends_trans, ready_later}
+use Rattle.typing_rules.proofs.Sound.Later.{extends_refl, extends_trans, ready_later, type_later}
 
 -- parts of a claim, one after another
 infixr 5 ◌⋆◌
@@ -13,15 +19,37 @@ pub ◌⋆◌ : {A B : Type 0} → A → B → A × B
 a ⋆ b = (a, b)
 
 pub grows_refl : (s : State) → Grows s s
-grows_refl s = record { items = extends_refl s.items; ready = λ h. h; breaks = λ b h. h; numbers = omega arith }
+grows_refl s = record {
+  items = extends_refl s.items;
+  ready = λ h. h;
+  breaks = λ b h. h;
+  numbers = omega arith;
+  below = λ h. h;
+  made = λ b h. inl h;
+}
+
+pub whole_later : {old new : ItemTable} (body : BodyTree) → Extends old new → IsWhole old body → IsWhole new body
+whole_later body e whole later f ready heads = whole later (extends_trans e f) ready heads
 
 pub grows_trans : {s t u : State} → Grows s t → Grows t u → Grows s u
-grows_trans p q = record {
+grows_trans {s} {t} {u} p q = record {
   items = extends_trans p.items q.items;
   ready = λ h. q.ready (p.ready h);
   breaks = λ b h. q.breaks b (p.breaks b h);
   numbers = omega (arith, p.numbers, q.numbers);
+  below = λ h. q.below (p.below h);
+  made = λ body h. later body (q.made body h);
 }
+  where
+    earlier : (body : BodyTree) → Contains s.bodies body ⊎ IsWhole t.items body → Contains s.bodies body ⊎ IsWhole
+        u.items body
+    earlier body (inl was) = inl was
+    earlier body (inr whole) = inr (whole_later body q.items whole)
+
+    later : (body : BodyTree) → Contains t.bodies body ⊎ IsWhole u.items body → Contains s.bodies body ⊎ IsWhole u.items
+        body
+    later body (inl was) = earlier body (p.made body was)
+    later body (inr whole) = inr whole
 
 pub then_map : {A : Type 0} {P R : A → State → Type 0} (r : Result (A × State) Broken) → Then r P → ((a : A) (t :
     State) → P a t → R a t) → Then r R
@@ -69,7 +97,14 @@ abbrev pub numbered : State → State
 numbered s = record s { next_node = suc s.next_node }
 
 pub grows_number : (s : State) → Grows s (numbered s)
-grows_number s = record { items = extends_refl s.items; ready = λ h. h; breaks = λ b h. h; numbers = omega arith }
+grows_number s = record {
+  items = extends_refl s.items;
+  ready = λ h. h;
+  breaks = λ b h. h;
+  numbers = omega arith;
+  below = λ h b has. let is = h b has in let less = is.0 in (omega (arith, less), is.1);
+  made = λ body h. inl h;
+}
 
 pub after_number : {B : Type 0} {s : State} {R : Fact B} {r : Result (B × State) Broken} → Gives (numbered s) R r →
     Gives s R r
@@ -93,11 +128,34 @@ below_later n m (Local key) le h = omega (arith, le, h)
 below_later n m (InGuard key) le h = omega (arith, le, h)
 below_later n m (Capture closure part) le h = tt
 
+variants_same : {old new : ItemTable} → Extends old new → (n variant : ℕ) → variant_at old n variant ≡ variant_at new n
+    variant
+variants_same e n variant =
+    ap (λ adts. option_and_then (λ (def : Adt). slice_get def.variants variant) (slice_get adts n)) (sym e.adts)
+
+adts_same : {old new : ItemTable} → Extends old new → (n : ℕ) → slice_get old.adts n ≡ slice_get new.adts n
+adts_same e n = ap (λ adts. slice_get adts n) (sym e.adts)
+
+pub items_later : {old new : ItemTable} {kinds : List (List Kind)} {self_adt : Option ℕ} → Extends old new → KnowsItems
+    kinds self_adt old → KnowsItems kinds self_adt new
+items_later e k = record {
+  structs = λ n def at is. let v = k.structs n def (adts_same e n ∙ at) is in (v.0, sym (variants_same e n 0) ∙ v.1);
+  units = λ n variant v at is. k.units n variant v (variants_same e n variant ∙ at) is;
+  named = λ n variant v at. k.named n variant v (variants_same e n variant ∙ at);
+  self = λ n is. subst (λ o. IsTrue (is_some o)) (adts_same e n) (k.self n is);
+  adts = λ n def at. k.adts n def (adts_same e n ∙ at);
+  functions = λ body head self rest at plain is.
+      let f = k.functions body head self rest (ap (λ bodies. slice_get bodies body) (sym e.bodies) ∙ at) plain is in
+      (f.0, type_later e self f.0 f.1, f.2);
+}
+
 pub knows_later : (env : Env) {s t : State} → Grows s t → Knows env s → Knows env t
 knows_later env {s} {t} g k = record {
   types = λ x has. ready_later g.items x.ty (k.types x has);
   keys = λ x has. below_later s.next_node t.next_node x.meaning g.numbers (k.keys x has);
   loops = λ a has. omega (arith, g.numbers, k.loops a has);
+  breaks = g.below k.breaks;
+  items = items_later g.items k.items;
 }
 
 pub knows_number : (env : Env) {s : State} → Knows env s → Knows env (numbered s)

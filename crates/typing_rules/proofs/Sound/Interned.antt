@@ -176,9 +176,6 @@ module _ (items : ItemTable) (ty : Ty) where
           results = λ n sig h. alone_later more_types sig.result (all.results n sig h);
           methods = λ n k def sig h g. alone_later more_types sig.result (all.methods n k def sig h g);
           params = λ n sig t h has. known_later more_types t (all.params n sig t h has);
-          closures = λ k def head at is.
-              let begins = all.closures k def head at is in
-              (begins.0, begins.1, begins.2, type_later more_types begins.0 (Ty.Closure k) begins.3);
           method_params = λ n k def sig t h g has. known_later more_types t (all.method_params n k def sig t h g has);
         }
 
@@ -197,6 +194,8 @@ interned_sound ty s made = by (position_of (is_equal ty) s.items.types) refl
               ready = λ same. ready_more s.items ty same made (not_there ty s.items.types is);
               breaks = λ b h. h;
               numbers = omega arith;
+              below = λ h b has. let is = h b has in (is.0, alone_later (more_types s.items ty) b.1 is.1);
+              made = λ body h. inl h;
             },
             λ w g. type_later g.items (ty_no (length s.items.types)) ty (slice_get-last s.items.types ty),
           );

@@ -2,6 +2,7 @@
 use Rattle.std.proofs.Common.{◌≡◌, ℕ, suc, ◌≤◌, Bool, true, false, ◌||◌, ◌==◌, if◌then◌else◌, List, [], ◌∷◌, ◌++◌, length, Option, Some, None, IsTrue, Contains, ◌⊎◌, inl, inr, refl, ap, sym, subst, ◌∙◌, arith}
 use Rattle.std.specs.List.{find}
 use Rattle.std.specs.Option.{option_map_or}
+use Rattle.std.proofs.lemmas.List.Elements.{Contains-append_cases}
 use Rattle.std.proofs.lemmas.Bool.{eqb-true, false≢true, true≢false}
 use Rattle.mir_base.specs.declared.place_in_text.Pos.{Pos}
 use Rattle.mir_base.specs.declared.rule.Rule.{Rule}
@@ -17,14 +18,14 @@ use Rattle.well_typed.specs.Places.{LoopAround, ty_of}
 use Rattle.well_typed.specs.Types.{fits, is_same, is_never, is_never_ty, is_unit, is_unit_ty}
 use Rattle.typing_rules.specs.Check.{Check, State, breaks_out}
 use Rattle.typing_rules.specs.Places.{unit, bool, never}
-use Rattle.typing_rules.specs.Promises.{AreReady, Grows, Gives, Spot, at_spot, Means, Carries, IsAround, Stands, Knows, Sound, SoundTemporary}
+use Rattle.typing_rules.specs.Promises.{IsAlone, AreReady, AreBreaks, Grows, Gives, Spot, at_spot, Means, Carries, IsAround, Stands, Knows, Sound, SoundTemporary}
 use Rattle.typing_rules.specs.RowPromises.{IsLoopOf, IsMaybe, SoundMaybe}
 use Rattle.typing_rules.specs.Rows.{Typer, continue_row, return_row, break_row, while_row, loop_around, carried, ty_carried, may_carry, is_some_node}
 use Rattle.typing_rules.specs.Scope.{Env, Around, Meaning, Local, Capture, InGuard, within_loop}
 use Rattle.src_ast.specs.Syntax.{Word}
 use Rattle.typing_rules.proofs.Sound.Branches.{unit_is, unit_fits, bool_fits}
 use Rattle.typing_rules.proofs.Sound.Fitted.{settled_ends, same_self}
-use Rattle.typing_rules.proofs.Sound.Gives.{◌⋆◌, bind, obeyed, found, after_number, numbered, grows_trans, knows_later, knows_number}
+use Rattle.typing_rules.proofs.Sound.Gives.{◌⋆◌, bind, with_ready, obeyed, found, after_number, numbered, grows_refl, grows_trans, knows_later, knows_number}
 use Rattle.typing_rules.proofs.Sound.Later.{extends_refl, is_later}
 use Rattle.typing_rules.proofs.Sound.Operators.{unit_ready, never_ready, never_is, or_cases, same_id, as_wanted}
 use Rattle.typing_rules.proofs.Sound.Places.{contains_cases}
@@ -69,17 +70,16 @@ return_sound env at value good want s k =
 
 -- ---- breaks
 
-contains_left : {A : Type 0} (xs ys : List A) (x : A) → Contains xs x → Contains (xs ++ ys) x
+pub contains_left : {A : Type 0} (xs ys : List A) (x : A) → Contains xs x → Contains (xs ++ ys) x
 contains_left xs ys x h =
     Contains-slice_get (xs ++ ys) h.0 x (slice_get-append_left xs ys h.0 x (slice_get-Contains xs x h))
 
 contains_last : {A : Type 0} (xs : List A) (x : A) → Contains (xs ++ x ∷ []) x
 contains_last xs x = Contains-slice_get (xs ++ x ∷ []) (length xs) x (slice_get-last xs x)
 
-breaks_out_sound : (loop : ℕ) (ty : TyId) (s : State) → Gives s (λ w u. Contains w.breaks (loop, ty)) (breaks_out loop
-    ty
-    s)
-breaks_out_sound loop ty s =
+breaks_out_sound : (loop : ℕ) (ty : TyId) (s : State) → suc loop ≤ s.next_node → IsAlone s.items ty → Gives s (λ w u. Contains w.breaks
+    (loop, ty)) (breaks_out loop ty s)
+breaks_out_sound loop ty s less alone =
     record {
       so = λ ready. (
         record {
@@ -87,10 +87,21 @@ breaks_out_sound loop ty s =
           ready = λ h. h;
           breaks = λ b h. contains_left s.breaks ((loop, ty) ∷ []) b h;
           numbers = omega arith;
+          below = λ h b has. by h b (Contains-append_cases s.breaks ((loop, ty) ∷ []) b has);
+          made = λ body h. inl h;
         },
         λ w g. g.breaks (loop, ty) (contains_last s.breaks (loop, ty)),
       );
     }
+  where
+    last : (b : ℕ × TyId) → ((loop, ty) ≡ b) ⊎ Contains [] b → (suc b.0 ≤ s.next_node) × IsAlone s.items b.1
+    last b (inl same) = subst (λ (x : ℕ × TyId). (suc x.0 ≤ s.next_node) × IsAlone s.items x.1) same (less, alone)
+    last b (inr none) = absurd (omega (arith, none.1))
+
+    by : AreBreaks s → (b : ℕ × TyId) → Contains s.breaks b ⊎ Contains ((loop, ty) ∷ []) b → (suc b.0 ≤ s.next_node) ×
+        IsAlone s.items b.1
+    by h b (inl was) = h b was
+    by h b (inr new_) = last b (contains_cases (loop, ty) [] b new_)
 
 unit_no_never : (items : ItemTable) → AreReady items → is_never items unit ≡ false
 unit_no_never items ready = ap (λ o. option_map_or is_never_ty o false) (ready.begins 0 Ty.Unit refl)
@@ -119,6 +130,11 @@ carries_out env w a (present n) p ready stands is may has l same value true e fi
 carries_out env w a (present n) p ready stands is may has l same value false e fit_ =
     absurd (false≢true (sym e ∙ may))
 
+carried_alone : (env : Env) (want : Option TyId) (t : State) (v : MaybeNode) → AreReady t.items → IsMaybe env want t v → IsAlone
+    t.items (ty_carried v)
+carried_alone env want t absent all is = unit_ready t.items all
+carried_alone env want t (present n) all is = is.alone
+
 pub break_sound : (env : Env) (at : Pos) (to : Option Around) (value : Option TyId → Check MaybeNode) → IsLoopOf env
     to →
     SoundMaybe env value → SoundTemporary env (break_row at to value)
@@ -126,7 +142,11 @@ break_sound env at to value is good want s k =
     after_number (bind (good (carried to) (numbered s) (knows_number env k)) λ v t g d.
     found Rule.T06 at to _ λ a e.
     obeyed Rule.T06 at (may_carry v a) _ λ may.
-    bind (breaks_out_sound a.loop (ty_carried v) t) λ _ u h f.
+    with_ready λ all. bind (breaks_out_sound a.loop (ty_carried v) t (let less = k.loops a (is a e) in omega (
+      arith,
+      g.numbers,
+      less,
+    )) (carried_alone env (carried to) t v all (d t (grows_refl t)))) λ _ u h f.
     settled_ends env want u s.next_node at never (tree.Break a.loop v) refl (λ w p. refl) λ w ready l. (
       never_ready w.items ready,
       λ p stands.
@@ -160,6 +180,7 @@ loop_stands env s w p a l k fresh same value carry stands =
       variables = λ x has. means x.ty x.meaning (stands.variables x has);
       loops = λ b has. by b (contains_cases
           a env.loops b has);
+      closures = stands.closures;
     }
   where
     means : (ty : TyId) (m : Meaning) → Means w.items p ty m → Means w.items (in_loop l p) ty m
@@ -193,7 +214,13 @@ loop_stands env s w p a l k fresh same value carry stands =
 pub knows_loop : (env : Env) (s : State) (a : Around) → Knows env s → suc a.loop ≤ s.next_node → Knows (within_loop a
     env) s
 knows_loop env s a k below =
-    record { types = k.types; keys = k.keys; loops = λ b has. by b (contains_cases a env.loops b has) }
+    record {
+      types = k.types;
+      keys = k.keys;
+      loops = λ b has. by b (contains_cases a env.loops b has);
+      breaks = k.breaks;
+      items = k.items;
+    }
   where
     by : (b : Around) → (a ≡ b) ⊎ Contains env.loops b → suc b.loop ≤ s.next_node
     by b (inl e) = subst (λ (x : Around). suc x.loop ≤ s.next_node) e below

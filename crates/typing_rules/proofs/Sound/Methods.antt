@@ -24,7 +24,7 @@ use Rattle.well_typed.specs.Types.{closure_of, closure_in, fits, is_same, is_ref
 use Rattle.well_typed.proofs.ClaimLemmas.{and_true}
 use Rattle.typing_rules.specs.Check.{Check, State, Broken, and_then, breaks, ◌>>◌, pure}
 use Rattle.typing_rules.specs.Places.{a_node_of, is_behind_shared, is_fixed, in_own_guard, place_in_text}
-use Rattle.typing_rules.specs.Promises.{IsAlone, IsKnown, AreReady, Grows, Fact, Gives, Spot, at_spot, Stands, Knows, IsValue, IsTemporary, IsBase, SoundBase, SoundTemporary}
+use Rattle.typing_rules.specs.Promises.{IsAlone, IsKnown, AreReady, AreClosures, Grows, Fact, Gives, Spot, at_spot, Stands, Knows, IsValue, IsTemporary, IsBase, SoundBase, SoundTemporary}
 use Rattle.typing_rules.specs.RowPromises.{IsArgument, AreGiven, SoundArgs, FindsMethods, IsMethodOf, of_adt, of_trait, IsPlainType}
 use Rattle.typing_rules.specs.Rows.{Method, OfAdt, OfTrait, head_of, is_drop_method, method_form, received, received_by, taking, taken, is_unique_borrow, with_self, with_method, takes_self, method_call, with_closure, closure_call}
 use Rattle.typing_rules.specs.Scope.{Env, method_of}
@@ -212,22 +212,22 @@ apart_by s own self params all e kind takes other rest k is closure =
         let h : IsTrue false = subst (λ o. IsTrue (option_map_or (λ (r : Bool × TyId). is_same r.1 own) (option_and_then
         reference_in o) false)) at_self refers in cc
 
-method_row : (s w : State) (c : Context) → AreReady s.items → c.items ≡ w.items → Grows s w → (own : TyId) (m :
+method_row : (s w : State) (c : Context) → AreReady s.items → AreClosures w.items → c.items ≡ w.items → Grows s w → (own : TyId) (m :
     Method) → IsMethodOf s
     own m → IsApart s (head_of m).params →
     IsTrue (not (is_drop_method m)) → (id : ℕ) (receiver : Node) (args : Nodes) → Holds (first_and_rest (λ t. typed c
     (Passed t) receiver) (λ ts. arguments c ts args) (head_of m).params) → Holds (row c id (head_of m).result
     (method_form m
     receiver args))
-method_row s w c all same g own _ (of_adt {body} {is_drop} {head} is drop_is) apart no_drop id receiver args h =
+method_row s w c all heads same g own _ (of_adt {body} {is_drop} {head} is drop_is) apart no_drop id receiver args h =
     subst (λ o. Holds (some o (λ (sig : Sig). both (fact (is_same head.result sig.result)) (first_and_rest (λ t. typed c
     (Passed t) receiver) (λ ts. arguments c ts args) sig.params)))) (sym (ap (λ (items : ItemTable). slice_get
     items.bodies
     body) same ∙ (ap (λ bodies. slice_get bodies body) g.items.bodies ∙ is))) (same_self head.result.0 ⋆ h) ⋆
     subst (λ (items : ItemTable). IsTrue (not (is_drop_body items body) && not (is_closure_body items body))) (sym same)
     (and_true (not (is_drop_body w.items body)) _ (subst (λ b. IsTrue (not b)) (drop_is ∙ sym (drop_later g.items body))
-    no_drop) (no_closure all g body head (is, apart)))
-method_row s w c all same g own _ (of_trait {trait_no} {method} {head} def at is) apart no_drop id receiver args h =
+    no_drop) (no_closure all g heads body head (is, apart)))
+method_row s w c all heads same g own _ (of_trait {trait_no} {method} {head} def at is) apart no_drop id receiver args h =
     subst (λ o. Holds (some o (λ (d : TraitDef). some (slice_get d.methods method) (λ (sig : Sig). both (fact (is_same
     head.result sig.result)) (first_and_rest (λ t. typed c (Passed t) receiver) (λ ts. arguments c ts args)
     sig.params)))))
@@ -274,7 +274,7 @@ with_self_sound env at id base m count args want (self ∷ params) s k is plain 
     let args_ = f w (grows_trans i l) in (
       alone_later on.items (head_of m).result (method_alone s all (ty_of base) m method),
       λ p stands.
-          method_row s w (at_spot w.items env.answer p) all refl on (ty_of base) m method (apart_by s (ty_of base)
+          method_row s w (at_spot w.items env.answer p) all stands.closures refl on (ty_of base) m method (apart_by s (ty_of base)
           self params (head_of m).params e kind takes) no_drop id receiver given_
           (subst (λ tys. Holds (first_and_rest (λ t. typed (at_spot w.items env.answer p) (Passed t) receiver) (λ ts.
           arguments
@@ -360,12 +360,8 @@ called_sound : (env : Env) (at : Pos) (id : ℕ) (c : Node) (count : ℕ) (args 
     id c
     count args want def.body (Some head) t)
 called_sound env at id c count args want k def head t knows is all of at_k body good =
-    let begins = all.closures k def head at_k body in
-    let number = all.distinct (ty_of c).0 begins.0.0 (Ty.Closure k) of begins.3 in
-    let same : ty_of c ≡ begins.0 = λ i. record { 0 = number i } in
-    bind (good (drop 1 head.params) t knows (λ ty has. all.params def.body head ty body (behind begins.0 begins.1 ty
-    begins.2
-    has))) λ ns u g d.
+    bind (good (drop 1 head.params) t knows (λ ty has. all.params def.body head ty body (behind head.params ty has))) λ
+    ns u g d.
     bind (fitted_gives env want (a_node_of id at head.result (tree.ClosureCall def.body c ns)) u refl) λ n v h e.
     obeyed Rule.T04 at (count == length (drop 1 head.params)) _ λ counted.
     passed_ends env want v id at head.result (tree.ClosureCall def.body c ns) n refl (λ w p. refl) e λ w ready l.
@@ -374,14 +370,17 @@ called_sound env at id c count args want k def head t knows is all of at_k body 
     let value = is w on in (
       alone_later on.items head.result (all.results def.body head body),
       λ p stands.
+          let at_w = on.items.closures k def at_k in
+          let body_w : slice_get w.items.bodies def.body ≡ Some head = ap (λ bodies. slice_get bodies def.body)
+          on.items.bodies ∙ body in
+          let begins = stands.closures k def head at_w body_w in
+          let number = ready.distinct (ty_of c).0 begins.0.0 (Ty.Closure k) (type_later on.items (ty_of c) (Ty.Closure
+          k) of) begins.3 in
+          let same : ty_of c ≡ begins.0 = λ i. record { 0 = number i } in
           subst (λ o. Holds (some o (λ (sig : Sig). both (fact (is_same head.result sig.result)) (first_and_rest (λ x.
-          typed (at_spot
-          w.items env.answer p) (Passed x) c) (λ ts. arguments (at_spot w.items env.answer p) ts ns) sig.params))))
-          (sym (ap (λ
-          bodies. slice_get bodies def.body) on.items.bodies ∙ body)) (same_self head.result.0 ⋆ subst (λ tys. Holds
-          (first_and_rest
-          (λ x. typed (at_spot w.items env.answer p) (Passed x) c) (λ ts. arguments (at_spot w.items env.answer p) ts
-          ns) tys)) (sym
+          typed (at_spot w.items env.answer p) (Passed x) c) (λ ts. arguments (at_spot w.items env.answer p) ts ns)
+          sig.params)))) (sym body_w) (same_self head.result.0 ⋆ subst (λ tys. Holds (first_and_rest (λ x. typed
+          (at_spot w.items env.answer p) (Passed x) c) (λ ts. arguments (at_spot w.items env.answer p) ts ns) tys)) (sym
           begins.2) (
             passed_value (at_spot w.items env.answer p) begins.0 c (alone_no_reference w.items begins.0 (subst (IsAlone
                 w.items) same value.alone)) (value.holds p stands) (subst (λ x. IsTrue (fits w.items x (ty_of c)))
@@ -392,16 +391,12 @@ called_sound env at id c count args want k def head t knows is all of at_k body 
                 (drop 1 tys))
                 begins.2)),
           )) ⋆
-          any_by (λ (x : ClosureDef). x.body == def.body) w.items.closures k def (on.items.closures k def at_k)
-          (same_self def.body),
+          any_by (λ (x : ClosureDef). x.body == def.body) w.items.closures k def at_w (same_self def.body),
     )
   where
-    behind : (self : TyId) (rest : List TyId) (ty : TyId) → head.params ≡ self ∷ rest → Contains (drop 1 head.params)
-        ty →
-        Contains head.params ty
-    behind self rest ty e has =
-        let later : Contains rest ty = subst (λ tys. Contains (drop 1 tys) ty) e has in
-        subst (λ tys. Contains tys ty) (sym e) (suc later.0, omega (arith, later.1), later.2)
+    behind : (tys : List TyId) (ty : TyId) → Contains (drop 1 tys) ty → Contains tys ty
+    behind [] ty has = absurd (omega (arith, has.1))
+    behind (self ∷ rest) ty has = (suc has.0, omega (arith, has.1), has.2)
 
 pub closure_call_sound : (env : Env) (at : Pos) (count : ℕ) (callee : Check Node) (args : List TyId → Check Nodes) →
     ((s :

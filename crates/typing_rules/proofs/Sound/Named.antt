@@ -27,7 +27,7 @@ use Rattle.well_typed.specs.Types.{is_same, is_kind, is_reference, kind_in, adt_
 use Rattle.well_typed.proofs.ClaimLemmas.{and_true}
 use Rattle.typing_rules.specs.Check.{Check, State, interned, ◌>>=◌}
 use Rattle.typing_rules.specs.Places.{int, a_node_of}
-use Rattle.typing_rules.specs.Promises.{Extends, IsAlone, IsKnown, AreReady, Gives, at_spot, Knows, IsTemporary, SoundTemporary, Grows}
+use Rattle.typing_rules.specs.Promises.{Extends, IsAlone, IsKnown, AreReady, AreClosures, Gives, at_spot, Knows, IsTemporary, SoundTemporary, Grows}
 use Rattle.typing_rules.specs.RowPromises.{IsMade, SoundArgs, IsFunction}
 use Rattle.typing_rules.specs.Rows.{call, built_in, ask_form, make, numbered_fields}
 use Rattle.typing_rules.specs.Named.{Makes}
@@ -70,16 +70,15 @@ was_type all g body head self rest ty is params at =
     known.1 ∙ (sym (type_later g.items self known.0 known.1) ∙ at)
 
 -- a function's body is no closure's
-pub no_closure : {s w : State} → AreReady s.items → Grows s w → (body : ℕ) (head : Sig) → IsFunction s body head →
-    IsTrue (not
-    (is_closure_body w.items body))
-no_closure {s} {w} all g body head is = by (is_closure_body w.items body) refl
+pub no_closure : {s w : State} → AreReady s.items → Grows s w → AreClosures w.items → (body : ℕ) (head : Sig) →
+    IsFunction s body head → IsTrue (not (is_closure_body w.items body))
+no_closure {s} {w} all g heads body head is = by (is_closure_body w.items body) refl
   where
     by : (b : Bool) → is_closure_body w.items body ≡ b → IsTrue (not b)
     by true e =
         let f = any_at (λ (def : ClosureDef). def.body == body) w.items.closures e in
         let same = eqb-true f.1.body body f.3 in
-        let begins = (g.ready all).closures f.0 f.1 head f.2 (ap (slice_get w.items.bodies) same ∙ (ap (λ bodies.
+        let begins = heads f.0 f.1 head f.2 (ap (slice_get w.items.bodies) same ∙ (ap (λ bodies.
         slice_get bodies
         body) g.items.bodies ∙ is.0)) in
         absurd (is.1 begins.0 begins.1 f.0 begins.2 (was_type all g body head begins.0 begins.1 (Ty.Closure f.0) is.0
@@ -101,7 +100,7 @@ function_sound env at body head count args good want s k is =
     env.answer p) sig.params ns)))) (sym (ap (λ bodies. slice_get bodies body) g.items.bodies ∙ is.0)) (same_self
     head.result.0 ⋆ given_) ⋆
     and_true (not (is_drop_body w.items body)) _ (subst (λ b. IsTrue (not b)) (sym (drop_later g.items body)) may)
-    (no_closure all g body head is)) want k
+    (no_closure all g stands.closures body head is)) want k
 
 -- ---- structs and variants by the order of their parts
 

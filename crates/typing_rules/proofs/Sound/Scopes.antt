@@ -130,6 +130,7 @@ module _ (env : Env) (s w : State) (p : Spot) (n m : ℕ) (xs : List Entry) (k :
       record {
         variables = λ x c. by x (joined_cases xs env.variables x c);
         loops = λ a c. stands.loops a c;
+        closures = stands.closures;
       }
     where
       by : (x : Entry) → Contains xs x ⊎ Contains env.variables x → Means w.items (behind (are_bound false xs) p) x.ty
@@ -143,6 +144,7 @@ module _ (env : Env) (s w : State) (p : Spot) (n m : ℕ) (xs : List Entry) (k :
       record {
         variables = λ x c. by x (joined_cases (in_guard xs) env.variables x c);
         loops = λ a c. stands.loops a c;
+        closures = stands.closures;
       }
     where
       new_ : (y x : Entry) → Contains xs x → y.ty ≡ x.ty → y.meaning ≡ guarded x.meaning → Means w.items (behind
@@ -176,6 +178,8 @@ knows_bound env t n xs k fresh types =
       types = λ x c. ty x (joined_cases xs env.variables x c);
       keys = λ x c. key x (joined_cases xs env.variables x c);
       loops = k.loops;
+      breaks = k.breaks;
+      items = k.items;
     }
   where
     ty : (x : Entry) → Contains xs x ⊎ Contains env.variables x → IsReady t.items x.ty
@@ -194,6 +198,8 @@ knows_guarded env t n xs k fresh types =
       types = λ x c. ty x (joined_cases (in_guard xs) env.variables x c);
       keys = λ x c. key x (joined_cases (in_guard xs) env.variables x c);
       loops = k.loops;
+      breaks = k.breaks;
+      items = k.items;
     }
   where
     ty : (x : Entry) → Contains (in_guard xs) x ⊎ Contains env.variables x → IsReady t.items x.ty

@@ -74,7 +74,7 @@ adt_sound n s =
     w ready g
     is. (Ty.Adt n, is, tt)
 
-box_made : (items : ItemTable) (content : TyId) → IsReady items content → IsTrue (not (is_reference items content)) →
+pub box_made : (items : ItemTable) (content : TyId) → IsReady items content → IsTrue (not (is_reference items content)) →
     IsMade
     items (Ty.Boxed content)
 box_made items content ready plain =
@@ -95,7 +95,7 @@ box_sound content s ready plain =
     ty w
     ready g is. (Ty.Boxed content, is, tt)
 
-dyn_made : (items : ItemTable) (n : ℕ) → IsMade items (Ty.Dyn n)
+pub dyn_made : (items : ItemTable) (n : ℕ) → IsMade items (Ty.Dyn n)
 dyn_made items n =
     record {
       held = λ part has. absurd (omega (arith, has.1));
@@ -103,7 +103,7 @@ dyn_made items n =
       inside = λ to is. absurd (none-some to is);
     }
 
-abbrev AllAlone : List TyId → State → Type 0
+abbrev pub AllAlone : List TyId → State → Type 0
 AllAlone tys w = (n : ℕ) (ty : TyId) → slice_get tys n ≡ Some ty → IsAlone w.items ty
 
 tuple_by_sound : (tys : List TyId) (s : State) → AllAlone tys s → Gives s (λ w ty. IsAlone w.items ty) (rules.tuple_by
@@ -114,7 +114,7 @@ tuple_by_sound (t ∷ tys) s all =
     ty w ready
     g is. (Ty.Tuple (t ∷ tys), is, tt)
 
-both_alone : (ty : TyId) (tys : List TyId) (w : State) → IsAlone w.items ty → AllAlone tys w → AllAlone (ty ∷ tys) w
+pub both_alone : (ty : TyId) (tys : List TyId) (w : State) → IsAlone w.items ty → AllAlone tys w → AllAlone (ty ∷ tys) w
 both_alone ty tys w h all zero t is = subst (IsAlone w.items) (same_Some ty t is) h
 both_alone ty tys w h all (suc n) t is = all n t is
 

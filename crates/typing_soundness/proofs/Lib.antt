@@ -1,0 +1,4 @@
+pub mod Bodies
+pub mod Numbers
+pub mod Sound
+pub mod Walking

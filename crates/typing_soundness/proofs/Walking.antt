@@ -1,0 +1,6 @@
+-- What checks add to a walk.
+pub mod Adding
+pub mod Expressions
+pub mod Patterns
+pub mod Rows
+pub mod Steps

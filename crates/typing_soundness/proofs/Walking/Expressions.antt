@@ -1,0 +1,446 @@
+-- What expressions add to a walk: the recursion, one line a form.
+use Rattle.std.proofs.Common.{◌≡◌, ℕ, suc, Bool, true, false, ◌||◌, not, nat_le, if◌then◌else◌, List, [], ◌∷◌, ◌++◌, length, Option, Some, None, Result, Ok, Err, refl, ap, sym, subst, ◌∙◌}
+use Rattle.std.specs.List.{position as position_of}
+use Rattle.mir_base.specs.declared.int_kind.IntKind.{IntKind}
+use Rattle.mir_base.specs.declared.place_in_text.Pos.{Pos}
+use Rattle.mir_base.specs.declared.rule.Rule.{Rule}
+use Rattle.mir_ty.specs.declared.adt.Variant.{Variant}
+use Rattle.mir_ty.specs.declared.ty.Ty.{Ty}
+use Rattle.mir_ty.specs.declared.ty.TyId.{TyId}
+use Rattle.mir_ty.specs.ItemTable.{with_closure}
+use Rattle.typed_tree.specs.Nodes.{nodes_of, nodes_among, nodes_of_fields}
+use Rattle.typed_tree.specs.Tree as tree
+use Rattle.typed_tree.specs.Tree.{Node, node, Form, Nodes, no_node, a_node, Fields, no_field, a_field, MaybeNode, absent, present, BodyTree}
+use Rattle.well_typed.specs.Items.{is_equal}
+use Rattle.well_typed.specs.Patterns as well
+use Rattle.well_typed.specs.Types.{is_reference}
+use Rattle.typing_rules.specs.Bodies as bodies
+use Rattle.typing_rules.specs.Check.{Check, State, Broken, pure, interned, interned_at, ◌>>=◌, ◌<$>◌, with_body, in_new_body, put_before, within_body}
+use Rattle.typing_rules.specs.Named.{PathValue, Makes, IsBroken, path_value, Callee, Function, Constructor, Prints, Asks, Drops, Forgets, Boxes, AValue, Unnamed, NoCallee, callee_of, method_named}
+use Rattle.typing_rules.specs.Patterns.{pattern, count_of, target_of}
+use Rattle.typing_rules.specs.Places.{unit, bool, never, int, struct_field, numbered_part}
+use Rattle.typing_rules.specs.Rows as rows
+use Rattle.typing_rules.specs.Rows.{Typer, Referrer, Expected, Given, taken}
+use Rattle.typing_rules.specs.Scope.{Env, Entry, Capture, variable, with_variables, within_loop, jumps_to, in_guard, field_named}
+use Rattle.typing_rules.specs.Typed as typing
+use Rattle.src_ast.specs.Syntax.{Word, Syn, syn, Shape, Literal, TruthLiteral, Path, Minus, Bang, Star, Ampersand, Calculate, Compare, Both, Either, Store, CallOf, MethodOf, FieldOf, PartOf, ElementOf, StructOf, FieldInit, Ident, NamedType, GenericType, DynType, SelfType, ParensType, TupleType, ArrayType, NeverType, RefType, Parens, TupleOf, ArrayOf, Braces, IfElse, IfLetElse, MatchOn, ArmOf, LoopOf, WhileOf, WhileLetOf, BreakOf, ContinueOf, ReturnOf, MoveOf, PanicOf, LetOf, Semi, Syns, no_syn, a_syn, MaybeSyn, nothing, just}
+use Rattle.typing_rules.specs.Written as types
+use Rattle.typing_rules.proofs.Sound.Gives.{numbered}
+use Rattle.typing_soundness.specs.Walks.{Walks, Walked, WalksNode}
+use Rattle.typing_soundness.proofs.Walking.Adding.{walks_none, walks_both, walks_node}
+use Rattle.typing_soundness.proofs.Walking.Patterns.{pattern_walks}
+use Rattle.typing_soundness.proofs.Walking.Rows as on
+use Rattle.typing_soundness.proofs.Walking.Rows.{WalksTyper, WalksMaybe, WalksArgs, WalksReferrer, WalksMatcher}
+use Rattle.typing_soundness.proofs.Walking.Steps.{walk, walk_obeyed, walk_found, walk_ends, walk_map, walk_nothing, SameWalk, on_same, walk_interned, walk_fitted}
+
+-- ---- paths
+
+makes_walks : (at : Pos) (v : PathValue) → WalksTyper (typing.makes_unit at v)
+makes_walks at (Makes adt variant) want s =
+    walk_interned (Ty.Adt adt) s λ ty t e. walk_map (on.leaf_walks at ty (tree.Make adt variant no_field) refl want t) λ
+    n u w. walks_both (on_same e (walks_none s)) w
+makes_walks at (IsBroken rule) want s = record { so = tt }
+
+path_alone_walks : (env : Env) (at : Pos) (first second : Option Word) → WalksTyper (typing.path_alone env at first
+    second)
+path_alone_walks env at first second want s = makes_walks at (path_value s.items env first second) want s
+
+path_by_walks : (env : Env) (at : Pos) (first second : Option Word) (x : Option Entry) → WalksTyper (typing.path_by env
+    at first second x)
+path_by_walks env at first second (Some x) want s = walk (on.variable_walks at x s) λ p t w. on.taken_walks env want p w
+path_by_walks env at first second None want s = path_alone_walks env at first second want s
+
+path_walks : (env : Env) (at : Pos) (first second : Option Word) → WalksTyper (typing.path env at first second)
+path_walks env at first second = path_by_walks env at first second (typing.variable_of env first second)
+
+base_walks : (env : Env) (at : Pos) (first second : Option Word) (x : Option Entry) → WalksNode (typing.variable_base
+    env at first second x)
+base_walks env at first second (Some x) s = on.variable_walks at x s
+base_walks env at first second None s = path_alone_walks env at first second None s
+
+-- ---- calls
+
+called_walks : (at : Pos) (count : ℕ) (callee : Check Node) (args : List TyId → Check Nodes) (c : Callee) → WalksNode
+    callee → WalksArgs count args → WalksTyper (typing.called_by at count callee args c)
+called_walks at count callee args (Function body is_drop head) good_c good want s =
+    on.call_walks at (tree.Call body) head.result count head.params args (not is_drop) (λ ns. refl) good want s
+called_walks at count callee args (Constructor adt variant tys) good_c good want s =
+    walk_interned (Ty.Adt adt) s λ ty t e. walk_map (on.make_walks at adt variant ty count tys args good want t) λ n u
+    w. walks_both (on_same e (walks_none s)) w
+called_walks at count callee args Prints good_c good want s = on.print_walks at count (int IntKind.I32 ∷ []) args good
+    want s
+called_walks at count callee args Asks good_c good want s = on.ask_walks at count [] args good want s
+called_walks at count callee args Drops good_c good want s = on.drop_walks at count [] args good want s
+called_walks at count callee args Forgets good_c good want s = on.forget_walks at count [] args good want s
+called_walks at count callee args Boxes good_c good want s = on.new_box_walks at count args good want s
+called_walks at count callee args AValue good_c good want s = on.closure_call_walks at count callee args good_c good
+    want s
+called_walks at count callee args (Unnamed rule) good_c good want s = record { so = tt }
+called_walks at count callee args NoCallee good_c good want s = on.no_call_walks at Rule.T13 args want s
+
+passed_walks : (at : Pos) (by_value : Typer) (x : Option Entry) → WalksTyper by_value → WalksReferrer (typing.passed at
+    by_value x)
+passed_walks at by_value None good want unique to s = good (Some want) s
+passed_walks at by_value (Some x) good want unique to s = by (is_reference s.items x.ty)
+  where
+    by : (b : Bool) → Walked (λ n t. Walks s t (nodes_of n)) ((if b then rows.passed_on at x want unique to else
+        by_value (Some want)) s)
+    by true = on.passed_on_walks at x want unique to s
+    by false = good (Some want) s
+
+minus_walks : (at : Pos) (o : Option (ℕ × Option IntKind)) (operand : Typer) → WalksTyper operand → WalksTyper
+    (typing.minus at o operand)
+minus_walks at (Some n) operand good = on.literal_walks at true n.0 n.1
+minus_walks at None operand good = on.negate_walks at operand good
+
+-- ---- written types, which have no nodes
+
+abbrev pub Still : {A : Type 0} → State → A → State → Type 0
+Still s a t = SameWalk s t
+
+pub still : (s : State) → SameWalk s s
+still s = record { number = refl; breaks = refl }
+
+pub onward : {s t u : State} → SameWalk s t → SameWalk t u → SameWalk s u
+onward p q = record { number = q.number ∙ p.number; breaks = q.breaks ∙ p.breaks }
+
+pub interned_still : (ty : Ty) (s : State) {t : State} → SameWalk t s → Walked (λ id u. SameWalk t u) (interned ty s)
+interned_still ty s {t} e = by (position_of (is_equal ty) s.items.types)
+  where
+    by : (o : Option ℕ) → Walked (λ id u. SameWalk t u) (interned_at ty o s)
+    by (Some n) = walk_ends e
+    by None = walk_ends (record { number = e.number; breaks = e.breaks })
+
+module _ (around : types.Around) where
+  named_still : (at : Pos) (adt : Option ℕ) (scalar : Option TyId) (s : State) → Walked (Still s) (types.named_by at adt
+      scalar s)
+  named_still at adt (Some ty) s = walk_ends (still s)
+  named_still at adt None s = walk_found Rule.T01 at adt _ λ n is. interned_still (Ty.Adt n) s (still s)
+
+  tuple_still : (tys : List TyId) (s : State) {t : State} → SameWalk t s → Walked (λ id u. SameWalk t u) (types.tuple_by
+      tys s)
+  tuple_still [] s e = walk_ends e
+  tuple_still (ty ∷ tys) s e = interned_still (Ty.Tuple (ty ∷ tys)) s e
+
+  mutual
+    pub written_still : (ty : Syn) (s : State) → Walked (Still s) (types.written around ty s)
+    written_still (syn at form) s = written_form_still at form s
+
+    written_form_still : (at : Pos) (form : Shape) (s : State) → Walked (Still s) (types.written_form around at form s)
+    written_form_still at (NamedType name) s = named_still at (types.number_of around.adts name) (types.scalar_named
+        name) s
+    written_form_still at (GenericType name content) s =
+        walk_obeyed Rule.T01 at (types.is_box name) _ λ _. walk (written_still content s) λ ty t e. interned_still
+        (Ty.Boxed ty) t e
+    written_form_still at (DynType name trait_) s =
+        walk_obeyed Rule.T01 at (types.is_box name) _ λ _. walk_found Rule.T01 trait_.0 (types.number_of around.traits
+        trait_.1) _ λ n is. walk_interned (Ty.Dyn n) s λ ty t e. interned_still (Ty.Boxed ty) t e
+    written_form_still at SelfType s = walk_found Rule.T01 at around.self_adt _ λ n is. interned_still (Ty.Adt n) s
+        (still s)
+    written_form_still at (ParensType inside) s = written_still inside s
+    written_form_still at (TupleType parts) s =
+        walk (all_written_still parts s) λ tys t e. walk (tuple_still tys t e) λ ty u f. walk_obeyed Rule.T19 at (not
+        around.has_limits || nat_le (length tys) 12) _ λ _. walk_ends f
+    written_form_still at (ArrayType element count suffix) s =
+        walk (written_still element s) λ ty t e. walk_obeyed Rule.T03 at (not around.has_limits || types.is_usize
+        suffix) _ λ _. walk_obeyed Rule.T19 at (not around.has_limits || nat_le count 32) _ λ _. interned_still
+        (Ty.Array ty (types.length_shown count)) t e
+    written_form_still at NeverType s = walk_ends (still s)
+    written_form_still at (RefType unique to) s =
+        walk (written_still to s) λ ty t e. walk_obeyed Rule.T08 at (not around.has_limits) _ λ _. interned_still
+        (types.reference_to unique ty) t e
+    written_form_still at _ s = record { so = tt }
+
+    all_written_still : (parts : Syns) (s : State) → Walked (Still s) (types.all_written around parts s)
+    all_written_still no_syn s = walk_ends (still s)
+    all_written_still (a_syn first rest) s =
+        walk (written_still first s) λ ty t e. walk (all_written_still rest t) λ tys u f. walk_ends (onward e f)
+
+declared_still : (env : Env) (ty : MaybeSyn) (s : State) → Walked (Still s) (typing.declared env ty s)
+declared_still env nothing s = walk_ends (still s)
+declared_still env (just ty) s = walk (written_still (bodies.all_rules env) ty s) λ t u e. walk_ends e
+
+-- ---- closures
+
+pub from_same : {s t u : State} {xs : List Node} → SameWalk s t → Walks t u xs → Walks s u xs
+from_same {s} e w = walks_both (on_same e (walks_none s)) w
+
+-- a body of its own leaves the walk where it was
+pub body_still : {A : Type 0} (body : A → BodyTree) (check : Check A) (s : State) → Walked (Still s) (with_body body
+    (in_new_body check) s)
+body_still {A} body check s = by (check (record s { bodies = []; next_node = 0; breaks = [] }))
+  where
+    by : (r : Result (A × State) Broken) → Walked (Still s) (put_before s.bodies body (within_body (record s {
+      bodies =
+          [];
+    }) r))
+    by (Ok a) = walk_ends (record { number = refl; breaks = refl })
+    by (Err e) = record { so = tt }
+
+capture_walks : (env : Env) (k : ℕ) (e : Syn) (earlier : List Entry) (s : State) → Walked (λ c t. Walks s t (nodes_of
+    c.0)) (bodies.capture env k e earlier s)
+capture_walks env k (syn at (Ident name)) earlier s =
+    walk_obeyed Rule.T01 at (bodies.is_captured name env.variables) _ λ _. walk_obeyed Rule.T02 at (not
+    (bodies.is_captured name earlier)) _ λ _. walk_found Rule.T01 at (variable env.variables name) _ λ x is. walk
+    (on.variable_walks at x s) λ p t w. walk {f = λ n. pure (n, earlier ++ named name x.ty k ∷ [])}
+    (on.taken_walks env None p w) λ n u w. walk_ends w
+  where
+    named : Word → TyId → ℕ → Entry
+    named name ty k = record { name = name; ty = ty; meaning = Capture 0 k }
+capture_walks env k (syn at _) earlier s = record { so = tt }
+
+captured_walks : (env : Env) (k : ℕ) (captures : Syns) (earlier : List Entry) (s : State) → Walked (λ c t. Walks s t
+    (nodes_among c.0)) (bodies.captured env k captures earlier s)
+captured_walks env k no_syn earlier s = walk_ends (walks_none s)
+captured_walks env k (a_syn first rest) earlier s =
+    walk (capture_walks env k first earlier s) λ c t w. walk (captured_walks env (suc k) rest c.1 t) λ cs u x. walk_ends
+    (walks_both w x)
+
+-- the body of a closure, in a walk of its own
+abbrev pub in_closure : Env → Pos → ℕ → TyId → List Entry → Syns → MaybeSyn → (Env → Typer) → Check BodyTree
+in_closure env at n ty captures params answer block = do
+  self ← bodies.name_param at [] ty
+  ps ← bodies.params_of (bodies.inside_closure env captures) (types.written (bodies.all_rules env)) params []
+  t ← bodies.answer_of env answer
+  b ← block (bodies.inside (bodies.inside_closure env captures) t ps.1) (Some t)
+  bodies.within_limit at (bodies.body_of n (self.0 ∷ ps.0) t b)
+
+closure_walks : (env : Env) (at : Pos) (captures params : Syns) (answer : MaybeSyn) (block : Env → Typer) → WalksTyper
+    (bodies.closure env at captures params answer block)
+closure_walks env at captures params answer block want s =
+    walk (captured_walks env 0 captures [] s') λ caps t w. walk_interned (Ty.Closure (length t.items.closures)) (with_
+    caps.1 t) λ ty u e. walk (body_still (λ b. b) (in_closure env at s.next_body ty caps.1 params answer block) u) λ b v f. walk_fitted want (node s.next_node at ty None
+    (tree.Closure (length t.items.closures) caps.0)) (walks_node at ty None (tree.Closure (length t.items.closures)
+    caps.0) (on_same f (on_same e (on_same {u = with_ caps.1 t} (record { number = refl; breaks = refl }) (from_same
+    {t = s'} (record { number = refl; breaks = refl }) w)))))
+  where
+    s' : State
+    s' = record (numbered s) { next_body = suc s.next_body }
+
+    with_ : List Entry → State → State
+    with_ captures t =
+        record t { items = with_closure t.items (record { captures = bodies.types_of captures; body = s.next_body }) }
+
+-- ---- the recursion
+
+-- one of two checks
+either : {A : Type 0} {R : A → State → Type 0} (b : Bool) (p q : Check A) (s : State) → Walked R (p s) → Walked R (q s)
+    → Walked R ((if b then p else q) s)
+either true p q s h k = h
+either false p q s h k = k
+
+abbrev nodes_in_statement : Option Node → List Node
+nodes_in_statement None = []
+nodes_in_statement (Some n) = nodes_of n
+
+with_statement_nodes : (o : Option Node) (ns : Nodes) → nodes_among (typing.with_statement o ns) ≡ nodes_in_statement o
+    ++ nodes_among ns
+with_statement_nodes None ns = refl
+with_statement_nodes (Some n) ns = refl
+
+mutual
+  pub typed_walks : (env : Env) (e : Syn) → WalksTyper (typing.typed env e)
+  typed_walks env (syn at form) want s =
+      either (typing.is_place env form) (typing.place env at form >>= taken env want) (typing.value env at form want) s
+      (walk (place_walks env at form s) λ p t w. on.taken_walks env want p w) (value_walks env at form want s)
+
+  base_of_walks : (env : Env) (e : Syn) → WalksNode (typing.base_of env e)
+  base_of_walks env (syn at form) s =
+      either (typing.is_place env form) (typing.place env at form) (typing.value env at form None) s (place_walks env at
+      form s) (value_walks env at form None s)
+
+  place_walks : (env : Env) (at : Pos) (form : Shape) → WalksNode (typing.place env at form)
+  place_walks env at (Path first second) s = base_walks env at first second (typing.variable_of env first second) s
+  place_walks env at (FieldOf base name) s = on.field_walks at (struct_field name) (typing.base_of env base)
+      (base_of_walks env base) s
+  place_walks env at (PartOf base k) s = on.field_walks at (numbered_part k) (typing.base_of env base) (base_of_walks
+      env base) s
+  place_walks env at (ElementOf base index) s = on.element_walks at (typing.base_of env base) (typing.typed env index)
+      (base_of_walks env base) (typed_walks env index) s
+  place_walks env at (Star base) s = on.deref_walks at (typing.base_of env base) (base_of_walks env base) s
+  place_walks env at (Parens inside) s = base_of_walks env inside s
+  place_walks env at _ s = record { so = tt }
+
+  value_walks : (env : Env) (at : Pos) (form : Shape) → WalksTyper (typing.value env at form)
+  value_walks env at (Path first second) want s = path_alone_walks env at first second want s
+  value_walks env at (Parens inside) want s = typed_walks env inside want s
+  value_walks env at (Literal n suffix) want s = on.literal_walks at false n suffix want s
+  value_walks env at (TruthLiteral b) want s = on.leaf_walks at bool (tree.Truth b) refl want s
+  value_walks env at (Minus operand) want s = minus_walks at (typing.literal_in operand) (typing.typed env operand)
+      (typed_walks env operand) want s
+  value_walks env at (Bang operand) want s = on.not_walks at (typing.typed env operand) (typed_walks env operand) want s
+  value_walks env at (Ampersand unique base) want s = walk_nothing Rule.T08 at ((typing.base_of env base >>=
+      rows.no_reference) s)
+  value_walks env at (Calculate operator left right) want s = on.arithmetic_walks at operator (typing.is_plain left)
+      (typing.typed env left) (typing.typed env right) (typed_walks env left) (typed_walks env right) want s
+  value_walks env at (Compare operator left right) want s = on.comparison_walks at operator (typing.is_plain left)
+      (typing.typed env left) (typing.typed env right) (typed_walks env left) (typed_walks env right) want s
+  value_walks env at (Both left right) want s = on.and_walks at (typing.typed env left) (typing.typed env right)
+      (typed_walks env left) (typed_walks env right) want s
+  value_walks env at (Either left right) want s = on.or_walks at (typing.typed env left) (typing.typed env right)
+      (typed_walks env left) (typed_walks env right) want s
+  value_walks env at (Store left right) want s = on.store_walks env at (typing.base_of env left) (typing.typed env
+      right) (base_of_walks env left) (typed_walks env right) want s
+  value_walks env at (CallOf callee args) want s = called_walks at (count_of args) (typing.typed env callee None) (λ
+      params. typing.typed_args env params args) (callee_of s.items env callee) (λ t. typed_walks env callee None t) (λ
+      params t. args_walk env params args t) want s
+  value_walks env at (MethodOf receiver name args) want s = on.method_walks env at (method_named name) (count_of args)
+      (typing.base_of env receiver) (λ params. typing.typed_args env params args) (base_of_walks env receiver) (λ params
+      t. args_walk env params args t) want s
+  value_walks env at (StructOf first second inits) want s =
+      walk_found Rule.T01 at (target_of s.items env first second) _ λ t is. on.struct_walks at t.adt t.variant
+      (typing.variant_of s.items t).fields (typing.typed_inits env (typing.variant_of s.items t) inits) (λ u. inits_walk
+      env (typing.variant_of s.items t) inits u) want s
+  value_walks env at (TupleOf no_syn) want s = on.leaf_walks at unit tree.UnitValue refl want s
+  value_walks env at (TupleOf (a_syn first rest)) want s = on.tuple_walks at (suc (count_of rest)) (λ wants.
+      typing.typed_parts env wants (a_syn first rest)) (λ wants t. parts_walk env wants (a_syn first rest) t) want s
+  value_walks env at (ArrayOf elements) want s = on.array_walks at (count_of elements) (λ want. typing.typed_elements
+      env want elements) (λ want t. elements_walk env want elements t) want s
+  value_walks env at (Braces statements tail) want s = on.block_walks at (typing.typed_all env statements) (λ inner.
+      typing.typed_maybe inner tail) (λ t. all_walk env statements t) (λ inner want t. maybe_walks inner tail want t)
+      want s
+  value_walks env at (IfElse c body nothing) want s = on.if_alone_walks at (typing.typed env c) (typing.typed env body)
+      (typed_walks env c) (typed_walks env body) want s
+  value_walks env at (IfElse c body (just otherwise)) want s = on.if_else_walks at (typing.typed env c) (typing.typed
+      env body) (typing.typed env otherwise) (typed_walks env c) (typed_walks env body) (typed_walks env otherwise) want
+      s
+  value_walks env at (IfLetElse p scrutinee body nothing) want s = on.if_let_alone_walks env at (typing.base_of env
+      scrutinee) (typing.matcher env p) (λ xs. typing.typed (with_variables xs env) body) (base_of_walks env scrutinee)
+      (λ e ty t. pattern_walks env e ty p [] t) (λ xs. typed_walks (with_variables xs env) body) want s
+  value_walks env at (IfLetElse p scrutinee body (just otherwise)) want s = on.if_let_else_walks env at (typing.base_of
+      env scrutinee) (typing.matcher env p) (λ xs. typing.typed (with_variables xs env) body) (typing.typed env
+      otherwise) (base_of_walks env scrutinee) (λ e ty t. pattern_walks env e ty p [] t) (λ xs. typed_walks
+      (with_variables xs env) body) (typed_walks env otherwise) want s
+  value_walks env at (MatchOn scrutinee arms) want s =
+      walk_obeyed Rule.T20 at (typing.has_one arms) _ λ _. on.match_walks env at (typing.base_of env scrutinee) (λ e ty
+      want. typing.typed_arms env e ty want arms) (base_of_walks env scrutinee) (λ e ty want t. arms_walk env e ty want
+      arms t) want s
+  value_walks env at (LoopOf label body) want s = on.loop_walks at label (λ around. typing.typed (within_loop around
+      env) body) (λ a. typed_walks (within_loop a env) body) want s
+  value_walks env at (WhileOf label c body) want s = on.while_walks at label (λ around. typing.typed (within_loop around
+      env) c) (λ around. typing.typed (within_loop around env) body) (λ a. typed_walks (within_loop a env) c) (λ a.
+      typed_walks (within_loop a env) body) want s
+  value_walks env at (WhileLetOf label p scrutinee body) want s = on.while_let_walks env at label (λ around.
+      typing.base_of (within_loop around env) scrutinee) (typing.matcher env p) (λ around xs. typing.typed
+      (with_variables xs (within_loop around env)) body) (λ a. base_of_walks (within_loop a env) scrutinee) (λ e ty t.
+      pattern_walks env e ty p [] t) (λ a xs. typed_walks (with_variables xs (within_loop a env)) body) want s
+  value_walks env at (BreakOf label v) want s = on.break_walks at (jumps_to env.loops label) (typing.typed_maybe env v)
+      (λ want t. maybe_walks env v want t) want s
+  value_walks env at (ContinueOf label) want s = on.continue_walks at (jumps_to env.loops label) want s
+  value_walks env at (ReturnOf v) want s = on.return_walks at env.answer (typing.typed_maybe env v) (λ want t.
+      maybe_walks env v want t) want s
+  value_walks env at (MoveOf captures params answer body) want s = closure_walks env at captures params answer (λ inner.
+      typing.typed inner body) want s
+  value_walks env at PanicOf want s = on.leaf_walks at never tree.Panic refl want s
+  value_walks env at _ want s = record { so = tt }
+
+  maybe_walks : (env : Env) (e : MaybeSyn) → WalksMaybe (typing.typed_maybe env e)
+  maybe_walks env nothing want s = walk_ends (walks_none s)
+  maybe_walks env (just e) want s = walk (typed_walks env e want s) λ n t w. walk_ends w
+
+  all_walk : (env : Env) (es : Syns) (s : State) → Walked (λ done t. Walks s t (nodes_among done.0)) (typing.typed_all
+      env es s)
+  all_walk env no_syn s = walk_ends (walks_none s)
+  all_walk env (a_syn first rest) s =
+      walk (statement_walks env first s) λ n t w. walk (all_walk n.2 rest t) λ ns u x. walk_ends (subst (λ xs. Walks s u
+      xs) (sym (with_statement_nodes n.0 ns.0)) (walks_both w x))
+
+  statement_walks : (env : Env) (e : Syn) (s : State) → Walked (λ done t. Walks s t (nodes_in_statement done.0))
+      (typing.statement env e s)
+  statement_walks env (syn at form) s =
+      either (typing.is_expression form) (typing.a_statement <$> rows.evaluate at env false (λ want. if typing.is_place
+      env form then (typing.place env at form >>= taken env want) else typing.value env at form want))
+      (typing.other_statement env at form) s (walk (on.evaluate_walks at env false _ (λ want t. either (typing.is_place
+      env form) (typing.place env at form >>= taken env want) (typing.value env at form want) t (walk (place_walks env
+      at form t) λ p u w. on.taken_walks env want p w) (value_walks env at form want t)) s) λ n t w. walk_ends w)
+      (other_walks env at form s)
+
+  other_walks : (env : Env) (at : Pos) (form : Shape) (s : State) → Walked (λ done t. Walks s t (nodes_in_statement
+      done.0)) (typing.other_statement env at form s)
+  other_walks env at (LetOf p ty initialiser) s =
+      walk (on.let_walks at env (typing.is_one_name s.items p) (typing.declared env ty) (typing.initialised env
+      (typing.is_one_name s.items p) initialiser) (typing.matcher env p) (λ xs. with_variables xs env) (declared_still
+      env ty) (λ want t. initialised_walks env (typing.is_one_name s.items p) initialiser want t) (λ e ty t.
+      pattern_walks env e ty p [] t) s) λ n t w. walk_ends w
+  other_walks env at (Semi e) s = walk (on.evaluate_walks at env true (typing.typed env e) (typed_walks env e) s) λ n t
+      w. walk_ends w
+  other_walks env at _ s = walk_ends (walks_none s)
+
+  initialised_walks : (env : Env) (one : Bool) (e : MaybeSyn) → WalksMaybe (typing.initialised env one e)
+  initialised_walks env one nothing want s = walk_ends (walks_none s)
+  initialised_walks env true (just e) want s = walk (typed_walks env e want s) λ n t w. walk_ends w
+  initialised_walks env false (just e) want s = walk (for_parts_walks env want e s) λ n t w. walk_ends w
+
+  for_parts_walks : (env : Env) (want : Option TyId) (e : Syn) → WalksNode (typing.for_parts env want e)
+  for_parts_walks env want (syn at form) s =
+      either (typing.is_place env form) (typing.place env at form >>= rows.place_for_parts env want) (typing.value env
+      at form want) s (walk (place_walks env at form s) λ p t w. on.in_parts_walks env want p w) (value_walks env at
+      form want s)
+
+  args_walk : (env : Env) (params : List TyId) (args : Syns) (s : State) → Walked (λ ns t. Walks s t (nodes_among ns) ×
+      (well.count_of ns ≡ count_of args)) (typing.typed_args env params args s)
+  args_walk env params no_syn s = walk_ends (walks_none s, refl)
+  args_walk env [] (a_syn e es) s =
+      walk (typed_walks env e None s) λ n t w. walk (args_walk env [] es t) λ ns u x. walk_ends (
+        walks_both w x.0,
+        ap
+            suc x.1,
+      )
+  args_walk env (param ∷ params) (a_syn e es) s =
+      walk (on.argument_walks param (typing.typed env e) (typing.by_reference env e) (typed_walks env e)
+      (by_reference_walks env e) s) λ n t w. walk (args_walk env params es t) λ ns u x. walk_ends (
+        walks_both w x.0,
+        ap
+            suc x.1,
+      )
+
+  by_reference_walks : (env : Env) (e : Syn) → WalksReferrer (typing.by_reference env e)
+  by_reference_walks env (syn at form) want unique to s =
+      either (typing.may_refer form) (typing.reference_form env at form want unique to) (if typing.is_place env form
+      then (typing.place env at form >>= taken env (Some want)) else typing.value env at form (Some want)) s
+      (reference_walks env at form want unique to s) (either (typing.is_place env form) (typing.place env at form >>=
+      taken env (Some want)) (typing.value env at form (Some want)) s (walk (place_walks env at form s) λ p t w.
+      on.taken_walks env (Some want) p w) (value_walks env at form (Some want) s))
+
+  reference_walks : (env : Env) (at : Pos) (form : Shape) → WalksReferrer (typing.reference_form env at form)
+  reference_walks env at (Ampersand unique base) want is_unique to s = on.borrow_walks at unique (typing.base_of env
+      base) (base_of_walks env base) want is_unique to s
+  reference_walks env at (Path first second) want unique to s = passed_walks at (typing.path env at first second)
+      (typing.variable_of env first second) (path_walks env at first second) want unique to s
+  reference_walks env at (Parens inside) want unique to s = by_reference_walks env inside want unique to s
+  reference_walks env at _ want unique to s = record { so = tt }
+
+  inits_walk : (env : Env) (v : Variant) (inits : Syns) (s : State) → Walked (λ fs t. Walks s t (nodes_of_fields fs.0))
+      (typing.typed_inits env v inits s)
+  inits_walk env v no_syn s = walk_ends (walks_none s)
+  inits_walk env v (a_syn (syn at (FieldInit name init)) rest) s =
+      walk (init_walks env at name init (typing.field_want v (field_named v name)) s) λ n t w. walk (inits_walk env v
+      rest t) λ fs u x. walk_ends (walks_both w x)
+  inits_walk env v (a_syn (syn at _) rest) s = record { so = tt }
+
+  init_walks : (env : Env) (at : Pos) (name : Word) (init : MaybeSyn) → WalksTyper (typing.init_value env at name init)
+  init_walks env at name nothing want s = path_walks env at (Some name) None want s
+  init_walks env at name (just e) want s = typed_walks env e want s
+
+  parts_walk : (env : Env) (wants : List (Option TyId)) (parts : Syns) (s : State) → Walked (λ ps t. Walks s t
+      (nodes_among ps.0)) (typing.typed_parts env wants parts s)
+  parts_walk env wants no_syn s = walk_ends (walks_none s)
+  parts_walk env wants (a_syn e es) s =
+      walk (typed_walks env e (typing.first_want wants) s) λ n t w. walk (parts_walk env (typing.other_wants wants) es
+      t) λ ns u x. walk_ends (walks_both w x)
+
+  elements_walk : (env : Env) (want : Option TyId) (elements : Syns) (s : State) → Walked (λ ps t. Walks s t
+      (nodes_among ps.0)) (typing.typed_elements env want elements s)
+  elements_walk env want no_syn s = walk_ends (walks_none s)
+  elements_walk env want (a_syn e es) s =
+      walk (typed_walks env e want s) λ n t w. walk (elements_walk env want es t) λ ns u x. walk_ends (walks_both w x)
+
+  arms_walk : (env : Env) (e : Expected) (ty : TyId) (want : Option TyId) (arms : Syns) (s : State) → Walked (λ ps t.
+      Walks s t (nodes_among ps.0)) (typing.typed_arms env e ty want arms s)
+  arms_walk env e ty want no_syn s = walk_ends (walks_none s)
+  arms_walk env e ty want (a_syn (syn at (ArmOf p guard body)) rest) s =
+      walk (on.arm_walks (pattern env e ty p []) (λ xs. typing.typed_maybe (with_variables (in_guard xs) env) guard
+      (Some bool)) (λ xs. typing.typed (with_variables xs env) body) (λ t. pattern_walks env e ty p [] t) (λ xs t.
+      maybe_walks (with_variables (in_guard xs) env) guard (Some bool) t) (λ xs. typed_walks (with_variables xs env)
+      body) want s) λ n t w. walk (arms_walk env e ty want rest t) λ ns u x. walk_ends (walks_both w x)
+  arms_walk env e ty want (a_syn (syn at _) rest) s = record { so = tt }

@@ -1,0 +1,93 @@
+-- Rules for what a check adds, one a step of a row.
+use Rattle.std.proofs.Common.{◌≡◌, ℕ, Bool, true, false, List, Option, Some, None, Result, Ok, Err, IsTrue, refl}
+use Rattle.std.specs.List.{position as position_of}
+use Rattle.mir_base.specs.declared.place_in_text.Pos.{Pos}
+use Rattle.mir_base.specs.declared.rule.Rule.{Rule}
+use Rattle.mir_ty.specs.declared.ty.Ty.{Ty}
+use Rattle.mir_ty.specs.declared.ty.TyId.{TyId}
+use Rattle.typed_tree.specs.Nodes.{nodes_of}
+use Rattle.typed_tree.specs.Tree as tree
+use Rattle.typed_tree.specs.Tree.{Node, node, Form, MaybeNode}
+use Rattle.well_typed.specs.Items.{is_equal}
+use Rattle.typing_rules.specs.Check.{Check, State, Broken, and_then, obeys, known, breaks, interned, interned_at}
+use Rattle.typing_rules.specs.Places.{Fit, Fits, Coerced, Differs, fit, place_in_text, agrees}
+use Rattle.typing_rules.specs.Rows.{fitted, fitted_by, settled}
+use Rattle.typing_soundness.specs.Walks.{Walks, Walked}
+use Rattle.typing_soundness.proofs.Walking.Adding.{walks_same, walks_outer}
+use Rattle.well_typed.specs.Places.{ty_of}
+
+-- ---- one step after another
+
+pub walk : {A B : Type 0} {P : A → State → Type 0} {R : B → State → Type 0} {r : Result (A × State) Broken} {f : A →
+    Check B} → Walked P r → ((a : A) (t : State) → P a t → Walked R (f a t)) → Walked R (and_then r f)
+walk {r = Ok a} h k = k a.0 a.1 h.so
+walk {r = Err e} h k = record { so = tt }
+
+pub walk_obeyed : {B : Type 0} {R : B → State → Type 0} {s : State} (rule : Rule) (at : Pos) (holds : Bool) (f : Check
+    B) → (IsTrue holds → Walked R (f s)) → Walked R (and_then (obeys rule at holds s) (λ _. f))
+walk_obeyed rule at true f k = k refl
+walk_obeyed rule at false f k = record { so = tt }
+
+pub walk_found : {A B : Type 0} {R : B → State → Type 0} {s : State} (rule : Rule) (at : Pos) (o : Option A) (f : A →
+    Check B) → ((a : A) → o ≡ Some a → Walked R (f a s)) → Walked R (and_then (known rule at o s) f)
+walk_found rule at (Some a) f k = k a refl
+walk_found rule at None f k = record { so = tt }
+
+pub walk_ends : {A : Type 0} {R : A → State → Type 0} {a : A} {t : State} → R a t → Walked R (Ok (a, t))
+walk_ends h = record { so = h }
+
+pub walk_broken : {A : Type 0} {R : A → State → Type 0} (rule : Rule) (at : Pos) (s : State) → Walked R (breaks {A = A}
+    rule at s)
+walk_broken rule at s = record { so = tt }
+
+pub walk_map : {A : Type 0} {P R : A → State → Type 0} {r : Result (A × State) Broken} → Walked P r → ((a : A) (t :
+    State) → P a t → R a t) → Walked R r
+walk_map {r = Ok a} h k = record { so = k a.0 a.1 h.so }
+walk_map {r = Err e} h k = record { so = tt }
+
+-- what gives nothing, whatever comes first
+pub walk_nothing : {A B : Type 0} {R : B → State → Type 0} (rule : Rule) (at : Pos) (r : Result (A × State) Broken) →
+    Walked R (and_then r (λ _. breaks rule at))
+walk_nothing rule at (Ok a) = record { so = tt }
+walk_nothing rule at (Err e) = record { so = tt }
+
+-- states that differ in their items alone
+pub record SameWalk (s t : State) : Type 0 where
+  pub number : t.next_node ≡ s.next_node
+  pub breaks : t.breaks ≡ s.breaks
+
+pub on_same : {s t u : State} {xs : List Node} → SameWalk t u → Walks s t xs → Walks s u xs
+on_same {u = u} e p = walks_same u e.number e.breaks p
+
+-- a type gets a number
+pub walk_interned : {B : Type 0} {R : B → State → Type 0} (ty : Ty) (s : State) {f : TyId → Check B} → ((id : TyId) (t :
+    State) → SameWalk s t → Walked R (f id t)) → Walked R (and_then (interned ty s) f)
+walk_interned {R = R} ty s {f} k = by (position_of (is_equal ty) s.items.types)
+  where
+    by : (o : Option ℕ) → Walked R (and_then (interned_at ty o s) f)
+    by (Some n) = k _ s record { number = refl; breaks = refl }
+    by None = k _ _ record { number = refl; breaks = refl }
+
+-- ---- the end of a row
+
+fitted_so : {C : Type 0} (want : TyId) (n : Node) {s t : State} (how : Fit) → (C → Walks s t (nodes_of n)) → Walked (λ m
+    u. C → Walks s u (nodes_of m)) (fitted_by want n how t)
+fitted_so want n Fits p = walk_ends p
+fitted_so want n (Coerced trait_no) p = walk_ends (λ c. walks_outer (place_in_text n) want None (tree.Unsize trait_no n)
+    (p c))
+fitted_so want n Differs p = record { so = tt }
+
+-- a leaf, which may be coerced, where something is so
+pub fitted_when : {C : Type 0} (want : Option TyId) (n : Node) {s t : State} → (C → Walks s t (nodes_of n)) → Walked (λ
+    m u. C → Walks s u (nodes_of m)) (fitted want n t)
+fitted_when None n p = walk_ends p
+fitted_when (Some want) n {t = t} p = fitted_so want n (fit t.items want (ty_of n)) p
+
+pub walk_fitted : (want : Option TyId) (n : Node) {s t : State} → Walks s t (nodes_of n) → Walked (λ m u. Walks s u
+    (nodes_of m)) (fitted want n t)
+walk_fitted want n p = walk_map (fitted_when {C = Unit {0}} want n (λ _. p)) λ m u h. h tt
+
+pub walk_settled : (want : Option TyId) (n : Node) {s t : State} → Walks s t (nodes_of n) → Walked (λ m u. Walks s u
+    (nodes_of m)) (settled want n t)
+walk_settled want n {t = t} p = walk_obeyed Rule.T03 (place_in_text n) (agrees t.items want (ty_of n)) _ λ is. walk_ends
+    p

@@ -1,0 +1,4 @@
+pub mod Expressions
+pub mod Numbers
+pub mod Shapes
+pub mod Walks

@@ -1,0 +1,47 @@
+-- What a check adds to a walk: nodes with numbers of their own, and breaks that are carried by nodes.
+use Rattle.std.specs.Prelude.{◌≡◌, ℕ, suc, ◌≤◌, ◌==◌, List, [], ◌∷◌, ◌⊎◌, Option, Result, Contains, if◌then◌else◌}
+use Rattle.std.specs.List.{filter_map}
+use Rattle.mir_ty.specs.declared.ty.TyId.{TyId}
+use Rattle.typed_tree.specs.Nodes.{number_of, nodes_of}
+use Rattle.typed_tree.specs.Tree.{Node, MaybeNode}
+use Rattle.well_typed.specs.Nodes.{carried_by}
+use Rattle.typing_rules.specs.Check.{Check, State, Broken}
+use Rattle.typing_rules.specs.Patterns.{pattern}
+use Rattle.typing_rules.specs.Promises.{Then}
+use Rattle.typing_rules.specs.Rows.{Expected, ty_carried}
+use Rattle.typing_rules.specs.Scope.{Env}
+use Rattle.typing_rules.specs.Typed.{typed}
+use Rattle.src_ast.specs.Syntax.{Syn}
+
+-- how many of some nodes have a number
+abbrev pub occurs : ℕ → List Node → ℕ
+occurs k [] = 0
+occurs k (n ∷ ns) = if number_of n == k then suc (occurs k ns) else occurs k ns
+
+-- one of some nodes is a break out of this loop with a value of this type
+abbrev pub IsCarried : ℕ × TyId → List Node → Type 0
+IsCarried b ns = (value : MaybeNode) × Contains (filter_map (carried_by b.0) ns) value × (ty_carried value ≡ b.1)
+
+-- From one state to a later one come these nodes: each has a number of its own among those that are given out in
+-- between, and each break that is new is carried by one of them.
+pub record Walks (s t : State) (ns : List Node) : Type 0 where
+  pub numbers : s.next_node ≤ t.next_node
+  pub before : (k : ℕ) → suc k ≤ s.next_node → occurs k ns ≡ 0
+  pub behind : (k : ℕ) → t.next_node ≤ k → occurs k ns ≡ 0
+  pub once : (k : ℕ) → occurs k ns ≤ 1
+  pub carried : (b : ℕ × TyId) → Contains t.breaks b → Contains s.breaks b ⊎ IsCarried b ns
+
+-- what is so of all that a check gives, where no rule is broken
+pub record Walked {A : Type 0} (P : A → State → Type 0) (r : Result (A × State) Broken) : Type 0 where
+  pub so : Then r P
+
+-- a check that gives a node
+abbrev pub WalksNode : Check Node → Type 0
+WalksNode check = (s : State) → Walked (λ n t. Walks s t (nodes_of n)) (check s)
+
+abbrev pub Patterns : Type 0
+Patterns = (env : Env) (e : Expected) (ty : TyId) (p : Syn) (s : State) → Walked (λ b t. Walks s t (nodes_of b.0))
+    (pattern env e ty p [] s)
+
+abbrev pub Expressions : Type 0
+Expressions = (env : Env) (e : Syn) (want : Option TyId) → WalksNode (typed env e want)

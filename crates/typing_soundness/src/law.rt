@@ -1,0 +1,30 @@
+//! What is proved of the checks of expressions, as clauses of functions without parameters.
+ghost use Rattle.typing_soundness.specs.Expressions.{Loops, Paths, Callees, AreSound, Closures, Functions};
+ghost use Rattle.typing_soundness.specs.Numbers.{StaysTyped, AreInOrder};
+ghost use Rattle.typing_soundness.specs.Walks.{Expressions, Patterns};
+
+/// What the check of an expression or a pattern adds to a walk: each node has a number of its own, which is given out
+/// by the check, and each break is carried by a node.
+pub fn law_of_walks()
+    ensures patterns { Patterns }
+    ensures expressions { Expressions }
+{}
+
+/// What is well typed stays so where its nodes get other numbers, by a function that is one to one on the numbers that
+/// there are; and numbers in the order of the text rise.
+pub fn law_of_numbers()
+    ensures typed { StaysTyped }
+    ensures order { AreInOrder }
+{}
+
+/// What is typed is well typed: each expression gives what is well typed in each later state of the walk, wherever it
+/// stands whose names and loops are those of the environment, and each body of a closure, a function or a method that
+/// is whole is well typed among all later items, where its head has its types.
+pub fn law_of_expressions()
+    ensures loops { Loops }
+    ensures paths { Paths }
+    ensures callees { Callees }
+    ensures expressions { AreSound }
+    ensures closures { Closures }
+    ensures functions { Functions }
+{}

@@ -1,0 +1,6 @@
+//! What is typed is well typed: laws of the rules of typing.
+#![tactic(auto)]
+
+mod law;
+
+pub use law::{law_of_expressions, law_of_numbers, law_of_walks};
