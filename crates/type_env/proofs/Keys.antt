@@ -1,5 +1,5 @@
 -- Keys of entries by their numbers.
-use Rattle.std.proofs.Common.{◌≡◌, ℕ, Bool, ◌||◌, ◌==◌, List, [], ◌∷◌, map, refl, ap}
+use Rattle.std.proofs.Common.{◌≡◌, ℕ, ◌||◌, ◌==◌, List, [], ◌∷◌, refl, ap}
 use Rattle.std.specs.List.{list_any}
 use Rattle.typing_rules.specs.Places.{is_any}
 use Rattle.type_env.specs.Scope.{keys_of}

@@ -1,10 +1,10 @@
 -- The loop that a jump leaves, among loops of which the innermost is the last.
-use Rattle.std.proofs.Common.{◌≡◌, ℕ, suc, ◌+◌, ◌-◌, ◌<◌, ◌≤◌, Bool, true, false, cond, List, [], ◌∷◌, ◌++◌, length, map, reverse, take, get_or, Option, Some, None, refl, ap, sym, ◌∙◌, arith}
+use Rattle.std.proofs.Common.{◌≡◌, ℕ, suc, ◌<◌, Bool, true, false, cond, List, [], ◌∷◌, length, map, reverse, take, get_or, Option, Some, None, refl, ap, ◌∙◌}
 use Rattle.std.proofs.Math.Seq.{take-suc}
 use Rattle.std.proofs.lemmas.List.{map_push, reverse-append}
 use Rattle.mir_ty.specs.declared.ty.TyId.{TyId}
 use Rattle.src_ast.specs.Syntax.{Word}
-use Rattle.type_env.specs.Scope.{around_of, is_left, is_word, word_in}
+use Rattle.type_env.specs.Scope.{around_of, is_left}
 use Rattle.type_env.specs.declared.loops.LoopAround.{LoopAround}
 use Rattle.typing_rules.specs.Scope.{Around, jumps_to}
 
@@ -35,12 +35,12 @@ module _ (loops : List LoopAround) (d : LoopAround) (label : Option Word) where
       ap (λ xs. reverse (map around_of xs)) (take-suc loops n d h) ∙ ap reverse (map_push around_of (take n loops) (get_or loops n d))
       ∙ reverse-append (map around_of (take n loops)) (around_of (get_or loops n d) ∷ [])
 
-  pub left_here : (n : ℕ) → n < length loops → is_left (word_in (get_or loops n d).label) label ≡ true → of_first (suc n) ≡ Some (around_of (get_or loops n d))
+  pub left_here : (n : ℕ) → n < length loops → is_left (get_or loops n d).label label ≡ true → of_first (suc n) ≡ Some (around_of (get_or loops n d))
   left_here n h is =
       ap (λ as_. jumps_to as_ label) (parts n h)
-      ∙ here (word_in (get_or loops n d).label) (get_or loops n d).id.0 (get_or loops n d).has_value (get_or loops n d).want (reverse (map around_of (take n loops))) label is
+      ∙ here (get_or loops n d).label (get_or loops n d).id.0 (get_or loops n d).has_value (get_or loops n d).want (reverse (map around_of (take n loops))) label is
 
-  pub left_beyond : (n : ℕ) → n < length loops → is_left (word_in (get_or loops n d).label) label ≡ false → of_first (suc n) ≡ of_first n
+  pub left_beyond : (n : ℕ) → n < length loops → is_left (get_or loops n d).label label ≡ false → of_first (suc n) ≡ of_first n
   left_beyond n h is =
       ap (λ as_. jumps_to as_ label) (parts n h)
-      ∙ beyond (word_in (get_or loops n d).label) (get_or loops n d).id.0 (get_or loops n d).has_value (get_or loops n d).want (reverse (map around_of (take n loops))) label is
+      ∙ beyond (get_or loops n d).label (get_or loops n d).id.0 (get_or loops n d).has_value (get_or loops n d).want (reverse (map around_of (take n loops))) label is

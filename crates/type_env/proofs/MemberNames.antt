@@ -1,5 +1,5 @@
 -- Variants and fields by their names.
-use Rattle.std.proofs.Common.{◌≡◌, ℕ, ◌+◌, Bool, cond, not, nat_lt, if◌then◌else◌, List, [], ◌∷◌, length, map, Option, Some, None, slice_get, refl, ap, ◌∙◌}
+use Rattle.std.proofs.Common.{◌≡◌, ℕ, ◌+◌, Bool, cond, not, nat_lt, if◌then◌else◌, List, [], ◌∷◌, map, Option, Some, None, slice_get, refl, ap, ◌∙◌}
 use Rattle.std.specs.Prelude.{option_and_then}
 use Rattle.std.specs.List.{position as position_of, prefix_len}
 use Rattle.std.specs.Option.{option_map}

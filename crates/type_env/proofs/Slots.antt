@@ -2,21 +2,19 @@
 use Rattle.std.proofs.Common.{◌≡◌, ℕ, zero, suc, Bool, true, false, cond, if◌then◌else◌, List, [], ◌∷◌, ◌++◌, drop, length, map, reverse, Option, Some, None, slice_get, Decides, refl, ap, sym, subst, ◌∙◌, rules, arith}
 use Rattle.std.specs.HashMap as hash
 use Rattle.std.specs.HashMap.{HashMap, get_by_text}
-use Rattle.std.specs.List.{find}
 use Rattle.std.specs.Option.{option_map}
 use Rattle.std.specs.Str.{bytes_eq}
 use Rattle.std.specs.String.{string_eq, string_bytes}
 use Rattle.std.specs.declared.string.String.{String}
-use Rattle.std.proofs.lemmas.List.{reverse-append, length-reverse, reverse-reverse}
+use Rattle.std.proofs.lemmas.List.{map_push, reverse-append, length-reverse, reverse-reverse}
 use Rattle.std.proofs.lemmas.Map.Text.{hash_map_updates_text}
-use Rattle.std.proofs.lemmas.Option.{slice_get_within}
+use Rattle.std.proofs.lemmas.Option.{slice_get-map}
 use Rattle.std.proofs.lemmas.Slice.Eq.{bytes_eq-Decides}
 use Rattle.mir_ty.proofs.ListLemmas.{slice_get-append_left, slice_get-last}
 use Rattle.src_ast.specs.Syntax.{Word}
-use Rattle.typing_rules.specs.Scope.{Entry, variable}
-use Rattle.type_env.specs.Scope.{entry_of, entry_in, youngest_of, AreLinked, IsIndexed}
+use Rattle.typing_rules.specs.Scope.{variable}
+use Rattle.type_env.specs.Scope.{entry_in, youngest_of, IsIndexed}
 use Rattle.type_env.specs.declared.variables.Slot.{Slot}
-use Rattle.type_env.specs.declared.variables.Variable.{Variable}
 
 -- one more behind the others is the first from the end
 pub last_first : {X : Type 0} (xs : List X) (x : X) → reverse (xs ++ x ∷ []) ≡ x ∷ reverse xs
@@ -133,3 +131,16 @@ pub one_more_left : {X : Type 0} (k : ℕ) (xs : List X) → drop 1 (drop k xs) 
 one_more_left zero xs = refl
 one_more_left (suc k) [] = refl
 one_more_left (suc k) (x ∷ xs) = one_more_left k xs
+
+-- ---- by their numbers
+
+turned : {X Y : Type 0} (f : X → Y) (xs : List X) → map f (reverse xs) ≡ reverse (map f xs)
+turned f [] = refl
+turned f (x ∷ xs) =
+    ap (map f) (first_last x xs) ∙ map_push f (reverse xs) x ∙ ap (λ ys. ys ++ f x ∷ []) (turned f xs) ∙ sym (reverse-append (f x ∷ []) (map f xs))
+
+-- the oldest has the number 0
+pub numbered : (slots : List Slot) (n : ℕ) → option_map entry_in (slice_get slots n) ≡ slice_get (reverse (map entry_in (reverse slots))) n
+numbered slots n =
+    sym (slice_get-map entry_in slots n)
+    ∙ ap (λ xs. slice_get xs n) (sym (ap reverse (turned entry_in slots) ∙ reverse-reverse (map entry_in slots)))

@@ -4,7 +4,6 @@ use Rattle.std.specs.Borrow.{Bor}
 use Rattle.std.specs.HashMap.{HashMap, get_by_text}
 use Rattle.std.specs.Str.{bytes_eq}
 use Rattle.std.specs.declared.string.String.{String}
-use Rattle.std.specs.Option.{option_map}
 use Rattle.mir_base.specs.declared.place_in_text.Key.{Key}
 use Rattle.src_ast.specs.Syntax.{Word}
 use Rattle.type_env.specs.declared.variables.Meaning as rust
@@ -48,7 +47,7 @@ word_in None = None
 word_in (Some word) = Some word.now
 
 abbrev pub around_of : LoopAround → Around
-around_of l = record { label = word_in l.label; loop = l.id.0; has_value = l.has_value; want = l.want }
+around_of l = record { label = l.label; loop = l.id.0; has_value = l.has_value; want = l.want }
 
 -- a label is this one; a loop may be left by a jump with this label, or by one without
 abbrev pub is_word : Option Word → Word → Bool

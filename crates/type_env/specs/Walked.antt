@@ -1,7 +1,8 @@
 -- A walk in Rust, as the rules of typing see it, and what a call answers beside a step of theirs.
-use Rattle.std.specs.Prelude.{◌≡◌, ℕ, List, map, Result, Ok, Err}
+use Rattle.std.specs.Prelude.{◌≡◌, ℕ, map, Result, Ok, Err}
 use Rattle.mir_base.specs.declared.place_in_text.NodeId.{NodeId}
 use Rattle.mir_base.specs.declared.rule.RuleError.{RuleError}
+use Rattle.mir_ty.specs.ItemTable.{ItemTable}
 use Rattle.mir_ty.specs.declared.ty.TyId.{TyId}
 use Rattle.item_heads.specs.Answers.{Refuses}
 use Rattle.type_env.specs.declared.walk.BreakOut.{BreakOut}
@@ -29,3 +30,8 @@ state_of walk =
 abbrev pub Gives : {A B : Type 0} → (B → A) → Result (A × State) Broken → Result B RuleError → Walk → Type 0
 Gives view outcome (Ok b) after = outcome ≡ Ok (view b, state_of after)
 Gives view outcome (Err e) after = Refuses outcome e
+
+-- nothing but types, or closures, is new
+abbrev pub HasOnlyTypes : ItemTable → ItemTable → Type 0
+HasOnlyTypes old new =
+    (new.adts ≡ old.adts) × (new.traits ≡ old.traits) × (new.impls ≡ old.impls) × (new.bodies ≡ old.bodies)

@@ -1,6 +1,6 @@
 //! Variables in scope. A name stands for the youngest variable of that name, which hides the older ones (The Rust
 //! Reference, "Scopes", "Shadowing").
-ghost use Rattle.std.specs.Prelude.{◌≡◌, ◌≤◌, ◌-◌, ◌∷◌, [], drop, length, option_copied, option_map, OnOk, OnErr};
+ghost use Rattle.std.specs.Prelude.{◌≡◌, ◌≤◌, ◌-◌, ◌∷◌, [], drop, length, option_copied, option_map, reverse, slice_get, OnOk, OnErr};
 ghost use Rattle.type_env.specs.Scope.{entry_of};
 ghost use Rattle.typing_rules.specs.Scope.{variable as variable_named};
 
@@ -85,6 +85,16 @@ impl Variables {
                 Some(slot) => Some(&slot.variable),
                 None => None,
             },
+            None => None,
+        }
+    }
+
+    /// The variable with a number, counted from 0 with the oldest; `None` where there is none.
+    pub fn at(&self, number: usize) -> Option<&Variable>
+        ensures { option_map entry_of (option_copied result) ≡ slice_get (reverse self.now) number }
+    {
+        match self.slots.get(number) {
+            Some(slot) => Some(&slot.variable),
             None => None,
         }
     }

@@ -2,10 +2,10 @@
 //! leaves the walk where the step does.
 ghost use Rattle.std.specs.Prelude.{◌≡◌};
 ghost use Rattle.mir_ty.specs.AreItems.{IsTy};
-ghost use Rattle.type_env.specs.Walked.{Gives, node_no, state_of};
+ghost use Rattle.type_env.specs.Walked.{Gives, HasOnlyTypes, node_no, state_of};
 ghost use Rattle.typing_rules.specs.Check as steps;
 
-use mir_base::{List, NodeId, RuleError};
+use mir_base::{List, NoMemory, NodeId, RuleError};
 use mir_ty::{Items, Ty, TyId};
 use std::alloc::Global;
 use typed_tree::{Node, TBody};
@@ -34,6 +34,7 @@ impl Walk {
     pub fn number(&mut self) -> Result<NodeId, RuleError>
         ensures number { Gives node_no (steps.number (state_of self.old)) result self.new }
         ensures made { self.new.made ≡ self.old.made }
+        ensures items { self.new.items ≡ self.old.items }
     {
         let Some(next) = self.next_node.checked_add(1) else {
             return Err(RuleError::Memory);
@@ -47,6 +48,7 @@ impl Walk {
     pub fn breaks_out(&mut self, from: NodeId, ty: TyId) -> Result<(), RuleError>
         ensures added { Gives (λ u. u) (steps.breaks_out from.0 ty (state_of self.old)) result self.new }
         ensures made { self.new.made ≡ self.old.made }
+        ensures items { self.new.items ≡ self.old.items }
     {
         match self.breaks.push(BreakOut { from, ty }) {
             Ok(()) => Ok(()),
@@ -55,12 +57,18 @@ impl Walk {
     }
 
     /// The number of a type, which gets the next one where it has none.
-    #[tactic(auto, using(crate::proofs::Walking::interned_so))]
+    #[tactic(auto, using(crate::proofs::Walking::interned_here, crate::proofs::Walking::interns_fixed))]
     pub fn interned(&mut self, ty: Ty) -> Result<TyId, RuleError>
         requires { IsTy self.old.items.types ty }
         ensures number { Gives (λ id. id) (steps.interned ty (state_of self.old)) result self.new }
         ensures made { self.new.made ≡ self.old.made }
+        ensures items { HasOnlyTypes self.old.items self.new.items }
     {
-        item_heads::interned(&mut self.items, ty)
+        let known = self.items.ty(TyId(0)).is_some();
+        prove!(known || !known);
+        match self.items.intern(ty) {
+            Ok(id) => Ok(id),
+            Err(NoMemory) => Err(RuleError::Memory),
+        }
     }
 }

@@ -1,5 +1,4 @@
-use Rattle.std.proofs.Common.{◌≡◌, map, take}
-use Rattle.mir_ty.specs.declared.adt.Variant.{Variant}
+use Rattle.std.proofs.Common.{◌≡◌, take}
 use Rattle.type_env.proofs.members.table_of.Given as goal
 
 abbrev pub invariant-loop-name : goal.invariant-loop-name

@@ -1,4 +1,4 @@
-use Rattle.std.proofs.Common.{rules, sym}
+use Rattle.std.proofs.Common.{rules}
 use Rattle.type_env.proofs.Slots.{left, is_noted}
 use Rattle.type_env.proofs.variables.Variables.leave_one.Goals as goal
 

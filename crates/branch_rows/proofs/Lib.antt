@@ -1,0 +1,2 @@
+pub mod LoopTypes
+pub mod Targets

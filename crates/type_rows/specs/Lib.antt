@@ -1,0 +1,5 @@
+pub mod Tables
+pub mod Surroundings
+pub mod Stand
+pub mod Forms
+pub mod Rests

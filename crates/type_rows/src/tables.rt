@@ -1,0 +1,27 @@
+//! Tables of names over the items of a program.
+use item_heads::NameTable;
+use mir_base::List;
+use src_ast::FieldKind;
+use std::collections::HashSet;
+use type_env::{AdtNames, ImplPair};
+
+/// What the rules of typing look up by names, each by one look-up.
+#[derive(Drop)]
+pub struct Tables {
+    /// The names of structs and enums, and of traits, as the text has them.
+    pub adts: NameTable,
+    pub traits: NameTable,
+    /// How the parts of each variant of each struct and enum are written.
+    pub kinds: List<List<FieldKind>>,
+    /// The names of structs and enums, and of bodies, as the items have them.
+    pub adt_names: NameTable,
+    pub body_names: NameTable,
+    /// The names of variants and fields.
+    pub members: List<AdtNames>,
+    /// The names of the methods of each trait.
+    pub methods: List<NameTable>,
+    /// Which structs and enums have an impl of which traits.
+    pub pairs: HashSet<ImplPair>,
+    /// The bodies of `Drop` impls.
+    pub drop_bodies: HashSet<u32>,
+}
