@@ -1,0 +1,4 @@
+pub mod Complete
+pub mod Fitting
+pub mod Sound
+pub mod Until

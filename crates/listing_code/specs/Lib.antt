@@ -1,0 +1,4 @@
+pub mod CodeFound
+pub mod CodeRead
+pub mod CodeReading
+pub mod CodeStands
