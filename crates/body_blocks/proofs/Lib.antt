@@ -1,0 +1,3 @@
+mod Ignoring
+mod Reading
+mod Steps

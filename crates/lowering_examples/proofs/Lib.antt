@@ -1,0 +1,15 @@
+mod Assignments
+mod Boxes
+mod Closures
+mod Conditions
+mod JobQueue
+mod LiteralTests
+mod Locals
+mod Loops
+mod Operands
+mod Operators
+mod Panics
+mod Patterns
+mod Temporaries
+mod TraitObjects
+mod Unwinding

@@ -1,0 +1,2 @@
+//! The traces of worked programs, from their lowered graphs.
+#![tactic(auto)]
