@@ -2,6 +2,9 @@
 pub mod Closures
 pub mod Functions
 pub mod Inner
+pub mod Meanings
+pub mod Order
 pub mod Params
+pub mod Program
 pub mod Types
 pub mod Whole

@@ -1,6 +1,7 @@
 -- What checks add to a walk.
 pub mod Adding
 pub mod Expressions
+pub mod Params
 pub mod Patterns
 pub mod Rows
 pub mod Steps

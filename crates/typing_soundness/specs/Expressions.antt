@@ -38,7 +38,7 @@ abbrev pub NamesCallee : State → Callee → Type 0
 NamesCallee s (Function body is_drop head) = IsFunction s body head × (is_drop ≡ is_drop_body s.items body)
 NamesCallee s (Constructor adt variant tys) =
     (v : Variant) × (variant_at s.items adt variant ≡ Some v) × (tys ≡ v.fields)
-NamesCallee s callee = Unit {0}
+NamesCallee s _ = Unit {0}
 
 abbrev pub Callees : Type 0
 Callees = (s : State) (env : Env) → KnowsItems env.kinds env.self_adt s.items → (e : Syn) → Holds (shaped e) →

@@ -1,4 +1,6 @@
 pub mod Expressions
 pub mod Numbers
+pub mod Program
 pub mod Shapes
+pub mod Types
 pub mod Walks

@@ -1,6 +1,7 @@
 -- What a check adds to a walk: nodes with numbers of their own, and breaks that are carried by nodes.
-use Rattle.std.specs.Prelude.{◌≡◌, ℕ, suc, ◌≤◌, ◌==◌, List, [], ◌∷◌, ◌⊎◌, Option, Result, Contains, if◌then◌else◌}
+use Rattle.std.specs.Prelude.{◌≡◌, ℕ, zero, suc, ◌+◌, ◌++◌, ◌≤◌, ◌==◌, length, map, slice_get, Some, List, [], ◌∷◌, ◌⊎◌, Option, Result, Contains, if◌then◌else◌}
 use Rattle.std.specs.List.{filter_map}
+use Rattle.mir_ty.specs.declared.def.ClosureDef.{ClosureDef}
 use Rattle.mir_ty.specs.declared.ty.TyId.{TyId}
 use Rattle.typed_tree.specs.Nodes.{number_of, nodes_of}
 use Rattle.typed_tree.specs.Tree.{Node, MaybeNode}
@@ -22,6 +23,30 @@ occurs k (n ∷ ns) = if number_of n == k then suc (occurs k ns) else occurs k n
 abbrev pub IsCarried : ℕ × TyId → List Node → Type 0
 IsCarried b ns = (value : MaybeNode) × Contains (filter_map (carried_by b.0) ns) value × (ty_carried value ≡ b.1)
 
+-- so many numbers from one on
+abbrev pub counted : ℕ → ℕ → List ℕ
+counted from zero = []
+counted from (suc count) = from ∷ counted (suc from) count
+
+abbrev pub numbers_of_bodies : State → List ℕ
+numbers_of_bodies s = map (λ body. body.number) s.bodies
+
+-- Within the body of a function, bodies that come are those of closures: they stand in the order of their numbers, there
+-- are as many as closures, and a closure and its body have numbers that differ as the next ones did.
+pub record Ordered (s t : State) : Type 0 where
+  pub count : ℕ
+  pub next : t.next_body ≡ s.next_body + count
+  pub bodies : numbers_of_bodies t ≡ numbers_of_bodies s ++ counted s.next_body count
+  pub closures : length t.items.closures ≡ length s.items.closures + count
+  pub aligned : (k : ℕ) (def : ClosureDef) → slice_get t.items.closures k ≡ Some def → (slice_get s.items.closures k ≡
+      Some def) ⊎ (def.body + length s.items.closures ≡ k + s.next_body)
+
+-- Bodies that come stand in the order of their numbers.
+pub record InOrder (s t : State) : Type 0 where
+  pub count : ℕ
+  pub next : t.next_body ≡ s.next_body + count
+  pub bodies : numbers_of_bodies t ≡ numbers_of_bodies s ++ counted s.next_body count
+
 -- From one state to a later one come these nodes: each has a number of its own among those that are given out in
 -- between, and each break that is new is carried by one of them.
 pub record Walks (s t : State) (ns : List Node) : Type 0 where
@@ -30,6 +55,7 @@ pub record Walks (s t : State) (ns : List Node) : Type 0 where
   pub behind : (k : ℕ) → t.next_node ≤ k → occurs k ns ≡ 0
   pub once : (k : ℕ) → occurs k ns ≤ 1
   pub carried : (b : ℕ × TyId) → Contains t.breaks b → Contains s.breaks b ⊎ IsCarried b ns
+  pub ordered : Ordered s t
 
 -- what is so of all that a check gives, where no rule is broken
 pub record Walked {A : Type 0} (P : A → State → Type 0) (r : Result (A × State) Broken) : Type 0 where

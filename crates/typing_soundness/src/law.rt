@@ -1,6 +1,8 @@
 //! What is proved of the checks of expressions, as clauses of functions without parameters.
 ghost use Rattle.typing_soundness.specs.Expressions.{Loops, Paths, Callees, AreSound, Closures, Functions};
 ghost use Rattle.typing_soundness.specs.Numbers.{StaysTyped, AreInOrder};
+ghost use Rattle.typing_soundness.specs.Program.{AreInTextOrder, BodiesAreTyped, ProgramsAreTyped};
+ghost use Rattle.typing_soundness.specs.Types.{OneNumber, OneParamNumber};
 ghost use Rattle.typing_soundness.specs.Walks.{Expressions, Patterns};
 
 /// What the check of an expression or a pattern adds to a walk: each node has a number of its own, which is given out
@@ -27,4 +29,20 @@ pub fn law_of_expressions()
     ensures expressions { AreSound }
     ensures closures { Closures }
     ensures functions { Functions }
+{}
+
+/// A type that is written has one number, under all rules or those on names alone, in one state and in a later one: so
+/// have the types of a head and those of its body.
+pub fn law_of_written_types()
+    ensures types { OneNumber }
+    ensures params { OneParamNumber }
+{}
+
+/// Of a typed program: its bodies stand in the order of their numbers. Over items that are collected as the walk asks,
+/// each body whose head has its types is well typed, and the program is, where its items are and its bodies have their
+/// heads.
+pub fn law_of_programs()
+    ensures order { AreInTextOrder }
+    ensures bodies { BodiesAreTyped }
+    ensures programs { ProgramsAreTyped }
 {}

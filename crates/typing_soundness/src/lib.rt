@@ -3,4 +3,6 @@
 
 mod law;
 
-pub use law::{law_of_expressions, law_of_numbers, law_of_walks};
+pub use law::{
+    law_of_expressions, law_of_numbers, law_of_programs, law_of_walks, law_of_written_types,
+};

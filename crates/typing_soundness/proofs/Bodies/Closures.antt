@@ -42,13 +42,14 @@ use Rattle.typing_rules.proofs.Sound.Scopes.{joined_cases, knows_bound}
 use Rattle.typing_soundness.specs.Shapes.{is_block, self_first}
 use Rattle.typing_soundness.specs.Walks.{Walked}
 use Rattle.typing_soundness.proofs.Bodies.Inner.{inner_state, IsGoodBody, new_body_sound, answer_sound, block_shape, words_differ, bound_fresh, bound_types, knows_first, block_holds, closure_found}
-use Rattle.typing_soundness.proofs.Bodies.Params.{params_bound, params_walk, answer_still, name_holds}
+use Rattle.typing_soundness.proofs.Bodies.Params.{params_bound, name_holds}
 use Rattle.typing_soundness.proofs.Bodies.Types.{IsParamTy, plain_param, written_plain}
 use Rattle.typing_soundness.proofs.Bodies.Whole.{closure_whole, value_of}
 use Rattle.typing_soundness.proofs.Numbers.Rows.{found_in}
 use Rattle.typing_soundness.proofs.Sound.Loops.{bind_walked}
 use Rattle.typing_soundness.proofs.Walking.Adding.{walks_none, walks_both, walks_node}
-use Rattle.typing_soundness.proofs.Walking.Expressions.{typed_walks, in_closure, from_same, written_still}
+use Rattle.typing_soundness.proofs.Walking.Expressions.{typed_walks}
+use Rattle.typing_soundness.proofs.Walking.Params.{params_walk, answer_still, in_closure, from_same, written_still}
 use Rattle.typing_soundness.proofs.Walking.Steps.{walk_obeyed, walk_ends}
 
 -- ---- captures

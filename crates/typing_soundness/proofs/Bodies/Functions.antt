@@ -28,14 +28,15 @@ use Rattle.typing_rules.proofs.Sound.Scopes.{knows_bound}
 use Rattle.typing_soundness.specs.Shapes.{shaped, is_block, self_first}
 use Rattle.typing_soundness.proofs.Bodies.Closures.{both_walk, types_kept, grows_body, closure_sound}
 use Rattle.typing_soundness.proofs.Bodies.Inner.{inner_state, IsGoodBody, new_body_sound, answer_sound, block_shape, words_differ, bound_fresh, bound_types, knows_first, block_holds}
-use Rattle.typing_soundness.proofs.Bodies.Params.{FirstPlain, params_bound, params_walk, answer_still, written_param_still}
+use Rattle.typing_soundness.proofs.Bodies.Params.{FirstPlain, params_bound}
 use Rattle.typing_soundness.proofs.Bodies.Types.{written_param_sound}
 use Rattle.typing_soundness.proofs.Bodies.Whole.{function_whole}
 use Rattle.typing_soundness.proofs.Numbers.Rows.{found_in}
 use Rattle.typing_soundness.proofs.Sound.Expressions.{typed_sound}
 use Rattle.typing_soundness.proofs.Sound.Loops.{bind_walked}
 use Rattle.typing_soundness.proofs.Walking.Adding.{walks_both}
-use Rattle.typing_soundness.proofs.Walking.Expressions.{typed_walks, from_same}
+use Rattle.typing_soundness.proofs.Walking.Expressions.{typed_walks}
+use Rattle.typing_soundness.proofs.Walking.Params.{params_walk, answer_still, written_param_still, from_same}
 
 -- what is typed is well typed
 pub expression_sound : (env : Env) (e : Syn) → Holds (shaped e) → Sound env (typing.typed env e)

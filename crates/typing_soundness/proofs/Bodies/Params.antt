@@ -20,14 +20,13 @@ use Rattle.well_typed.specs.Places.{is_by}
 use Rattle.well_typed.specs.Types.{dyn_in, is_dyn, is_enum, is_reference, is_same, reference_in}
 use Rattle.typing_rules.specs.Bodies as bodies
 use Rattle.typing_rules.specs.Bodies.{param_expected, is_name_or_wildcard, is_name_or_wildcard_form}
-use Rattle.typing_rules.specs.Check.{Check, State, Broken, and_then, interned, breaks}
+use Rattle.typing_rules.specs.Check.{Check, State, Broken, and_then, breaks}
 use Rattle.typing_rules.specs.Patterns as rules
 use Rattle.typing_rules.specs.Places.{used, a_node_of}
 use Rattle.typing_rules.specs.Promises.{IsThere, IsReady, AreReady, Grows, Fact, Gives}
 use Rattle.typing_rules.specs.Rows.{Expected, taking}
-use Rattle.typing_rules.specs.Written as types
 use Rattle.typing_rules.specs.Scope.{Env, Entry, Local, adt_named, kind_at, variable}
-use Rattle.src_ast.specs.Syntax.{Word, Syn, syn, Shape, AnyPattern, BindPattern, ParensPattern, ParamOf, SelfParam, ParensType, RefType, Receiver, ByValue, ByShared, ByUnique, Syns, no_syn, a_syn, MaybeSyn, nothing, just}
+use Rattle.src_ast.specs.Syntax.{Word, Syn, syn, Shape, AnyPattern, BindPattern, ParensPattern, ParamOf, SelfParam, Syns, no_syn, a_syn}
 use Rattle.src_ast.specs.View.{self_name}
 use Rattle.typing_rules.proofs.Sound.AllPatterns.{pattern_sound}
 use Rattle.typing_rules.proofs.Sound.Bindings.{Binds, binds_none, binds_from, binds_join, binds_one}
@@ -38,13 +37,8 @@ use Rattle.typing_rules.proofs.Sound.Later.{same_reference, same_copy, ready_lat
 use Rattle.typing_rules.proofs.Sound.Named.{adt_made}
 use Rattle.typing_rules.proofs.Sound.Operators.{or_cases, same_id}
 use Rattle.typing_soundness.specs.Shapes.{no_self, self_first}
-use Rattle.typing_soundness.specs.Walks.{Walks, Walked}
 use Rattle.typing_soundness.proofs.Bodies.Types.{IsParamTy, param_ready, receiver_sound}
 use Rattle.typing_soundness.proofs.Bodies.Whole.{IsSimple, AreParams, names_in, entries_of_params}
-use Rattle.typing_soundness.proofs.Walking.Adding.{walks_none, walks_both, walks_node}
-use Rattle.typing_soundness.proofs.Walking.Expressions.{from_same, Still, still, interned_still, written_still}
-use Rattle.typing_soundness.proofs.Walking.Patterns.{pattern_walks}
-use Rattle.typing_soundness.proofs.Walking.Steps.{walk, walk_obeyed, walk_found, walk_ends, walk_interned, SameWalk}
 
 -- ---- two facts of one check
 
@@ -257,53 +251,3 @@ entries_same [] = refl
 entries_same (p ∷ ps) =
     ap (λ es. entries_of p.pattern ++ es) (entries_same ps) ∙ sym (filter_map-append binding_entry (nodes_of p.pattern)
     (param_nodes ps))
-
--- ---- what parameters add to a walk
-
-module _ (around : types.Around) where
-  param_interned : (unique : Bool) (to : TyId) (s : State) {t : State} → SameWalk t s → Walked (λ id u. SameWalk t u)
-      (interned (types.reference_to unique to) s)
-  param_interned unique to s e = interned_still (types.reference_to unique to) s e
-
-  mutual
-    pub written_param_still : (ty : Syn) (s : State) → Walked (Still s) (types.written_param around ty s)
-    written_param_still (syn at form) s = written_param_form_still at form s
-
-    written_param_form_still : (at : Pos) (form : Shape) (s : State) → Walked (Still s) (types.written_param_form around
-        at form s)
-    written_param_form_still at (ParensType inside) s = written_param_still inside s
-    written_param_form_still at (RefType unique to) s =
-        walk (written_still around to s) λ ty t e. param_interned unique ty t e
-    written_param_form_still at form s = written_still around (syn at form) s
-
-receiver_still : (env : Env) (at : Pos) (receiver : Receiver) (s : State) → Walked (Still s) (bodies.receiver_ty env at
-    receiver s)
-receiver_still env at receiver s =
-    walk_found Rule.T01 at env.self_adt _ λ n is. walk_interned (Ty.Adt n) s λ own t e. by receiver own t e
-  where
-    by : (r : Receiver) (own : TyId) (t : State) → SameWalk s t → Walked (Still s) (bodies.self_ty r own t)
-    by ByValue own t e = walk_ends e
-    by ByShared own t e = interned_still (Ty.Shared own) t e
-    by ByUnique own t e = interned_still (Ty.Unique own) t e
-
-module _ (env : Env) (ty_of_param : Syn → Check TyId) (good : (ty : Syn) (s : State) → Walked (Still s) (ty_of_param ty
-    s)) where
-  param_walks : (p : Syn) (earlier : List Entry) (s : State) → Walked (λ x t. Walks s t (nodes_of x.0.pattern))
-      (bodies.param env ty_of_param p earlier s)
-  param_walks (syn at (ParamOf p ty)) earlier s =
-      walk (good ty s) λ t u e. walk_obeyed Rule.T08 at (is_name_or_wildcard p || not (is_reference u.items t)) _ λ _.
-      walk (pattern_walks env param_expected t p earlier u) λ n v w. walk_ends (from_same e w)
-  param_walks (syn at (SelfParam receiver)) earlier s =
-      walk (receiver_still env at receiver s) λ ty t e. walk_ends (from_same e (walks_node at ty _ (tree.Binding
-      self_name) (walks_none (numbered t))))
-  param_walks (syn at _) earlier s = record { so = tt }
-
-  pub params_walk : (params : Syns) (earlier : List Entry) (s : State) → Walked (λ ps t. Walks s t (param_nodes ps.0))
-      (bodies.params_of env ty_of_param params earlier s)
-  params_walk no_syn earlier s = walk_ends (walks_none s)
-  params_walk (a_syn first rest) earlier s =
-      walk (param_walks first earlier s) λ p t w. walk (params_walk rest p.1 t) λ ps u x. walk_ends (walks_both w x)
-
-pub answer_still : (env : Env) (answer : MaybeSyn) (s : State) → Walked (Still s) (bodies.answer_of env answer s)
-answer_still env nothing s = walk_ends (still s)
-answer_still env (just ty) s = written_still (bodies.all_rules env) ty s

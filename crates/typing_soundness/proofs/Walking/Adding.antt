@@ -1,5 +1,5 @@
 -- Nodes that are added to a walk.
-use Rattle.std.proofs.Common.{◌≡◌, ℕ, suc, ◌+◌, ◌≤◌, ◌<◌, Bool, true, false, ◌==◌, if◌then◌else◌, List, [], ◌∷◌, ◌++◌, Option, Some, Contains, ◌⊎◌, inl, inr, refl, ap, sym, subst, ◌∙◌, arith}
+use Rattle.std.proofs.Common.{◌≡◌, ℕ, suc, ◌+◌, ◌≤◌, ◌<◌, Bool, true, false, ◌==◌, if◌then◌else◌, List, [], ◌∷◌, ◌++◌, Option, Some, Contains, ◌⊎◌, inl, inr, refl, ap, sym, subst, ◌∙◌, arith, zero, map, length, slice_get}
 use Rattle.std.specs.List.{filter_map}
 use Rattle.std.specs.List.{cons_option}
 use Rattle.std.proofs.lemmas.Bool.{eqb-true, cases_order}
@@ -7,6 +7,9 @@ use Rattle.std.proofs.lemmas.List.Elements.{filter_map-append, Contains-append_l
 use Rattle.mir_base.specs.declared.place_in_text.Pos.{Pos}
 use Rattle.mir_ty.specs.declared.ty.TyId.{TyId}
 use Rattle.typed_tree.specs.declared.node.Use.{Use}
+use Rattle.std.proofs.lemmas.List.{append_assoc, append-nil}
+use Rattle.mir_ty.specs.declared.def.ClosureDef.{ClosureDef}
+use Rattle.typed_tree.specs.Tree.{BodyTree}
 use Rattle.typed_tree.specs.Nodes.{number_of, nodes_of, nodes_in}
 use Rattle.typed_tree.specs.Tree.{Node, node, Form, Break}
 use Rattle.well_typed.specs.Nodes.{carried_by}
@@ -15,7 +18,7 @@ use Rattle.typing_rules.specs.Check.{State}
 use Rattle.typing_rules.specs.Places.{used}
 use Rattle.typing_rules.specs.Rows.{used_if_place}
 use Rattle.typing_rules.proofs.Sound.Gives.{numbered}
-use Rattle.typing_soundness.specs.Walks.{occurs, IsCarried, Walks}
+use Rattle.typing_soundness.specs.Walks.{occurs, IsCarried, counted, numbers_of_bodies, Ordered, Walks}
 
 -- ---- how often a number occurs
 
@@ -56,6 +59,68 @@ carried_cases b xs ys c =
     by (inl h) = inl (c.0, h, c.2)
     by (inr h) = inr (c.0, h, c.2)
 
+-- ---- bodies and closures
+
+-- states that have the same bodies and closures
+pub record Stays (s t : State) : Type 0 where
+  pub next_body : t.next_body ≡ s.next_body
+  pub bodies : t.bodies ≡ s.bodies
+  pub closures : t.items.closures ≡ s.items.closures
+
+pub stays_refl : (s : State) → Stays s s
+stays_refl s = record { next_body = refl; bodies = refl; closures = refl }
+
+pub stays_both : {s t u : State} → Stays s t → Stays t u → Stays s u
+stays_both p q = record {
+  next_body = q.next_body ∙ p.next_body;
+  bodies = q.bodies ∙ p.bodies;
+  closures = q.closures ∙ p.closures;
+}
+
+pub ordered_of : {s t : State} → Stays s t → Ordered s t
+ordered_of {s} {t} e = record {
+  count = 0;
+  next = e.next_body ∙ omega arith;
+  bodies = ap (map (λ (b : BodyTree). b.number)) e.bodies ∙ sym (append-nil (numbers_of_bodies s));
+  closures = ap length e.closures ∙ omega arith;
+  aligned = λ k def at. inl (subst (λ cs. slice_get cs k ≡ Some def) e.closures at);
+}
+
+pub counted_join : (from a b : ℕ) → counted from a ++ counted (from + a) b ≡ counted from (a + b)
+counted_join from zero b = λ i. counted (zero_right i) (zero_left i)
+  where
+    zero_right : from + 0 ≡ from
+    zero_right = omega arith
+
+    zero_left : b ≡ 0 + b
+    zero_left = omega arith
+counted_join from (suc a) b =
+    ap (λ ns. from ∷ ns) (ap (λ n. counted (suc from) a ++ counted n b) next ∙ counted_join (suc from) a b) ∙ ap
+    (counted from) sums
+  where
+    next : from + suc a ≡ suc from + a
+    next = omega arith
+
+    sums : suc (a + b) ≡ suc a + b
+    sums = omega arith
+
+pub ordered_both : {s t u : State} → Ordered s t → Ordered t u → Ordered s u
+ordered_both {s} {t} {u} p q = record {
+  count = p.count + q.count;
+  next = let a = p.next in let b = q.next in omega (arith, a, b);
+  bodies = q.bodies ∙ (ap (λ ns. ns ++ counted t.next_body q.count) p.bodies ∙ (append_assoc (numbers_of_bodies s)
+      (counted s.next_body p.count) (counted t.next_body q.count) ∙ ap (λ ns. numbers_of_bodies s ++ ns) (ap (λ n.
+      counted s.next_body p.count ++ counted n q.count) p.next ∙ counted_join s.next_body p.count q.count)));
+  closures = let a = p.closures in let b = q.closures in omega (arith, a, b);
+  aligned = λ k def at. later k def (q.aligned k def at);
+}
+  where
+    later : (k : ℕ) (def : ClosureDef) → (slice_get t.items.closures k ≡ Some def) ⊎ (def.body + length t.items.closures
+        ≡ k + t.next_body) → (slice_get s.items.closures k ≡ Some def) ⊎ (def.body + length s.items.closures ≡ k +
+        s.next_body)
+    later k def (inl at) = p.aligned k def at
+    later k def (inr e) = inr (let a = p.closures in let b = p.next in omega (arith, a, b, e))
+
 -- ---- walks
 
 pub walks_none : (s : State) → Walks s s []
@@ -65,6 +130,7 @@ walks_none s = record {
   behind = λ k h. refl;
   once = λ k. omega arith;
   carried = λ b h. inl h;
+  ordered = ordered_of (stays_refl s);
 }
 
 pub walks_both : {s t u : State} {xs ys : List Node} → Walks s t xs → Walks t u ys → Walks s u (xs ++ ys)
@@ -78,6 +144,7 @@ walks_both {s} {t} {u} {xs} {ys} p q = record {
       occurs_both k xs ys ∙ omega (arith, a, b);
   once = λ k. subst (λ n. n ≤ 1) (sym (occurs_both k xs ys)) (once_by k (cases_order k t.next_node));
   carried = λ b h. later b (q.carried b h);
+  ordered = ordered_both p.ordered q.ordered;
 }
   where
     once_by : (k : ℕ) → (k ≡ t.next_node) ⊎ ((k < t.next_node) ⊎ (t.next_node < k)) → occurs k xs + occurs k ys ≤ 1
@@ -103,6 +170,7 @@ walks_so {s} {xs = xs} ys same on p =
       behind = λ k h. same k ∙ p.behind k h;
       once = λ k. subst (λ n. n ≤ 1) (sym (same k)) (p.once k);
       carried = λ b h. by b (p.carried b h);
+      ordered = p.ordered;
     }
   where
     by : (b : ℕ × TyId) → Contains s.breaks b ⊎ IsCarried b xs → Contains s.breaks b ⊎ IsCarried b ys
@@ -122,17 +190,28 @@ walks_swapped {xs = xs} {ys = ys} p q =
     walks_so (ys ++ xs) (λ k. let a = occurs_both k xs ys in let b = occurs_both k ys xs in omega (arith, a, b)) (λ b c.
     swapped_carry b xs ys c) (walks_both p q)
 
--- a state that differs in nothing that is looked at
-pub walks_same : {s t : State} (u : State) {xs : List Node} → u.next_node ≡ t.next_node → u.breaks ≡ t.breaks → Walks s
-    t xs → Walks s u xs
-walks_same {s} {t} u {xs} number breaks p =
+-- states at both ends that have the same numbers of nodes and breaks
+pub walks_recast : (s t u v : State) {xs : List Node} → s.next_node ≡ t.next_node → s.breaks ≡ t.breaks → v.next_node ≡
+    u.next_node → v.breaks ≡ u.breaks → Ordered s v → Walks t u xs → Walks s v xs
+walks_recast s t u v {xs} first firsts last lasts ordered p =
     record {
-      numbers = omega (arith, number, p.numbers);
-      before = p.before;
-      behind = λ k h. p.behind k (omega (arith, number, h));
+      numbers = let n = p.numbers in omega (arith, first, last, n);
+      before = λ k h. p.before k (omega (arith, first, h));
+      behind = λ k h. p.behind k (omega (arith, last, h));
       once = p.once;
-      carried = λ b h. p.carried b (subst (λ bs. Contains bs b) breaks h);
+      carried = λ b h. by b (p.carried b (subst (λ bs. Contains bs b) lasts h));
+      ordered = ordered;
     }
+  where
+    by : (b : ℕ × TyId) → Contains t.breaks b ⊎ IsCarried b xs → Contains s.breaks b ⊎ IsCarried b xs
+    by b (inl h) = inl (subst (λ bs. Contains bs b) (sym firsts) h)
+    by b (inr c) = inr c
+
+-- a state that differs in nothing that is looked at
+pub walks_same : {s t : State} (u : State) {xs : List Node} → u.next_node ≡ t.next_node → u.breaks ≡ t.breaks → Stays t u
+    → Walks s t xs → Walks s u xs
+walks_same {s} {t} u number breaks stays p =
+    walks_recast s s t u refl refl number breaks (ordered_both p.ordered (ordered_of stays)) p
 
 -- ---- nodes
 
@@ -163,6 +242,7 @@ walks_number s at ty by form =
       behind = λ k h. other_occurs k (node s.next_node at ty by form) (λ e. omega (arith, e, h));
       once = λ k. one_occurs k (node s.next_node at ty by form);
       carried = λ b h. inl h;
+      ordered = ordered_of (record { next_body = refl; bodies = refl; closures = refl });
     }
 
 -- a node whose number comes before those of its parts

@@ -1,6 +1,5 @@
 -- What expressions add to a walk: the recursion, one line a form.
-use Rattle.std.proofs.Common.{◌≡◌, ℕ, suc, Bool, true, false, ◌||◌, not, nat_le, if◌then◌else◌, List, [], ◌∷◌, ◌++◌, length, Option, Some, None, Result, Ok, Err, refl, ap, sym, subst, ◌∙◌}
-use Rattle.std.specs.List.{position as position_of}
+use Rattle.std.proofs.Common.{◌≡◌, ℕ, suc, Bool, true, false, ◌||◌, not, nat_le, if◌then◌else◌, List, [], ◌∷◌, ◌++◌, length, Option, Some, None, Result, Ok, Err, refl, ap, sym, subst, ◌∙◌, ◌+◌, map, slice_get, ◌⊎◌, inl, inr, arith}
 use Rattle.mir_base.specs.declared.int_kind.IntKind.{IntKind}
 use Rattle.mir_base.specs.declared.place_in_text.Pos.{Pos}
 use Rattle.mir_base.specs.declared.rule.Rule.{Rule}
@@ -11,11 +10,10 @@ use Rattle.mir_ty.specs.ItemTable.{with_closure}
 use Rattle.typed_tree.specs.Nodes.{nodes_of, nodes_among, nodes_of_fields}
 use Rattle.typed_tree.specs.Tree as tree
 use Rattle.typed_tree.specs.Tree.{Node, node, Form, Nodes, no_node, a_node, Fields, no_field, a_field, MaybeNode, absent, present, BodyTree}
-use Rattle.well_typed.specs.Items.{is_equal}
 use Rattle.well_typed.specs.Patterns as well
 use Rattle.well_typed.specs.Types.{is_reference}
 use Rattle.typing_rules.specs.Bodies as bodies
-use Rattle.typing_rules.specs.Check.{Check, State, Broken, pure, interned, interned_at, ◌>>=◌, ◌<$>◌, with_body, in_new_body, put_before, within_body}
+use Rattle.typing_rules.specs.Check.{Check, State, Broken, pure, ◌>>=◌, ◌<$>◌, with_body, in_new_body, put_before, within_body}
 use Rattle.typing_rules.specs.Named.{PathValue, Makes, IsBroken, path_value, Callee, Function, Constructor, Prints, Asks, Drops, Forgets, Boxes, AValue, Unnamed, NoCallee, callee_of, method_named}
 use Rattle.typing_rules.specs.Patterns.{pattern, count_of, target_of}
 use Rattle.typing_rules.specs.Places.{unit, bool, never, int, struct_field, numbered_part}
@@ -23,15 +21,24 @@ use Rattle.typing_rules.specs.Rows as rows
 use Rattle.typing_rules.specs.Rows.{Typer, Referrer, Expected, Given, taken}
 use Rattle.typing_rules.specs.Scope.{Env, Entry, Capture, variable, with_variables, within_loop, jumps_to, in_guard, field_named}
 use Rattle.typing_rules.specs.Typed as typing
-use Rattle.src_ast.specs.Syntax.{Word, Syn, syn, Shape, Literal, TruthLiteral, Path, Minus, Bang, Star, Ampersand, Calculate, Compare, Both, Either, Store, CallOf, MethodOf, FieldOf, PartOf, ElementOf, StructOf, FieldInit, Ident, NamedType, GenericType, DynType, SelfType, ParensType, TupleType, ArrayType, NeverType, RefType, Parens, TupleOf, ArrayOf, Braces, IfElse, IfLetElse, MatchOn, ArmOf, LoopOf, WhileOf, WhileLetOf, BreakOf, ContinueOf, ReturnOf, MoveOf, PanicOf, LetOf, Semi, Syns, no_syn, a_syn, MaybeSyn, nothing, just}
+use Rattle.src_ast.specs.Syntax.{Word, Syn, syn, Shape, Literal, TruthLiteral, Path, Minus, Bang, Star, Ampersand, Calculate, Compare, Both, Either, Store, CallOf, MethodOf, FieldOf, PartOf, ElementOf, StructOf, FieldInit, Ident, Parens, TupleOf, ArrayOf, Braces, IfElse, IfLetElse, MatchOn, ArmOf, LoopOf, WhileOf, WhileLetOf, BreakOf, ContinueOf, ReturnOf, MoveOf, PanicOf, LetOf, Semi, Syns, no_syn, a_syn, MaybeSyn, nothing, just}
 use Rattle.typing_rules.specs.Written as types
 use Rattle.typing_rules.proofs.Sound.Gives.{numbered}
-use Rattle.typing_soundness.specs.Walks.{Walks, Walked, WalksNode}
-use Rattle.typing_soundness.proofs.Walking.Adding.{walks_none, walks_both, walks_node}
+use Rattle.std.proofs.lemmas.List.{map-append, length-append}
+use Rattle.mir_ty.specs.declared.def.ClosureDef.{ClosureDef}
+use Rattle.mir_ty.specs.Facts.{is_copy}
+use Rattle.mir_ty.proofs.ListLemmas.{slice_get-push_cases}
+use Rattle.typed_tree.specs.Nodes.{numbers_of}
+use Rattle.typed_tree.specs.Tree.{ParamTree}
+use Rattle.well_typed.specs.Types.{is_dyn}
+use Rattle.typing_rules.specs.Places.{used, a_node_of, meaning_form, is_fixed, in_own_guard}
+use Rattle.typing_soundness.proofs.Walking.Params.{Still, still, written_still, params_walk, answer_still, in_closure}
+use Rattle.typing_soundness.specs.Walks.{counted, numbers_of_bodies, Ordered, Walks, Walked, WalksNode}
+use Rattle.typing_soundness.proofs.Walking.Adding.{Stays, stays_refl, stays_both, ordered_of, ordered_both, walks_recast, walks_none, walks_both, walks_node}
 use Rattle.typing_soundness.proofs.Walking.Patterns.{pattern_walks}
 use Rattle.typing_soundness.proofs.Walking.Rows as on
 use Rattle.typing_soundness.proofs.Walking.Rows.{WalksTyper, WalksMaybe, WalksArgs, WalksReferrer, WalksMatcher}
-use Rattle.typing_soundness.proofs.Walking.Steps.{walk, walk_obeyed, walk_found, walk_ends, walk_map, walk_nothing, SameWalk, on_same, walk_interned, walk_fitted}
+use Rattle.typing_soundness.proofs.Walking.Steps.{walk, walk_obeyed, walk_found, walk_ends, walk_map, walk_nothing, on_same, walk_interned, walk_fitted}
 
 -- ---- paths
 
@@ -93,89 +100,13 @@ minus_walks : (at : Pos) (o : Option (ℕ × Option IntKind)) (operand : Typer) 
 minus_walks at (Some n) operand good = on.literal_walks at true n.0 n.1
 minus_walks at None operand good = on.negate_walks at operand good
 
--- ---- written types, which have no nodes
-
-abbrev pub Still : {A : Type 0} → State → A → State → Type 0
-Still s a t = SameWalk s t
-
-pub still : (s : State) → SameWalk s s
-still s = record { number = refl; breaks = refl }
-
-pub onward : {s t u : State} → SameWalk s t → SameWalk t u → SameWalk s u
-onward p q = record { number = q.number ∙ p.number; breaks = q.breaks ∙ p.breaks }
-
-pub interned_still : (ty : Ty) (s : State) {t : State} → SameWalk t s → Walked (λ id u. SameWalk t u) (interned ty s)
-interned_still ty s {t} e = by (position_of (is_equal ty) s.items.types)
-  where
-    by : (o : Option ℕ) → Walked (λ id u. SameWalk t u) (interned_at ty o s)
-    by (Some n) = walk_ends e
-    by None = walk_ends (record { number = e.number; breaks = e.breaks })
-
-module _ (around : types.Around) where
-  named_still : (at : Pos) (adt : Option ℕ) (scalar : Option TyId) (s : State) → Walked (Still s) (types.named_by at adt
-      scalar s)
-  named_still at adt (Some ty) s = walk_ends (still s)
-  named_still at adt None s = walk_found Rule.T01 at adt _ λ n is. interned_still (Ty.Adt n) s (still s)
-
-  tuple_still : (tys : List TyId) (s : State) {t : State} → SameWalk t s → Walked (λ id u. SameWalk t u) (types.tuple_by
-      tys s)
-  tuple_still [] s e = walk_ends e
-  tuple_still (ty ∷ tys) s e = interned_still (Ty.Tuple (ty ∷ tys)) s e
-
-  mutual
-    pub written_still : (ty : Syn) (s : State) → Walked (Still s) (types.written around ty s)
-    written_still (syn at form) s = written_form_still at form s
-
-    written_form_still : (at : Pos) (form : Shape) (s : State) → Walked (Still s) (types.written_form around at form s)
-    written_form_still at (NamedType name) s = named_still at (types.number_of around.adts name) (types.scalar_named
-        name) s
-    written_form_still at (GenericType name content) s =
-        walk_obeyed Rule.T01 at (types.is_box name) _ λ _. walk (written_still content s) λ ty t e. interned_still
-        (Ty.Boxed ty) t e
-    written_form_still at (DynType name trait_) s =
-        walk_obeyed Rule.T01 at (types.is_box name) _ λ _. walk_found Rule.T01 trait_.0 (types.number_of around.traits
-        trait_.1) _ λ n is. walk_interned (Ty.Dyn n) s λ ty t e. interned_still (Ty.Boxed ty) t e
-    written_form_still at SelfType s = walk_found Rule.T01 at around.self_adt _ λ n is. interned_still (Ty.Adt n) s
-        (still s)
-    written_form_still at (ParensType inside) s = written_still inside s
-    written_form_still at (TupleType parts) s =
-        walk (all_written_still parts s) λ tys t e. walk (tuple_still tys t e) λ ty u f. walk_obeyed Rule.T19 at (not
-        around.has_limits || nat_le (length tys) 12) _ λ _. walk_ends f
-    written_form_still at (ArrayType element count suffix) s =
-        walk (written_still element s) λ ty t e. walk_obeyed Rule.T03 at (not around.has_limits || types.is_usize
-        suffix) _ λ _. walk_obeyed Rule.T19 at (not around.has_limits || nat_le count 32) _ λ _. interned_still
-        (Ty.Array ty (types.length_shown count)) t e
-    written_form_still at NeverType s = walk_ends (still s)
-    written_form_still at (RefType unique to) s =
-        walk (written_still to s) λ ty t e. walk_obeyed Rule.T08 at (not around.has_limits) _ λ _. interned_still
-        (types.reference_to unique ty) t e
-    written_form_still at _ s = record { so = tt }
-
-    all_written_still : (parts : Syns) (s : State) → Walked (Still s) (types.all_written around parts s)
-    all_written_still no_syn s = walk_ends (still s)
-    all_written_still (a_syn first rest) s =
-        walk (written_still first s) λ ty t e. walk (all_written_still rest t) λ tys u f. walk_ends (onward e f)
+-- ---- what is declared
 
 declared_still : (env : Env) (ty : MaybeSyn) (s : State) → Walked (Still s) (typing.declared env ty s)
 declared_still env nothing s = walk_ends (still s)
 declared_still env (just ty) s = walk (written_still (bodies.all_rules env) ty s) λ t u e. walk_ends e
 
 -- ---- closures
-
-pub from_same : {s t u : State} {xs : List Node} → SameWalk s t → Walks t u xs → Walks s u xs
-from_same {s} e w = walks_both (on_same e (walks_none s)) w
-
--- a body of its own leaves the walk where it was
-pub body_still : {A : Type 0} (body : A → BodyTree) (check : Check A) (s : State) → Walked (Still s) (with_body body
-    (in_new_body check) s)
-body_still {A} body check s = by (check (record s { bodies = []; next_node = 0; breaks = [] }))
-  where
-    by : (r : Result (A × State) Broken) → Walked (Still s) (put_before s.bodies body (within_body (record s {
-      bodies =
-          [];
-    }) r))
-    by (Ok a) = walk_ends (record { number = refl; breaks = refl })
-    by (Err e) = record { so = tt }
 
 capture_walks : (env : Env) (k : ℕ) (e : Syn) (earlier : List Entry) (s : State) → Walked (λ c t. Walks s t (nodes_of
     c.0)) (bodies.capture env k e earlier s)
@@ -189,6 +120,26 @@ capture_walks env k (syn at (Ident name)) earlier s =
     named name ty k = record { name = name; ty = ty; meaning = Capture 0 k }
 capture_walks env k (syn at _) earlier s = record { so = tt }
 
+capture_stays : (env : Env) (k : ℕ) (e : Syn) (earlier : List Entry) (s : State) → Walked (λ c t. Stays s t)
+    (bodies.capture env k e earlier s)
+capture_stays env k (syn at (Ident name)) earlier s =
+    walk_obeyed Rule.T01 at (bodies.is_captured name env.variables) _ λ _. walk_obeyed Rule.T02 at (not
+    (bodies.is_captured name earlier)) _ λ _. walk_found Rule.T01 at (variable env.variables name) _ λ x is. walk {f = λ
+    n. pure (n, earlier ++ named name x.ty k ∷ [])} (taken_stays x) λ n u e. walk_ends e
+  where
+    named : Word → TyId → ℕ → Entry
+    named name ty k = record { name = name; ty = ty; meaning = Capture 0 k }
+
+    place : Entry → Node
+    place x = a_node_of s.next_node at x.ty (meaning_form x.name x.meaning)
+
+    taken_stays : (x : Entry) → Walked (λ n t. Stays s t) (taken env None (place x) (numbered s))
+    taken_stays x =
+        walk_obeyed Rule.T07 at (is_copy s.items x.ty || not (is_fixed s.items (in_own_guard env.variables) (place x) ||
+        is_dyn s.items x.ty)) _ λ _. walk_obeyed Rule.T08 at (not (is_reference s.items x.ty)) _ λ _. walk_ends (record
+        { next_body = refl; bodies = refl; closures = refl })
+capture_stays env k (syn at _) earlier s = record { so = tt }
+
 captured_walks : (env : Env) (k : ℕ) (captures : Syns) (earlier : List Entry) (s : State) → Walked (λ c t. Walks s t
     (nodes_among c.0)) (bodies.captured env k captures earlier s)
 captured_walks env k no_syn earlier s = walk_ends (walks_none s)
@@ -196,23 +147,121 @@ captured_walks env k (a_syn first rest) earlier s =
     walk (capture_walks env k first earlier s) λ c t w. walk (captured_walks env (suc k) rest c.1 t) λ cs u x. walk_ends
     (walks_both w x)
 
--- the body of a closure, in a walk of its own
-abbrev pub in_closure : Env → Pos → ℕ → TyId → List Entry → Syns → MaybeSyn → (Env → Typer) → Check BodyTree
-in_closure env at n ty captures params answer block = do
-  self ← bodies.name_param at [] ty
-  ps ← bodies.params_of (bodies.inside_closure env captures) (types.written (bodies.all_rules env)) params []
-  t ← bodies.answer_of env answer
-  b ← block (bodies.inside (bodies.inside_closure env captures) t ps.1) (Some t)
-  bodies.within_limit at (bodies.body_of n (self.0 ∷ ps.0) t b)
+-- captures add no body
+captured_stays : (env : Env) (k : ℕ) (captures : Syns) (earlier : List Entry) (s : State) → Walked (λ c t. Stays s t)
+    (bodies.captured env k captures earlier s)
+captured_stays env k no_syn earlier s = walk_ends (stays_refl s)
+captured_stays env k (a_syn first rest) earlier s =
+    walk (capture_stays env k first earlier s) λ c t e. walk (captured_stays env (suc k) rest c.1 t) λ cs u f. walk_ends
+    (stays_both e f)
 
-closure_walks : (env : Env) (at : Pos) (captures params : Syns) (answer : MaybeSyn) (block : Env → Typer) → WalksTyper
-    (bodies.closure env at captures params answer block)
-closure_walks env at captures params answer block want s =
-    walk (captured_walks env 0 captures [] s') λ caps t w. walk_interned (Ty.Closure (length t.items.closures)) (with_
-    caps.1 t) λ ty u e. walk (body_still (λ b. b) (in_closure env at s.next_body ty caps.1 params answer block) u) λ b v f. walk_fitted want (node s.next_node at ty None
-    (tree.Closure (length t.items.closures) caps.0)) (walks_node at ty None (tree.Closure (length t.items.closures)
-    caps.0) (on_same f (on_same e (on_same {u = with_ caps.1 t} (record { number = refl; breaks = refl }) (from_same
-    {t = s'} (record { number = refl; breaks = refl }) w)))))
+pub both_walk : {A : Type 0} {P Q : A → State → Type 0} (r : Result (A × State) Broken) → Walked P r → Walked Q r → Walked
+    (λ a t. P a t × Q a t) r
+both_walk (Ok a) h k = record { so = (h.so, k.so) }
+both_walk (Err e) h k = record { so = tt }
+
+-- the body of a closure has its number, and those inside it the next ones
+inner_walks : (env : Env) (at : Pos) (n : ℕ) (ty : TyId) (captures : List Entry) (params : Syns) (answer : MaybeSyn)
+    (block : Env → Typer) → ((inner : Env) → WalksTyper (block inner)) → (s : State) → Walked (λ b t. (b.number ≡ n) ×
+    Ordered s t) (in_closure env at n ty captures params answer block s)
+inner_walks env at n ty captures params answer block good s =
+    walk (params_walk (bodies.inside_closure env captures) (types.written (bodies.all_rules env)) (λ p t. written_still
+    (bodies.all_rules env) p t) params [] (numbered s)) λ ps t w1. walk (answer_still env answer t) λ a u e. walk (good
+    (bodies.inside (bodies.inside_closure env captures) a ps.1) (Some a) u) λ b v w2. walk_obeyed Rule.T19 at (nat_le
+    (length (numbers_of (bodies.body_of n (self_param s ∷ ps.0) a b))) 2048) _ λ _. walk_ends (
+      refl,
+      ordered_both
+          (ordered_of (record { next_body = refl; bodies = refl; closures = refl })) (ordered_both w1.ordered (ordered_both
+          (ordered_of e.stays) w2.ordered)),
+    )
+  where
+    self_param : State → ParamTree
+    self_param s =
+        record { pattern = used (rows.taking s.items ty) (a_node_of s.next_node at ty (tree.Binding [])); ty = ty }
+
+-- a body of its own in the walk of a closure
+pub record IsAdded (n : ℕ) (s t : State) : Type 0 where
+  pub number : t.next_node ≡ s.next_node
+  pub breaks : t.breaks ≡ s.breaks
+  pub inner : State
+  pub ordered : Ordered (record s { bodies = []; next_node = 0; breaks = [] }) inner
+  pub next : t.next_body ≡ inner.next_body
+  pub items : t.items.closures ≡ inner.items.closures
+  pub bodies : numbers_of_bodies t ≡ numbers_of_bodies s ++ n ∷ numbers_of_bodies inner
+
+pub body_added : (n : ℕ) (check : Check BodyTree) (s : State) → Walked (λ b t. (b.number ≡ n) × Ordered (record s {
+  bodies = [];
+  next_node = 0;
+  breaks = [];
+}) t) (check (record s { bodies = []; next_node = 0; breaks = [] })) → Walked (λ b t. IsAdded n s t) (with_body (λ b. b)
+    (in_new_body check) s)
+body_added n check s h = by (check (record s { bodies = []; next_node = 0; breaks = [] })) h
+  where
+    by : (r : Result (BodyTree × State) Broken) → Walked (λ b t. (b.number ≡ n) × Ordered (record s {
+      bodies = [];
+      next_node = 0;
+      breaks = [];
+    }) t) r → Walked (λ b t. IsAdded n s t) (put_before s.bodies (λ b. b) (within_body (record s { bodies = [] }) r))
+    by (Ok a) h =
+        walk_ends (record {
+          number = refl;
+          breaks = refl;
+          inner = a.1;
+          ordered = h.so.1;
+          next = refl;
+          items = refl;
+          bodies = map-append (λ (b : BodyTree). b.number) s.bodies (a.0 ∷ a.1.bodies) ∙ ap (λ m. numbers_of_bodies s ++
+              m ∷ numbers_of_bodies a.1) h.so.0;
+        })
+    by (Err e) h = record { so = tt }
+
+closure_ordered : (s t u v : State) (def : ClosureDef) → def.body ≡ s.next_body → t.next_body ≡ suc s.next_body →
+    t.bodies ≡ s.bodies → t.items.closures ≡ s.items.closures → u.next_body ≡ t.next_body → u.bodies ≡ t.bodies →
+    u.items.closures ≡ t.items.closures ++ def ∷ [] → IsAdded s.next_body u v → Ordered s v
+closure_ordered s t u v def body next bodies closures next_u bodies_u closures_u added = record {
+  count = suc added.ordered.count;
+  next = let a = added.next in let b = added.ordered.next in omega (arith, a, b, next, next_u);
+  bodies = added.bodies ∙ (λ i. map (λ (b : BodyTree). b.number) ((bodies_u ∙ bodies) i) ++ s.next_body ∷ inside i);
+  closures = let a = added.ordered.closures in let b = added.items in ap length b ∙ omega (arith, a, as_many);
+  aligned = λ k d at. by k d (added.ordered.aligned k d (subst (λ cs. slice_get cs k ≡ Some d) added.items at));
+}
+  where
+    at_u : u.next_body ≡ suc s.next_body
+    at_u = next_u ∙ next
+
+    inside : numbers_of_bodies added.inner ≡ counted (suc s.next_body) added.ordered.count
+    inside = added.ordered.bodies ∙ ap (λ n. counted n added.ordered.count) at_u
+
+    as_many : length u.items.closures ≡ length s.items.closures + 1
+    as_many = ap length (closures_u ∙ ap (λ cs. cs ++ def ∷ []) closures) ∙ length-append s.items.closures (def ∷ [])
+
+    old : (k : ℕ) (d : ClosureDef) → (slice_get s.items.closures k ≡ Some d) ⊎ ((k ≡ length s.items.closures) × (def ≡
+        d)) → (slice_get s.items.closures k ≡ Some d) ⊎ (d.body + length s.items.closures ≡ k + s.next_body)
+    old k d (inl at) = inl at
+    old k d (inr new_) =
+        inr (let e = new_.0 in let n : d.body ≡ s.next_body = ap (λ (x : ClosureDef). x.body) (sym new_.1) ∙ body in
+        omega (arith, e, n))
+
+    by : (k : ℕ) (d : ClosureDef) → (slice_get u.items.closures k ≡ Some d) ⊎ (d.body + length u.items.closures ≡ k +
+        u.next_body) → (slice_get s.items.closures k ≡ Some d) ⊎ (d.body + length s.items.closures ≡ k + s.next_body)
+    by k d (inl at) =
+        old k d (slice_get-push_cases s.items.closures def k d (subst (λ cs. slice_get cs k ≡ Some d) (closures_u ∙ ap
+        (λ cs. cs ++ def ∷ []) closures) at))
+    by k d (inr e) = inr (omega (arith, e, as_many, at_u))
+
+closure_walks : (env : Env) (at : Pos) (captures params : Syns) (answer : MaybeSyn) (block : Env → Typer) → ((inner :
+    Env) → WalksTyper (block inner)) → WalksTyper (bodies.closure env at captures params answer block)
+closure_walks env at captures params answer block good want s =
+    walk (both_walk (bodies.captured env 0 captures [] s') (captured_walks env 0 captures [] s') (captured_stays env 0
+    captures [] s')) λ caps t w. walk_interned (Ty.Closure (length t.items.closures)) (with_ caps.1 t) λ ty u e. walk
+    (body_added s.next_body (in_closure env at s.next_body ty caps.1 params answer block) u (inner_walks env at
+    s.next_body ty caps.1 params answer block good (record u { bodies = []; next_node = 0; breaks = [] }))) λ b v f.
+    walk_fitted want (node s.next_node at ty None (tree.Closure (length t.items.closures) caps.0)) (walks_node at ty
+    None (tree.Closure (length t.items.closures) caps.0) (walks_recast (numbered s) s' t v refl refl (f.number ∙
+    e.number) (f.breaks ∙ e.breaks) (closure_ordered (numbered s) t u v (record {
+      captures = bodies.types_of caps.1;
+      body = s.next_body;
+    }) refl w.1.next_body w.1.bodies w.1.closures e.stays.next_body e.stays.bodies e.stays.closures f) w.0))
   where
     s' : State
     s' = record (numbered s) { next_body = suc s.next_body }
@@ -329,8 +378,8 @@ mutual
   value_walks env at (ContinueOf label) want s = on.continue_walks at (jumps_to env.loops label) want s
   value_walks env at (ReturnOf v) want s = on.return_walks at env.answer (typing.typed_maybe env v) (λ want t.
       maybe_walks env v want t) want s
-  value_walks env at (MoveOf captures params answer body) want s = closure_walks env at captures params answer (λ inner.
-      typing.typed inner body) want s
+  value_walks env at (MoveOf captures params answer body) want s = closure_walks env at captures params answer (λ inner. typing.typed inner body) (λ inner. typed_walks inner body) want
+      s
   value_walks env at PanicOf want s = on.leaf_walks at never tree.Panic refl want s
   value_walks env at _ want s = record { so = tt }
 

@@ -34,7 +34,7 @@ use Rattle.src_ast.specs.Syntax.{Word}
 use Rattle.typing_rules.proofs.Sound.Fitted.{same_self}
 use Rattle.typing_rules.proofs.Sound.Gives.{numbered}
 use Rattle.typing_soundness.specs.Walks.{IsCarried, Walks, Walked, WalksNode}
-use Rattle.typing_soundness.proofs.Walking.Adding.{walks_none, walks_both, walks_swapped, walks_node, walks_outer, walks_used, walks_used_if}
+use Rattle.typing_soundness.proofs.Walking.Adding.{ordered_both, ordered_of, walks_none, walks_both, walks_swapped, walks_node, walks_outer, walks_used, walks_used_if}
 use Rattle.typing_soundness.proofs.Walking.Steps.{walk, walk_obeyed, walk_found, walk_ends, walk_nothing, SameWalk, on_same, walk_interned, fitted_when, walk_fitted, walk_settled}
 
 abbrev pub WalksTyper : Typer → Type 0
@@ -475,6 +475,7 @@ break_walks at to value good want s =
           behind = w.behind;
           once = w.once;
           carried = λ b h. by b (Contains-append_cases t.breaks ((loop, ty_carried v) ∷ []) b h);
+          ordered = ordered_both w.ordered (ordered_of (record { next_body = refl; bodies = refl; closures = refl }));
         }
       where
         ns : List Node

@@ -13,7 +13,7 @@ use Rattle.typing_rules.specs.Check.{Check, State, Broken, and_then, obeys, know
 use Rattle.typing_rules.specs.Places.{Fit, Fits, Coerced, Differs, fit, place_in_text, agrees}
 use Rattle.typing_rules.specs.Rows.{fitted, fitted_by, settled}
 use Rattle.typing_soundness.specs.Walks.{Walks, Walked}
-use Rattle.typing_soundness.proofs.Walking.Adding.{walks_same, walks_outer}
+use Rattle.typing_soundness.proofs.Walking.Adding.{Stays, walks_same, walks_outer}
 use Rattle.well_typed.specs.Places.{ty_of}
 
 -- ---- one step after another
@@ -55,9 +55,10 @@ walk_nothing rule at (Err e) = record { so = tt }
 pub record SameWalk (s t : State) : Type 0 where
   pub number : t.next_node ≡ s.next_node
   pub breaks : t.breaks ≡ s.breaks
+  pub stays : Stays s t
 
 pub on_same : {s t u : State} {xs : List Node} → SameWalk t u → Walks s t xs → Walks s u xs
-on_same {u = u} e p = walks_same u e.number e.breaks p
+on_same {u = u} e p = walks_same u e.number e.breaks e.stays p
 
 -- a type gets a number
 pub walk_interned : {B : Type 0} {R : B → State → Type 0} (ty : Ty) (s : State) {f : TyId → Check B} → ((id : TyId) (t :
@@ -65,8 +66,8 @@ pub walk_interned : {B : Type 0} {R : B → State → Type 0} (ty : Ty) (s : Sta
 walk_interned {R = R} ty s {f} k = by (position_of (is_equal ty) s.items.types)
   where
     by : (o : Option ℕ) → Walked R (and_then (interned_at ty o s) f)
-    by (Some n) = k _ s record { number = refl; breaks = refl }
-    by None = k _ _ record { number = refl; breaks = refl }
+    by (Some n) = k _ s record { number = refl; breaks = refl; stays = record { next_body = refl; bodies = refl; closures = refl } }
+    by None = k _ _ record { number = refl; breaks = refl; stays = record { next_body = refl; bodies = refl; closures = refl } }
 
 -- ---- the end of a row
 

@@ -1,0 +1,235 @@
+-- Bodies of a typed program stand in the order of their numbers.
+use Rattle.std.proofs.Common.{◌≡◌, ℕ, zero, suc, ◌+◌, Bool, true, false, ◌&&◌, not, nat_le, List, [], ◌∷◌, ◌++◌, map, length, slice_get, Option, Some, None, Result, Ok, Err, refl, ap, sym, subst, ◌∙◌, arith}
+use Rattle.std.specs.Prelude.{option_and_then, codes}
+use Rattle.std.specs.Str.{bytes_eq}
+use Rattle.std.proofs.lemmas.Bool.{false≢true}
+use Rattle.std.proofs.lemmas.List.{append_assoc, length-map}
+use Rattle.mir_base.specs.declared.place_in_text.Pos.{Pos}
+use Rattle.mir_base.specs.declared.rule.Rule.{Rule}
+use Rattle.mir_ty.specs.declared.def.Sig.{Sig}
+use Rattle.mir_ty.specs.ItemTable.{ItemTable}
+use Rattle.src_tree.specs.Layout.{Parts}
+use Rattle.typed_tree.specs.Nodes.{numbers_of}
+use Rattle.typed_tree.specs.Tree.{BodyTree, ProgramTree}
+use Rattle.well_typed.specs.Names.{is_among}
+use Rattle.typing_rules.specs.Bodies as bodies
+use Rattle.typing_rules.specs.Check.{Check, State, Broken, and_then, obeys, in_new_body, within_body}
+use Rattle.typing_rules.specs.Collected.{starting_with}
+use Rattle.typing_rules.specs.Items.{items_of, item_syns}
+use Rattle.typing_rules.specs.Program as rules
+use Rattle.typing_rules.specs.Scope.{Env, adt_named, body_named}
+use Rattle.typing_rules.specs.Written as types
+use Rattle.src_ast.specs.Syntax.{Word, Named, Syn, syn, StructItem, EnumItem, FieldDecl, VariantDecl, TraitItem, ImplItem, FnItem, Syns, list_of, MaybeSyn, nothing, just}
+use Rattle.typing_soundness.specs.Walks.{counted, numbers_of_bodies, Ordered, InOrder, Walked}
+use Rattle.typing_soundness.proofs.Bodies.Functions.{in_function}
+use Rattle.typing_soundness.proofs.Walking.Adding.{Stays, ordered_of, ordered_both, counted_join}
+use Rattle.typing_soundness.proofs.Walking.Expressions.{typed_walks, IsAdded, body_added}
+use Rattle.typing_soundness.proofs.Walking.Params.{written_still, written_param_still, params_walk, answer_still}
+use Rattle.typing_soundness.proofs.Walking.Steps.{walk, walk_map, walk_obeyed, walk_ends}
+
+-- ---- results
+
+abbrev or_given : ProgramTree → Result ProgramTree Broken → ProgramTree
+or_given q (Ok p) = p
+or_given q (Err e) = q
+
+abbrev is_given : Result ProgramTree Broken → Bool
+is_given (Ok p) = true
+is_given (Err e) = false
+
+pub same_ok : (p q : ProgramTree) → ◌≡◌ {A = Result ProgramTree Broken} (Ok p) (Ok q) → p ≡ q
+same_ok p q e = ap (or_given p) e
+
+pub no_ok : (x : Broken) (p : ProgramTree) → ◌≡◌ {A = Result ProgramTree Broken} (Err x) (Ok p) → ⊥
+no_ok x p e = false≢true (ap is_given e)
+
+-- ---- orders
+
+order_of : {s t : State} → Ordered s t → InOrder s t
+order_of o = record { count = o.count; next = o.next; bodies = o.bodies }
+
+order_stays : {s t : State} → Stays s t → InOrder s t
+order_stays e = order_of (ordered_of e)
+
+order_refl : (s : State) → InOrder s s
+order_refl s = order_stays (record { next_body = refl; bodies = refl; closures = refl })
+
+order_both : {s t u : State} → InOrder s t → InOrder t u → InOrder s u
+order_both {s} {t} {u} p q = record {
+  count = p.count + q.count;
+  next = let a = p.next in let b = q.next in omega (arith, a, b);
+  bodies = q.bodies ∙ (ap (λ ns. ns ++ counted t.next_body q.count) p.bodies ∙ (append_assoc (numbers_of_bodies s)
+      (counted s.next_body p.count) (counted t.next_body q.count) ∙ ap (λ ns. numbers_of_bodies s ++ ns) (ap (λ n.
+      counted s.next_body p.count ++ counted n q.count) p.next ∙ counted_join s.next_body p.count q.count)));
+}
+
+-- what only adds bodies in order
+abbrev Keeps : {A : Type 0} → State → Result (A × State) Broken → Type 0
+Keeps s r = Walked (λ a t. InOrder s t) r
+
+-- one such check after another
+then_ : {A B : Type 0} {s : State} {r : Result (A × State) Broken} {f : A → Check B} → Keeps s r → ((a : A) (t : State) →
+    Keeps t (f a t)) → Keeps s (and_then r f)
+then_ {r = Ok a} h k = walk_map (k a.0 a.1) λ b u o. order_both h.so o
+then_ {r = Err e} h k = record { so = tt }
+
+new_keeps : {A : Type 0} (check : Check A) (s : State) → Keeps (record s { next_node = 0; breaks = [] }) (check (record s
+    { next_node = 0; breaks = [] })) → Keeps s (in_new_body check s)
+new_keeps {A} check s h = by (check (record s { next_node = 0; breaks = [] })) h
+  where
+    by : (r : Result (A × State) Broken) → Keeps (record s { next_node = 0; breaks = [] }) r → Keeps s (within_body s r)
+    by (Ok a) h = walk_ends (record { count = h.so.count; next = h.so.next; bodies = h.so.bodies })
+    by (Err e) h = record { so = tt }
+
+-- ---- heads of items
+
+module _ (env : Env) where
+  type_keeps : (ty : Syn) (s : State) → Keeps s (types.written (bodies.all_rules env) ty s)
+  type_keeps ty s = walk_map (written_still (bodies.all_rules env) ty s) λ t u e. order_stays e.stays
+
+  field_keeps : (earlier : List Word) (f : Syn) (s : State) → Keeps s (rules.field env earlier f s)
+  field_keeps earlier (syn at (FieldDecl name ty)) s =
+      then_ (type_keeps ty s) λ _ t. walk_obeyed Rule.T02 at (not (is_among name earlier)) _ λ _. walk_ends (order_refl
+      t)
+  field_keeps earlier (syn at form) s = then_ (type_keeps (syn at form) s) λ _ t. walk_ends {a = earlier} (order_refl t)
+
+  fields_keep : (earlier : List Word) (fs : List Syn) (s : State) → Keeps s (rules.fields env earlier fs s)
+  fields_keep earlier [] s = walk_ends (order_refl s)
+  fields_keep earlier (f ∷ fs) s = then_ (field_keeps earlier f s) λ names t. fields_keep names fs t
+
+  variants_keep : (earlier : List Word) (vs : List Syn) (s : State) → Keeps s (rules.variants env earlier vs s)
+  variants_keep earlier [] s = walk_ends (order_refl s)
+  variants_keep earlier (syn at (VariantDecl name kind fs) ∷ vs) s =
+      then_ (fields_keep [] (list_of fs) s) λ _ t. walk_obeyed Rule.T02 at (not (is_among name earlier)) _ λ _.
+      walk_obeyed Rule.T19 at (nat_le (rules.count_of fs) 32) _ λ _. variants_keep (name ∷ earlier) vs t
+  variants_keep earlier (syn at _ ∷ vs) s = record { so = tt }
+
+  head_keeps : (params : Syns) (answer : MaybeSyn) (s : State) → Keeps s (rules.head_rules env params answer s)
+  head_keeps params answer s =
+      then_ (new_keeps (bodies.params_of env (types.written_param (bodies.all_rules env)) params []) s (walk_map
+      (params_walk env (types.written_param (bodies.all_rules env)) (λ p t. written_param_still (bodies.all_rules env) p
+      t) params [] (record s { next_node = 0; breaks = [] })) λ ps t w. order_of w.ordered)) λ _ t. then_ (walk_map
+      (answer_still env answer t) λ _ u e. order_stays e.stays) λ _ u. walk_ends (order_refl u)
+
+  trait_heads_keep : (earlier : List Word) (hs : List Syn) (s : State) → Keeps s (rules.trait_heads env earlier hs s)
+  trait_heads_keep earlier [] s = walk_ends (order_refl s)
+  trait_heads_keep earlier (syn at (FnItem name params answer block) ∷ hs) s =
+      then_ (head_keeps (rules.behind_self params) answer s) λ _ t. walk_obeyed Rule.T02 name.0 (not (is_among name.1
+      earlier)) _ λ _. walk_obeyed Rule.T11 at (rules.takes_reference params && not (bytes_eq name.1 (codes "drop"))) _
+      λ _. trait_heads_keep (name.1 ∷ earlier) hs t
+  trait_heads_keep earlier (syn at _ ∷ hs) s = record { so = tt }
+
+  method_heads_keep : (trait_ : Option Named) (owner : Word) (seen : rules.Seen) (ms : List Syn) (s : State) → Keeps s
+      (rules.method_heads env trait_ owner seen ms s)
+  method_heads_keep trait_ owner seen [] s = walk_ends (order_refl s)
+  method_heads_keep trait_ owner seen (syn at (FnItem name params answer block) ∷ ms) s =
+      then_ (head_keeps params answer s) λ _ t. walk_obeyed Rule.T02 name.0 (not (rules.is_seen owner name.1 seen)) _ λ
+      _. walk_obeyed Rule.T11 at (rules.has_head t.items trait_ owner name.1 params) _ λ _. method_heads_keep trait_
+      owner ((owner, name.1) ∷ seen) ms t
+  method_heads_keep trait_ owner seen (syn at _ ∷ ms) s = record { so = tt }
+
+main_keeps : (at : Pos) (name : Word) (params : Syns) (o : Option Sig) (s : State) → Keeps s (rules.main_rule at name
+    params s.items o s)
+main_keeps at name params None s = walk_ends (order_refl s)
+main_keeps at name params (Some sig) s = by (rules.is_main_head name params sig s.items)
+  where
+    by : (b : Bool) → Keeps s (obeys Rule.T03 at b s)
+    by true = walk_ends (order_refl s)
+    by false = record { so = tt }
+
+item_keeps : (env : Env) (before : rules.Before) (i : Syn) (s : State) → Keeps s (rules.item_rules env before i s)
+item_keeps env before (syn at (StructItem ds name kind fs)) s =
+    then_ (fields_keep (rules.in_impl env (adt_named s.items name.1)) [] (list_of fs) s) λ _ t. walk_obeyed Rule.T19 at
+    (nat_le (rules.count_of fs) 32) _ λ _. walk_ends (order_refl t)
+item_keeps env before (syn at (EnumItem ds name vs)) s =
+    then_ (variants_keep (rules.in_impl env (adt_named s.items name.1)) [] (list_of vs) s) λ _ t. walk_obeyed Rule.T19
+    at (nat_le (rules.count_of vs) 64) _ λ _. walk_ends (order_refl t)
+item_keeps env before (syn at (TraitItem name heads)) s =
+    then_ (trait_heads_keep env [] (list_of heads) s) λ _ t. walk_ends (order_refl t)
+item_keeps env before (syn at (ImplItem trait_ name methods)) s =
+    then_ (method_heads_keep (rules.in_impl env (adt_named s.items name.1)) trait_ name.1 before.methods (list_of
+    methods) s) λ seen t. walk_obeyed Rule.T11 at (not (rules.is_repeated trait_ name.1 before.impls) && rules.has_all
+    (rules.asked_for s.items trait_) (rules.method_names methods)) _ λ _. walk_ends (order_refl t)
+item_keeps env before (syn at (FnItem name params answer block)) s =
+    then_ (head_keeps env params answer s) λ _ t. then_ (main_keeps at name.1 params (option_and_then (slice_get
+    t.items.bodies) (body_named t.items name.1)) t) λ _ u. walk_ends (order_refl u)
+item_keeps env before (syn at _) s = record { so = tt }
+
+-- ---- bodies
+
+function_inner : (env : Env) (at : Pos) (n : ℕ) (params : Syns) (answer : MaybeSyn) (block : MaybeSyn) (s : State) →
+    Walked (λ b t. (b.number ≡ n) × Ordered s t) (in_function env at n params answer (rules.block_of block at) s)
+function_inner env at n params answer (just body) s =
+    walk (params_walk env (types.written_param (bodies.all_rules env)) (λ p t. written_param_still (bodies.all_rules
+    env) p t) params [] s) λ ps t w1. walk (answer_still env answer t) λ a u e. walk (typed_walks (bodies.inside env a
+    ps.1) body (Some a) u) λ b v w2. walk_obeyed Rule.T19 at (nat_le (length (numbers_of (bodies.body_of n ps.0 a b)))
+    2048) _ λ _. walk_ends (refl, ordered_both w1.ordered (ordered_both (ordered_of e.stays) w2.ordered))
+function_inner env at n params answer nothing s =
+    walk (params_walk env (types.written_param (bodies.all_rules env)) (λ p t. written_param_still (bodies.all_rules
+    env) p t) params [] s) λ ps t w1. walk (answer_still env answer t) λ a u e. record { so = tt }
+
+added_order : (s v : State) → IsAdded s.next_body (record s { next_body = suc s.next_body }) v → InOrder s v
+added_order s v added = record {
+  count = suc added.ordered.count;
+  next = let a = added.next in let b = added.ordered.next in omega (arith, a, b);
+  bodies = added.bodies ∙ ap (λ ns. numbers_of_bodies s ++ s.next_body ∷ ns) added.ordered.bodies;
+}
+
+function_keeps : (env : Env) (at : Pos) (params : Syns) (answer : MaybeSyn) (block : MaybeSyn) (s : State) → Keeps s
+    (bodies.fn_body env at params answer (rules.block_of block at) s)
+function_keeps env at params answer block s =
+    walk_map (body_added s.next_body (in_function env at s.next_body params answer (rules.block_of block at)) s'
+    (function_inner env at s.next_body params answer block (record s' { bodies = []; next_node = 0; breaks = [] }))) λ b
+    v added. added_order s v added
+  where
+    s' : State
+    s' = record s { next_body = suc s.next_body }
+
+fn_keeps : (env : Env) (f : Syn) (s : State) → Keeps s (rules.fn_rules env f s)
+fn_keeps env (syn at (FnItem name params answer block)) s =
+    then_ (function_keeps env at params answer block s) λ _ t. walk_ends (order_refl t)
+fn_keeps env (syn at _) s = record { so = tt }
+
+all_fn_keep : (env : Env) (fs : List Syn) (s : State) → Keeps s (rules.all_fn_rules env fs s)
+all_fn_keep env [] s = walk_ends (order_refl s)
+all_fn_keep env (f ∷ fs) s = then_ (fn_keeps env f s) λ _ t. all_fn_keep env fs t
+
+bodies_keep : (env : Env) (i : Syn) (s : State) → Keeps s (rules.bodies_of env i s)
+bodies_keep env (syn at (ImplItem trait_ name methods)) s =
+    all_fn_keep (rules.in_impl env (adt_named s.items name.1)) (list_of methods) s
+bodies_keep env (syn at (FnItem name params answer block)) s =
+    fn_keeps env (syn at (FnItem name params answer block)) s
+bodies_keep env (syn at _) s = walk_ends (order_refl s)
+
+items_keep : (env : Env) (before : rules.Before) (is : List Syn) (s : State) → Keeps s (rules.all_items env before is s)
+items_keep env before [] s = walk_ends (order_refl s)
+items_keep env before (i ∷ is) s =
+    then_ (item_keeps env before i s) λ next t. then_ (bodies_keep env i t) λ _ u. items_keep env next is u
+
+-- ---- the whole
+
+counted_length : (from count : ℕ) → length (counted from count) ≡ count
+counted_length from zero = refl
+counted_length from (suc count) = ap suc (counted_length (suc from) count)
+
+pub bodies_in_order : (parts : Parts Pos) (items : ItemTable) (p : ProgramTree) → rules.checked parts items ≡ Ok p → map
+    (λ (b : BodyTree). b.number) p.bodies ≡ counted 0 (length p.bodies)
+bodies_in_order parts items p e =
+    by (rules.all_items (rules.outermost (item_syns (items_of parts))) (record { methods = []; impls = [] }) (item_syns
+    (items_of parts)) (starting_with items)) (items_keep (rules.outermost (item_syns (items_of parts))) (record {
+      methods = [];
+      impls = [];
+    }) (item_syns (items_of parts)) (starting_with items)) e
+  where
+    numbered_by : (bs : List BodyTree) (count : ℕ) → map (λ (b : BodyTree). b.number) bs ≡ counted 0 count → map (λ (b :
+        BodyTree). b.number) bs ≡ counted 0 (length bs)
+    numbered_by bs count is =
+        is ∙ ap (counted 0) (sym (sym (length-map bs (λ (b : BodyTree). b.number)) ∙ (ap length is ∙ counted_length 0
+        count)))
+
+    by : (r : Result (Unit {0} × State) Broken) → Keeps (starting_with items) r → rules.program_in r ≡ Ok p → map (λ (b :
+        BodyTree). b.number) p.bodies ≡ counted 0 (length p.bodies)
+    by (Ok a) h e =
+        subst (λ (q : ProgramTree). map (λ (b : BodyTree). b.number) q.bodies ≡ counted 0 (length q.bodies)) (same_ok _ p
+        e) (numbered_by a.1.bodies h.so.count h.so.bodies)
+    by (Err x) h e = absurd (no_ok x p e)

@@ -1,0 +1,45 @@
+-- What is proved of typed programs as a whole.
+use Rattle.std.specs.Prelude.{◌≡◌, List, [], ◌∷◌, length, map, None, Ok, Contains}
+use Rattle.mir_base.specs.declared.place_in_text.Pos.{Pos}
+use Rattle.mir_ty.specs.declared.def.Sig.{Sig}
+use Rattle.mir_ty.specs.ItemTable.{ItemTable}
+use Rattle.src_tree.specs.Layout.{Parts}
+use Rattle.typed_tree.specs.Tree.{BodyTree, ProgramTree}
+use Rattle.well_typed.specs.Claim.{Holds, each}
+use Rattle.well_typed.specs.Items.{are_items}
+use Rattle.well_typed.specs.Program.{WellTyped}
+use Rattle.typing_rules.specs.Items.{items_of, item_syns, all_kinds}
+use Rattle.typing_rules.specs.Program.{checked}
+use Rattle.typing_rules.specs.Promises.{AreReady, AreClosures, IsBodyIn, Extends, KnowsItems}
+use Rattle.typing_soundness.specs.Shapes.{item_shaped}
+use Rattle.typing_soundness.specs.Walks.{counted}
+
+-- Items are collected as the walk over bodies asks: types that are in the table are ready, and what the text says of
+-- items agrees with them.
+pub record AreCollected (parts : Parts Pos) (items : ItemTable) : Type 0 where
+  pub shaped : Holds (each item_shaped (item_syns (items_of parts)))
+  pub ready : AreReady items
+  pub known : KnowsItems (all_kinds (item_syns (items_of parts))) None items
+
+-- Each body of a typed program whose head has its types is well typed, where the closures have their heads.
+abbrev pub BodiesAreTyped : Type 0
+BodiesAreTyped = (parts : Parts Pos) (items : ItemTable) (p : ProgramTree) → AreCollected parts items → checked parts
+    items ≡ Ok p → Extends items p.items × AreReady p.items × (AreClosures p.items → (body : BodyTree) → Contains
+    p.bodies body → IsBodyIn p.items body)
+
+-- Bodies stand in the order of their numbers.
+abbrev pub AreInTextOrder : Type 0
+AreInTextOrder = (parts : Parts Pos) (items : ItemTable) (p : ProgramTree) → checked parts items ≡ Ok p → map (λ body.
+    body.number) p.bodies ≡ counted 0 (length p.bodies)
+
+-- as many bodies as heads, each with the types of its head
+abbrev pub HaveHeads : List Sig → List BodyTree → Type 0
+HaveHeads [] [] = Unit {0}
+HaveHeads (head ∷ heads) (body ∷ bodies) =
+    ((head.params ≡ map (λ p. p.ty) body.params) × (head.result ≡ body.answer)) × HaveHeads heads bodies
+HaveHeads _ _ = ⊥
+
+-- So a typed program is well typed where its items are and its bodies have their heads.
+abbrev pub ProgramsAreTyped : Type 0
+ProgramsAreTyped = (parts : Parts Pos) (items : ItemTable) (p : ProgramTree) → AreCollected parts items → checked parts
+    items ≡ Ok p → Holds (are_items p.items) → AreClosures p.items → HaveHeads p.items.bodies p.bodies → WellTyped p
