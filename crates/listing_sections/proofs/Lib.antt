@@ -1,0 +1,5 @@
+pub mod BodyByBody
+pub mod Growing
+pub mod Kept
+pub mod Locals
+pub mod Onward

@@ -1,0 +1,4 @@
+pub mod BodiesRead
+pub mod BodyReading
+pub mod SectionReading
+pub mod SectionsRead
