@@ -18,7 +18,6 @@ use Rattle.typed_tree.specs.declared.node.Use.{Use}
 use Rattle.typed_tree.specs.Nodes.{body_nodes, first_with}
 use Rattle.typed_tree.specs.Tree.{Node, BodyTree}
 use Rattle.cfg_build.specs.Lower as low
-use Rattle.cfg_build.specs.Sites as sites
 use Rattle.cfg_build.specs.Sites.{UseSite, site_at, position_of, use_of, use_by_stmt, use_by_term, used_by_term}
 use Rattle.cfg_build.proofs.FormSites.{lowered_has_sites}
 use Rattle.use_sites.specs.Lines.{used_place, used_of, if_any, first_of_term, words_of, stmt_use, term_use, of_stmt, of_term}

@@ -57,7 +57,14 @@ fn add_block(
         line = line.checked_add(1).ok_or(NoMemory)?;
     }
     let at = LineAt { body, block, line };
-    add_term(alloc, names, at, id_at(ids, line as usize), &one.term, sites)
+    add_term(
+        alloc,
+        names,
+        at,
+        id_at(ids, line as usize),
+        &one.term,
+        sites,
+    )
 }
 
 /// The sites of a body, whose blocks and the nodes of whose lines these are, in the order of its blocks and lines. For

@@ -103,7 +103,15 @@ pub fn add_stmt(
         return Ok(());
     };
     let by = use_by_stmt(stmt, node.by);
-    add_use(alloc, names, at, node, by, used_place(node.by, places), sites)
+    add_use(
+        alloc,
+        names,
+        at,
+        node,
+        by,
+        used_place(node.by, places),
+        sites,
+    )
 }
 
 /// The site of a terminator of the node with a number, if it has one.
@@ -126,5 +134,13 @@ pub fn add_term(
         return Ok(());
     };
     let by = use_by_term(node.by);
-    add_use(alloc, names, at, node, by, used_place(node.by, places), sites)
+    add_use(
+        alloc,
+        names,
+        at,
+        node,
+        by,
+        used_place(node.by, places),
+        sites,
+    )
 }

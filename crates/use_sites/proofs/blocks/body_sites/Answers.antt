@@ -1,8 +1,7 @@
-use Rattle.std.proofs.Common.{rules, ◌≡◌, ◌∙◌, ◌+◌, ℕ, List, [], map, sym, ap}
+use Rattle.std.proofs.Common.{rules, ◌≡◌, ◌∙◌, ◌+◌, ℕ, List, [], sym, ap}
 use Rattle.std.specs.Option.{unwrap_or}
 use Rattle.std.specs.Prelude.{slice_get}
 use Rattle.cfg_build.specs.Lower as low
-use Rattle.use_sites.specs.Listed.{ids_of}
 use Rattle.use_sites.proofs.Told.{block_more, block_at}
 use Rattle.use_sites.proofs.blocks.body_sites.Goals as goal
 

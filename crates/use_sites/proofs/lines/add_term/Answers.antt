@@ -12,7 +12,6 @@ use Rattle.typed_tree.specs.declared.node.Use.{Use}
 use Rattle.use_sites.specs.declared.site.Site.{Site}
 use Rattle.use_sites.specs.Lines.{words_of, used_place}
 use Rattle.use_sites.proofs.Told.{term_listed, used_is}
-use Rattle.cfg_graph.specs.declared.place.Place.{Place}
 use Rattle.std.specs.Option.{option_copied}
 use Rattle.std.specs.Prelude.{Option}
 use Rattle.use_sites.proofs.lines.add_term.Goals as goal

@@ -1,0 +1,16 @@
+use Rattle.std.proofs.Common.{rules, ◌≡◌}
+use Rattle.std.proofs.lemmas.Result.{on_ok_weaker}
+use Rattle.code_lines.specs.Framed.{frame_of}
+use Rattle.scope_code.specs.Forms.{entire_function}
+use Rattle.typed_tree.specs.View.{body_of}
+use Rattle.cfg_lower.proofs.Whole.{whole}
+use Rattle.cfg_lower.proofs.bodies.build_body.Goals as goal
+
+pub returns : goal.returns
+returns c =
+    let words : c.as_slice.result.now ≡ c.in_ok-code.code.ops = search rules in
+    let marks : c.as_slice-2.result.now ≡ c.in_ok-marks.marks = search rules in
+    on_ok_weaker c.build_entire.result
+    (λ made begins. made
+    (whole (frame_of c.args.frame) (body_of c.args.body.now) c.in_ok-code.code.ops c.as_slice.result.now c.in_ok-marks.marks c.as_slice-2.result.now words marks
+    (c.in_ok-marks.ensures (entire_function c.args.frame.items.now (body_of c.args.body.now)) c.in_ok-code.ensures.code)) begins) c.build_entire.ensures

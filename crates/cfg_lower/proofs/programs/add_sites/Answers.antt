@@ -1,0 +1,23 @@
+use Rattle.std.proofs.Common.{rules, ◌≡◌, ◌∙◌, List, map, ap}
+use Rattle.std.proofs.lemmas.Result.{on_ok_weaker}
+use Rattle.cfg_graph.specs.declared.graph.Body.{Body}
+use Rattle.mir_base.specs.declared.place_in_text.NodeId.{NodeId}
+use Rattle.src_meaning.specs.Locals.OfBody.{locals}
+use Rattle.typed_tree.specs.Nodes.{body_nodes}
+use Rattle.typed_tree.specs.Tree.{BodyTree}
+use Rattle.typed_tree.specs.View.{body_of}
+use Rattle.body_locals.specs.View.{entry_of}
+use Rattle.body_nodes.specs.Listed.{trees}
+use Rattle.use_sites.specs.Listed.{ids_of}
+use Rattle.cfg_lower.proofs.programs.add_sites.Goals as goal
+
+pub returns : goal.returns
+returns c =
+    let tree : BodyTree = body_of c.args.body.now in
+    let found : map entry_of c.as_slice.result.now ≡ locals c.args.items.now tree = search rules in
+    let nodes : trees c.as_slice-2.result.now ≡ body_nodes tree = search rules in
+    let blocks : c.as_slice-blocks.result.now ≡ c.args.lowered.now.body.blocks = search rules in
+    let ids : c.as_slice-3.result.now ≡ c.args.lowered.now.nodes = search rules in
+    on_ok_weaker c.body_sites.result
+    (λ made body_is nodes_are. made tree (found, nodes) (blocks ∙ ap (λ (b : Body). b.blocks) body_is)
+    (ap (λ (all : List (List NodeId)). map ids_of all) ids ∙ nodes_are)) c.body_sites.ensures

@@ -1,0 +1,35 @@
+-- What contracts see of a body that is lowered.
+use Rattle.std.specs.Prelude.{ℕ, ◌-◌, List, [], Option, length, map, option_map}
+use Rattle.std.specs.Option.{unwrap_or}
+use Rattle.cfg_graph.specs.declared.graph.Block.{Block}
+use Rattle.cfg_graph.specs.declared.graph.Kind.{Kind}
+use Rattle.cfg_graph.specs.declared.terminator.Term.{Term}
+use Rattle.typed_tree.specs.Tree.{BodyTree}
+use Rattle.scope_code.specs.Forms.{entire_function}
+use Rattle.scope_code.specs.View.{op_of}
+use Rattle.cfg_build.specs.Build.{Frame, Rest, Building, ending, closed, reserved}
+use Rattle.cfg_build.specs.Lower.{unmade}
+use Rattle.code_blocks.specs.Building.{made_of}
+use Rattle.code_blocks.specs.declared.blocks.Made.{Made}
+use Rattle.code_spans.specs.Spans.{Stands}
+use Rattle.code_spans.specs.declared.spans.Spans.{Spans}
+
+-- a body of which nothing is built, and one whose block 0 is given out, and whose block 1 returns
+abbrev pub unbuilt : ℕ → Rest × Building
+unbuilt id = (ending Term.Return id, record { blocks = []; chains = [] })
+
+abbrev pub begun : ℕ → Rest × Building
+begun id =
+    (ending (Term.Goto 1) id, closed Kind.Plain (ending Term.Return id) (reserved (record { blocks = []; chains = [] })))
+
+-- the code of the body stands at all words
+abbrev pub IsWhole : Frame → BodyTree → Spans → Type 0
+IsWhole f tree code =
+    Stands f (map op_of code.words.now) code.marks.now (entire_function f.items tree) 0 (length code.words.now - 1)
+
+-- a block that is made, and the nodes of its lines
+abbrev pub block_of : Option Made → Block
+block_of made = (unwrap_or (option_map made_of made) unmade).block
+
+abbrev pub line_nodes : Option Made → List ℕ
+line_nodes made = (unwrap_or (option_map made_of made) unmade).nodes

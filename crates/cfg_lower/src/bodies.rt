@@ -1,0 +1,163 @@
+//! Bodies that are lowered.
+ghost use Rattle.std.specs.Prelude.{◌≡◌, IfOk, OnOk, length, map, option_map};
+ghost use Rattle.cfg_build.specs.Build as build;
+ghost use Rattle.cfg_build.specs.Lower as low;
+ghost use Rattle.code_blocks.specs.Building.{built_of, building_of, made_of};
+ghost use Rattle.code_lines.specs.Framed.{frame_of};
+ghost use Rattle.code_scopes.specs.Scoped.{scopes_of};
+ghost use Rattle.typed_tree.specs.View.{body_of};
+ghost use Rattle.cfg_lower.specs.Lowered.{unbuilt, begun, IsWhole};
+ghost use Rattle.use_sites.specs.Listed.{ids_of, nodes_of_body};
+
+use crate::parts::{add_parts, add_tys};
+use body_blocks::{Setting, build};
+use body_code::body_code;
+use body_locals::locals;
+use cfg_graph::{Body, Kind, Term};
+use code_blocks::{Blocks, Made, Ways};
+use code_lines::Frame;
+use code_scopes::Scope;
+use code_spans::{Spans, marks_of};
+use mir_base::{Key, List, NoMemory, NodeId};
+use mir_ty::Items;
+use scope_code::Entry;
+use std::alloc::Global;
+use std::mem;
+use typed_tree::{Param, TBody};
+
+/// A body that is lowered, and the node of each of its lines, block by block; a block's terminator is its last line.
+#[derive(Drop)]
+pub struct LoweredBody {
+    pub body: Body,
+    pub nodes: List<List<NodeId>>,
+}
+
+/// The scope of the result, which is pending in it.
+fn answer_scope(alloc: Global, body: &TBody) -> Result<List<Scope>, NoMemory>
+    ensures { IfOk result (λ scopes. (f : build.Frame) → scopes_of scopes ≡ low.answer_scope f (body_of body.now)) }
+{
+    let mut pending = List::new(alloc);
+    pending.push(Entry {
+        key: Key(body.block.id.0),
+        ty: body.result,
+    })?;
+    let mut scopes = List::new(alloc);
+    scopes.push(Scope {
+        node: body.block.id,
+        for_temporaries: false,
+        entries: List::new(alloc),
+        pending,
+    })?;
+    Ok(scopes)
+}
+
+/// Block 0 is given out, and block 1 returns.
+fn start(alloc: Global, id: NodeId, blocks: &mut Blocks) -> Result<(), NoMemory>
+    ensures { OnOk result (built_of blocks.old ≡ unbuilt id.0 → built_of blocks.new ≡ begun id.0) }
+{
+    blocks.reserve()?;
+    blocks.close(alloc, Kind::Plain)?;
+    Ok(())
+}
+
+/// All blocks of a body whose code stands at these words, over no block yet.
+fn build_entire(
+    alloc: Global,
+    frame: Frame,
+    body: &TBody,
+    code: Spans,
+    blocks: &mut Blocks,
+) -> Result<(), NoMemory>
+    ensures { OnOk result (IsWhole (frame_of frame.entry) (body_of body.now) code.entry →
+        built_of blocks.old ≡ unbuilt body.now.block.id.0 →
+        building_of blocks.new ≡ low.built (frame_of frame.entry) (body_of body.now)) }
+{
+    start(alloc, body.block.id, blocks)?;
+    let scopes = answer_scope(alloc, body)?;
+    let at = Setting {
+        frame,
+        code,
+        ways: Ways {
+            returns: 1,
+            loops: &[],
+        },
+        scopes: scopes.as_slice(),
+    };
+    build(alloc, at, code.words.len().saturating_sub(1), blocks)?;
+    blocks.fill(alloc, Kind::Plain, 0)
+}
+
+/// All blocks of a body, over no block yet.
+fn build_body(
+    alloc: Global,
+    frame: Frame,
+    body: &TBody,
+    blocks: &mut Blocks,
+) -> Result<(), NoMemory>
+    ensures { OnOk result (built_of blocks.old ≡ unbuilt body.now.block.id.0 →
+        building_of blocks.new ≡ low.built (frame_of frame.entry) (body_of body.now)) }
+{
+    let code = body_code(alloc, frame.items, body)?;
+    let marks = marks_of(alloc, frame, &code)?;
+    let spans = Spans {
+        words: code.ops.as_slice(),
+        marks: marks.as_slice(),
+    };
+    build_entire(alloc, frame, body, spans, blocks)
+}
+
+/// All blocks of a body.
+fn built(alloc: Global, frame: Frame, body: &TBody) -> Result<List<Option<Made>>, NoMemory>
+    ensures { IfOk result (λ made.
+        map (option_map made_of) made ≡ (low.built (frame_of frame.entry) (body_of body.now)).blocks) }
+{
+    let mut blocks = Blocks::new(alloc, Term::Return, body.block.id);
+    let done = build_body(alloc, frame, body, &mut blocks);
+    let made = mem::replace(&mut blocks.made, List::new(alloc));
+    drop(blocks);
+    done?;
+    Ok(made)
+}
+
+/// How many parameters there are.
+fn count_of(params: &[Param]) -> Result<u32, NoMemory>
+    ensures { IfOk result (λ count. count ≡ length params.now) }
+{
+    if params.len() > u32::MAX as usize {
+        return Err(NoMemory);
+    }
+    Ok(params.len() as u32)
+}
+
+/// A body as a raw graph with scheduled drops. It costs, and takes memory, by the nodes of the body, and for each place
+/// from which a panic may start by the entries in scope there.
+///
+/// # Errors
+///
+/// [`NoMemory`] where memory is wanted, and where there are more parameters, locals or blocks than 32 bits count.
+pub fn lower_body(alloc: Global, items: &Items, body: &TBody) -> Result<LoweredBody, NoMemory>
+    ensures body { IfOk result (λ lowered. lowered.body ≡ low.body_of items.now (body_of body.now)) }
+    ensures nodes { IfOk result (λ lowered. map ids_of lowered.nodes ≡ nodes_of_body items.now (body_of body.now)) }
+{
+    let params = count_of(body.params.as_slice())?;
+    let found = locals(alloc, items, body)?;
+    let mut tys = List::new(alloc);
+    add_tys(found.as_slice(), &mut tys)?;
+    let frame = Frame {
+        items,
+        locals: &found,
+        tys: tys.as_slice(),
+    };
+    let made = built(alloc, frame, body)?;
+    let mut blocks = List::new(alloc);
+    let mut nodes = List::new(alloc);
+    add_parts(alloc, made, &mut blocks, &mut nodes)?;
+    Ok(LoweredBody {
+        body: Body {
+            params,
+            locals: tys,
+            blocks,
+        },
+        nodes,
+    })
+}
