@@ -1,5 +1,5 @@
 -- Bodies that are read, with their signatures.
-use Rattle.std.proofs.Common.{◌≡◌, ℕ, zero, suc, ◌+◌, ◌<◌, Bool, true, false, List, [], ◌∷◌, ◌++◌, All, map, length, Option, Some, None, slice_get, refl, ap, sym, subst, ◌∙◌, arith}
+use Rattle.std.proofs.Common.{◌≡◌, ℕ, suc, ◌<◌, Bool, true, false, List, [], ◌∷◌, ◌++◌, All, length, Some, refl, ap, sym, subst, ◌∙◌, arith}
 use Rattle.std.specs.Prelude.{Result, Ok, Err}
 use Rattle.std.specs.Borrow.{Bor}
 use Rattle.std.proofs.lemmas.List.Elements.{All-append, All-cons, All-nil}
@@ -7,14 +7,14 @@ use Rattle.std.proofs.lemmas.Option.{slice_get_within}
 use Rattle.mir_ty.specs.declared.def.Sig.{Sig}
 use Rattle.mir_ty.specs.declared.ty.Ty.{Ty}
 use Rattle.mir_ty.specs.declared.ty.TyId.{TyId}
-use Rattle.mir_ty.specs.AreItems.{AreTypes, IsSig}
-use Rattle.mir_ty.specs.ItemTable.{ItemTable, type_at, with_body}
+use Rattle.mir_ty.specs.AreItems.{AreTypes}
+use Rattle.mir_ty.specs.ItemTable.{ItemTable, with_body}
 use Rattle.cfg_graph.specs.declared.graph.Body.{Body}
 use Rattle.mir_text.specs.Reading.Words.{Found}
 use Rattle.mir_text.proofs.Reading.Basics.{Every}
 use Rattle.listing_code.proofs.Until.{so_far, one_more, last_one, no_more, all_gone}
 use Rattle.listing_parts.specs.declared.error.ReadError.{ReadError}
-use Rattle.listing_types.specs.Table.{AreRead, Grow, text_under}
+use Rattle.listing_types.specs.Table.{AreRead, Grow}
 use Rattle.listing_types.proofs.FoundRows.{still_types, then_grow}
 use Rattle.listing_types.proofs.Texts.{every_from_all, texts_grown, still_there}
 use Rattle.listing_sections.specs.BodyReading.{BodyTold, body_read, bodies_read}

@@ -1,21 +1,19 @@
 -- Items that were read stay as they are while the table of types grows, and get one more.
-use Rattle.std.proofs.Common.{◌≡◌, ℕ, zero, suc, ◌+◌, ◌<◌, List, [], ◌∷◌, ◌++◌, All, map, length, Option, Some, None, refl, ap, sym, subst, ◌∙◌, arith}
+use Rattle.std.proofs.Common.{◌≡◌, ℕ, suc, ◌+◌, ◌<◌, List, [], ◌∷◌, ◌++◌, All, map, length, Some, None, refl, ap, sym, subst, ◌∙◌, arith}
 use Rattle.std.specs.Prelude.{Result, Ok, Err}
 use Rattle.std.specs.Borrow.{Bor}
 use Rattle.std.proofs.lemmas.List.{length-append}
 use Rattle.std.proofs.lemmas.List.Elements.{All-append, All-cons, All-nil}
-use Rattle.mir_base.specs.declared.memory.NoMemory.{NoMemory}
 use Rattle.mir_ty.specs.declared.adt.Adt.{Adt}
 use Rattle.mir_ty.specs.declared.adt.Variant.{Variant}
 use Rattle.mir_ty.specs.declared.def.Sig.{Sig}
 use Rattle.mir_ty.specs.declared.def.TraitDef.{TraitDef}
 use Rattle.mir_ty.specs.declared.def.ImplDef.{ImplDef}
 use Rattle.mir_ty.specs.declared.def.ClosureDef.{ClosureDef}
-use Rattle.mir_ty.specs.declared.ty.Ty.{Ty}
 use Rattle.mir_ty.specs.declared.ty.TyId.{TyId}
 use Rattle.mir_ty.specs.AreItems.{AreTypes, IsAdt, IsVariant, IsSig, IsMethod}
 use Rattle.mir_ty.specs.ItemTable.{ItemTable, with_adt, with_trait, with_impl, with_closure}
-use Rattle.mir_text.specs.Compared.{AdtSeen, VariantSeen, SigSeen, Written, adt_seen, variant_seen, sig_seen, trait_seen, closure_seen}
+use Rattle.mir_text.specs.Compared.{AdtSeen, SigSeen, Written, adt_seen, variant_seen, sig_seen, trait_seen, closure_seen}
 use Rattle.mir_text.specs.Reading.Words.{Found, bind}
 use Rattle.mir_text.proofs.Reading.Basics.{Every}
 use Rattle.listing_items.specs.ItemReading.{adt_read}
@@ -23,7 +21,7 @@ use Rattle.listing_items.proofs.FoundVariants.{still_variants}
 use Rattle.listing_lines.specs.LineReading.{impl_read, closure_read}
 use Rattle.listing_parts.specs.declared.error.ReadError.{ReadError}
 use Rattle.listing_traits.specs.TraitReading.{trait_read}
-use Rattle.listing_types.specs.Table.{AreRead, Grow, WithTypes, under, text_under}
+use Rattle.listing_types.specs.Table.{AreRead, Grow, under, text_under}
 use Rattle.listing_types.proofs.FoundRows.{map-append, still_types}
 use Rattle.listing_types.proofs.Splits.{split, same_found}
 use Rattle.listing_types.proofs.Texts.{every_from_all, texts_grown, text_grown, no_less}

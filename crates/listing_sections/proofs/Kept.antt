@@ -1,9 +1,7 @@
 -- A section leaves the items of the sections behind it as they are.
 use Rattle.std.proofs.Common.{◌≡◌, ℕ, List, [], ◌∷◌, ◌++◌, map, length, Some, refl, ap, sym, ◌∙◌}
-use Rattle.mir_ty.specs.declared.def.ClosureDef.{ClosureDef}
-use Rattle.mir_ty.specs.declared.def.TraitDef.{TraitDef}
 use Rattle.mir_ty.specs.ItemTable.{ItemTable}
-use Rattle.mir_text.specs.Compared.{SigSeen, Written, trait_seen, closure_seen}
+use Rattle.mir_text.specs.Compared.{trait_seen, closure_seen}
 use Rattle.listing_items.specs.ItemReading.{adt_read}
 use Rattle.listing_lines.specs.LineReading.{impl_read}
 use Rattle.listing_traits.specs.TraitReading.{trait_read}

@@ -1,5 +1,5 @@
 -- One thing after the other, each with a byte less to go.
-use Rattle.std.proofs.Common.{◌≡◌, ℕ, zero, suc, List, Some, None, refl, ap, sym, ◌∙◌}
+use Rattle.std.proofs.Common.{◌≡◌, ℕ, zero, suc, List, Some, None, refl, ap, ◌∙◌}
 use Rattle.mir_text.specs.Reading.Words.{Found}
 use Rattle.listing_sections.specs.SectionReading.{onward, on_within}
 

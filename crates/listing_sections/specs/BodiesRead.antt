@@ -1,5 +1,5 @@
 -- What the readers of bodies answer, as definitions see it.
-use Rattle.std.specs.Prelude.{◌≡◌, ℕ, Bool, List, [], ◌∷◌, ◌++◌, ⊤, map, length, take, drop, Some, None, All, Option, Result, Err, IfOk}
+use Rattle.std.specs.Prelude.{◌≡◌, ℕ, Bool, List, [], ◌∷◌, ◌++◌, ⊤, map, take, drop, Some, None, All, Result, Err, IfOk}
 use Rattle.std.specs.Borrow.{Bor}
 use Rattle.mir_base.specs.declared.memory.NoMemory.{NoMemory}
 use Rattle.mir_ty.specs.declared.def.Sig.{Sig}
@@ -7,12 +7,11 @@ use Rattle.mir_ty.specs.declared.ty.Ty.{Ty}
 use Rattle.mir_ty.specs.declared.ty.TyId.{TyId}
 use Rattle.mir_ty.specs.AreItems.{AreTypes, IsSig}
 use Rattle.mir_ty.specs.ItemTable.{ItemTable, type_at}
-use Rattle.cfg_graph.specs.declared.graph.Block.{Block}
 use Rattle.cfg_graph.specs.declared.graph.Body.{Body}
 use Rattle.mir_text.specs.Compared.{Written}
 use Rattle.mir_text.specs.Reading.Words.{Found}
 use Rattle.listing_parts.specs.declared.error.ReadError.{ReadError}
-use Rattle.listing_types.specs.Table.{AreRead, Grow, text_under}
+use Rattle.listing_types.specs.Table.{Grow, text_under}
 use Rattle.listing_sections.specs.BodyReading.{BodyTold}
 use Rattle.listing_sections.specs.SectionsRead.{items_seen, Drafted}
 

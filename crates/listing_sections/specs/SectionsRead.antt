@@ -1,5 +1,5 @@
 -- What the readers of sections answer, as definitions see it.
-use Rattle.std.specs.Prelude.{◌≡◌, ℕ, List, [], map, Some, None, All, Result, Err, IfOk}
+use Rattle.std.specs.Prelude.{◌≡◌, ℕ, List, map, Some, None, All, Result, Err, IfOk}
 use Rattle.std.specs.Borrow.{Bor}
 use Rattle.mir_base.specs.declared.memory.NoMemory.{NoMemory}
 use Rattle.mir_ty.specs.AreItems.{AreTypes, IsAdt, IsSig}

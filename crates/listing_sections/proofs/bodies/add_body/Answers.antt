@@ -1,5 +1,5 @@
 -- One body more, and none.
-use Rattle.std.proofs.Common.{rules, ◌≡◌, Bool, List, ℕ, Ok, subst}
+use Rattle.std.proofs.Common.{rules, Bool, List, ℕ, Ok, subst}
 use Rattle.std.specs.Borrow.{Bor}
 use Rattle.listing_sections.specs.BodyReading.{body_read}
 use Rattle.listing_sections.specs.BodiesRead.{AddsBody, FindsBody, FindsSig}

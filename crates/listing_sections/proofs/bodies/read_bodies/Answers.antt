@@ -1,5 +1,5 @@
 -- One body more, a broken one, and no more bodies.
-use Rattle.std.proofs.Common.{rules, ◌≡◌, ◌-◌, ◌+◌, Bool, true, false, List, ℕ, Ok, Err, length, subst, sym, ap, arith}
+use Rattle.std.proofs.Common.{rules, ◌≡◌, ◌-◌, ◌+◌, true, false, ℕ, Ok, Err, length, subst, arith}
 use Rattle.listing_parts.specs.declared.error.ReadError.{ReadError}
 use Rattle.listing_sections.specs.BodyReading.{body_read}
 use Rattle.listing_sections.specs.BodiesRead.{AddsBody}

@@ -1,5 +1,5 @@
 -- One local more, and no more locals.
-use Rattle.std.proofs.Common.{rules, ◌≡◌, ◌-◌, ◌+◌, ◌<◌, ◌++◌, ◌∷◌, [], ℕ, List, Some, None, length, ap, sym, ◌∙◌, arith}
+use Rattle.std.proofs.Common.{rules, ◌≡◌, ◌-◌, ◌+◌, ◌<◌, ◌++◌, ◌∷◌, [], ℕ, Some, None, length, ap, sym, ◌∙◌, arith}
 use Rattle.listing_lines.specs.LineReading.{local_read}
 use Rattle.listing_types.specs.Table.{text_under}
 use Rattle.listing_sections.proofs.Locals.{begins, goes_on, stops, fails, ends}

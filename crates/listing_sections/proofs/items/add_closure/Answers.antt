@@ -1,5 +1,5 @@
 -- One closure more, and none.
-use Rattle.std.proofs.Common.{rules, ◌≡◌, ℕ, List, All, Some, refl, sym}
+use Rattle.std.proofs.Common.{rules, ◌≡◌, Some, refl}
 use Rattle.mir_ty.specs.AreItems.{AreTypes}
 use Rattle.mir_text.specs.Compared.{closure_seen}
 use Rattle.listing_parts.specs.declared.error.ReadError.{ReadError}

@@ -1,5 +1,5 @@
 -- One impl more, and none.
-use Rattle.std.proofs.Common.{rules, ◌≡◌, ℕ, List, Some, refl, sym}
+use Rattle.std.proofs.Common.{rules, ◌≡◌, Some, refl}
 use Rattle.listing_lines.specs.LineReading.{impl_read}
 use Rattle.listing_parts.specs.declared.error.ReadError.{ReadError}
 use Rattle.listing_sections.specs.SectionReading.{one_impl}

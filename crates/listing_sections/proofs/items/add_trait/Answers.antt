@@ -1,5 +1,5 @@
 -- One trait more, and none.
-use Rattle.std.proofs.Common.{rules, ◌≡◌, ℕ, List, All, Some, refl, sym}
+use Rattle.std.proofs.Common.{rules, ◌≡◌, All, Some, refl}
 use Rattle.mir_ty.specs.AreItems.{IsMethod}
 use Rattle.mir_text.specs.Compared.{trait_seen}
 use Rattle.listing_parts.specs.declared.error.ReadError.{ReadError}

@@ -1,5 +1,5 @@
 -- One struct or enum more, and no more of them.
-use Rattle.std.proofs.Common.{rules, ◌≡◌, ◌-◌, ◌+◌, length, arith}
+use Rattle.std.proofs.Common.{rules, ◌-◌, ◌+◌, length, arith}
 use Rattle.listing_sections.specs.SectionReading.{one_adt}
 use Rattle.listing_sections.proofs.Growing.{begins, goes_on, stops, fails, ends}
 use Rattle.listing_sections.proofs.items.read_adts.Goals as goal

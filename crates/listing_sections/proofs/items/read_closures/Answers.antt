@@ -1,5 +1,5 @@
 -- One closure more, and no more closures.
-use Rattle.std.proofs.Common.{rules, ◌≡◌, ◌-◌, ◌+◌, Ok, length, ap, sym, ◌∙◌, arith}
+use Rattle.std.proofs.Common.{rules, ◌-◌, ◌+◌, Ok, length, ap, sym, arith}
 use Rattle.listing_sections.specs.SectionReading.{one_closure}
 use Rattle.listing_sections.specs.SectionsRead.{items_seen, FindsItem}
 use Rattle.listing_sections.proofs.Growing.{begins, goes_on, stops, fails, ends, closure_count}

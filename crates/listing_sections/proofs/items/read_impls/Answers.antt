@@ -1,5 +1,5 @@
 -- One impl more, and no more of them.
-use Rattle.std.proofs.Common.{rules, ◌≡◌, ◌-◌, ◌+◌, length, arith}
+use Rattle.std.proofs.Common.{rules, ◌-◌, ◌+◌, length, arith}
 use Rattle.listing_sections.specs.SectionReading.{one_impl}
 use Rattle.listing_sections.proofs.Growing.{begins, goes_on, stops, fails, ends}
 use Rattle.listing_sections.proofs.items.read_impls.Goals as goal

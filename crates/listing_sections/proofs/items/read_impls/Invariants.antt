@@ -1,4 +1,4 @@
-use Rattle.std.proofs.Common.{◌≡◌, ◌-◌, length}
+use Rattle.std.proofs.Common.{◌-◌, length}
 use Rattle.listing_sections.specs.SectionReading.{one_impl}
 use Rattle.listing_sections.proofs.Growing.{SoFar}
 use Rattle.listing_sections.proofs.items.read_impls.Given as goal

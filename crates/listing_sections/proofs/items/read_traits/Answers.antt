@@ -1,5 +1,5 @@
 -- One trait more, and no more traits.
-use Rattle.std.proofs.Common.{rules, ◌≡◌, ◌-◌, ◌+◌, Ok, length, ap, sym, ◌∙◌, arith}
+use Rattle.std.proofs.Common.{rules, ◌-◌, ◌+◌, Ok, length, ap, sym, arith}
 use Rattle.listing_sections.specs.SectionReading.{one_trait}
 use Rattle.listing_sections.specs.SectionsRead.{items_seen, FindsItem}
 use Rattle.listing_sections.proofs.Growing.{begins, goes_on, stops, fails, ends, trait_count}
