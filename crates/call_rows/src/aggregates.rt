@@ -1,0 +1,89 @@
+//! Tuples, arrays and boxes (The Rust Reference, "Tuple expressions", "Array expressions").
+ghost use Rattle.std.specs.Prelude.{◌≡◌};
+ghost use Rattle.typing_rules.specs.Rows as rows;
+ghost use Rattle.call_rows.specs.Lists.{below_all, last_nodes};
+ghost use Rattle.call_rows.specs.Rests.{array_rest, box_of_rest, box_rest, tuple_rest};
+ghost use Rattle.type_rows.specs.Stand.{Gives, Keeps, below, stack, state, top};
+
+use crate::calls::fitted_many;
+use crate::lists::Many;
+use item_heads::obeys;
+use mir_base::{List, NodeId, Pos, Rule, RuleError};
+use mir_ty::{Ty, TyId};
+use type_rows::{Checker, One};
+
+/// `(a, b)`, whose parts are the last nodes, of these types.
+pub fn tuple_end(
+    checker: &mut Checker,
+    id: NodeId,
+    at: Pos,
+    types: List<TyId>,
+    count: usize,
+    want: Option<TyId>,
+) -> Result<(), RuleError>
+    ensures gives { Gives (tuple_rest id.0 at count types (last_nodes count (stack checker.old)) want (state checker.old)) result checker.new }
+    ensures kept { Keeps (below_all count (stack checker.old)) checker.old result checker.new }
+{
+    let ty = checker.interned(Ty::Tuple(types))?;
+    fitted_many(checker, id, at, ty, Many::Tuple, count, want)?;
+    obeys(Rule::T19, at, count <= 12)
+}
+
+/// `[a, b]`, whose elements are the last nodes, of one type.
+pub fn array_end(
+    checker: &mut Checker,
+    id: NodeId,
+    at: Pos,
+    element: TyId,
+    count: u32,
+    want: Option<TyId>,
+) -> Result<(), RuleError>
+    ensures gives { Gives (array_rest id.0 at count element (last_nodes count (stack checker.old)) want (state checker.old)) result checker.new }
+    ensures kept { Keeps (below_all count (stack checker.old)) checker.old result checker.new }
+{
+    let ty = checker.interned(Ty::Array(element, count))?;
+    fitted_many(checker, id, at, ty, Many::Array, count as usize, want)?;
+    obeys(Rule::T19, at, count <= 32)
+}
+
+/// A part has the type that is required of it, else its own.
+fn part_ty(checker: &Checker, content: Option<TyId>) -> TyId
+    ensures { result ≡ rows.part_ty content (top (stack checker.now)) }
+{
+    match content {
+        Some(ty) => ty,
+        None => checker.last_ty(),
+    }
+}
+
+fn box_of(
+    checker: &mut Checker,
+    id: NodeId,
+    at: Pos,
+    count: usize,
+    inside: TyId,
+    want: Option<TyId>,
+) -> Result<(), RuleError>
+    ensures gives { Gives (box_of_rest id.0 at count want inside (top (stack checker.old)) (state checker.old)) result checker.new }
+    ensures kept { Keeps (below (stack checker.old)) checker.old result checker.new }
+{
+    let ty = checker.interned(Ty::Boxed(inside))?;
+    checker.fitted_one(id, at, ty, One::NewBox, want)?;
+    obeys(Rule::T04, at, count == 1)
+}
+
+/// `Box::new(e)`, whose argument is the last node.
+pub fn box_end(
+    checker: &mut Checker,
+    id: NodeId,
+    at: Pos,
+    count: usize,
+    content: Option<TyId>,
+    want: Option<TyId>,
+) -> Result<(), RuleError>
+    ensures gives { Gives (box_rest id.0 at count want content (top (stack checker.old)) (state checker.old)) result checker.new }
+    ensures kept { Keeps (below (stack checker.old)) checker.old result checker.new }
+{
+    let inside = part_ty(checker, content);
+    box_of(checker, id, at, count, inside, want)
+}
