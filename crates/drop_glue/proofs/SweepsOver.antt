@@ -1,12 +1,13 @@
 -- What is gone over, one thing after another.
-use Rattle.std.proofs.Common.{◌≡◌, ℕ, suc, ◌+◌, List, [], ◌∷◌, ◌++◌, map, Option, Some, None, refl, ap, sym, subst, ◌∙◌, append_assoc, arith}
-use Rattle.std.proofs.lemmas.List.{map-append}
-use Rattle.std.specs.Prelude.{option_and_then, slice_get}
+use Rattle.std.proofs.Common.{◌≡◌, ℕ, suc, ◌+◌, ◌<◌, false, drop, length, List, [], ◌∷◌, ◌++◌, map, Option, Some, None, refl, ap, sym, subst, ◌∙◌, append_assoc, arith}
+use Rattle.std.proofs.lemmas.List.{map-append, at_drop_more}
+use Rattle.std.specs.Prelude.{get_or, option_and_then, slice_get}
+use Rattle.drop_glue.proofs.Below.{same_number}
 use Rattle.std.specs.declared.alloc.Global.{Global}
 use Rattle.std.specs.declared.boxed.Box.{Box as TheBox}
 use Rattle.drop_glue.specs.declared.sweeping.Sweeps.{Sweeps}
 use Rattle.drop_glue.specs.Left.{type_of_number, found_of, own_impl}
-use Rattle.drop_glue.specs.Swept.{freed, freed_parts, HasType, IsFoundAgain, IsSwept, ArePartsSwept, IsSweptBy, AreSwept, freed_by, freed_before, PutsBefore, GoesOver}
+use Rattle.drop_glue.specs.Swept.{GoneOver, holds_parts, freed, freed_parts, HasType, IsFoundAgain, IsSwept, ArePartsSwept, IsSweptBy, AreSwept, freed_by, freed_before, PutsBefore, GoesOver}
 use Rattle.mir_base.specs.declared.trace.Event.{Event}
 use Rattle.mir_steps.specs.declared.told.Told.{Told}
 use Rattle.mir_steps.specs.Worlds.{event_of}
@@ -19,7 +20,7 @@ use Rattle.store_model.specs.Concrete.Location.{DynamicType, OfType, type_of_par
 use Rattle.store_model.specs.declared.address.At.TheVariants.{Inside}
 use Rattle.store_model.specs.declared.value.Value.{Value}
 use Rattle.store_model.specs.declared.value.Value.TheVariants.{Parts, Boxed}
-use Rattle.store_model.specs.Values.Datum.{Aggregate, Box, a_part, data_from, datum_of}
+use Rattle.store_model.specs.Values.Datum.{Datum, Gone, Number, Truth, UnitValue, Aggregate, Box, Address, a_part, data_from, datum_of}
 
 module _ (items : ItemTable) where
   -- what was added last comes first
@@ -54,6 +55,46 @@ module _ (items : ItemTable) where
             ap (λ w. freed_before w after) pushed ∙ freed_pushed old last after ∙ ap (λ l. l ++ freed_before old after) (freeds ∙ ap freed (sym is_datum));
       }
 
+  typed_part : (dynamic : DynamicType) (variant n : ℕ) (id : TyId) → option_and_then (λ ty. slice_get (parts_of items ty variant) n) (concrete_ty items dynamic) ≡ Some id →
+      type_of_number items dynamic variant n ≡ Some (OfType id)
+  typed_part dynamic variant n id e = ap found_of e
+
+  -- a value without parts is swept at once
+  plain_swept : (d : Datum) (dynamic : DynamicType) → holds_parts d ≡ false → IsFoundAgain items dynamic → IsSwept items Begins d dynamic × (freed d ≡ [])
+  plain_swept Gone dynamic e again = (again, refl)
+  plain_swept (Number number) dynamic e again = (again, refl)
+  plain_swept (Truth truth) dynamic e again = (again, refl)
+  plain_swept UnitValue dynamic e again = (again, refl)
+  plain_swept (Aggregate variant serial parts) dynamic e again = absurd (cc)
+  plain_swept (Box serial impl_no inside) dynamic e again = absurd (cc)
+  plain_swept (Address address) dynamic e again = (again, refl)
+
+  -- one more part without parts
+  pub plain_more : (parts : List Value) (i next other variant : ℕ) (part : Value) (dynamic : DynamicType) (id : TyId) → i < length parts → part ≡ get_or parts i part → holds_parts (datum_of part) ≡ false →
+      option_and_then (λ ty. slice_get (parts_of items ty variant) next) (concrete_ty items dynamic) ≡ Some id → other ≡ next + 1 →
+      GoneOver items (data_from (map datum_of (drop (i + 1) parts))) dynamic variant other → GoneOver items (data_from (map datum_of (drop i parts))) dynamic variant next
+  plain_more parts i next other variant part dynamic id less is plain typed more later =
+      let F = λ (l : List Value). GoneOver items (data_from (map datum_of l)) dynamic variant next in
+      let one = plain_swept (datum_of part) (OfType id) plain (same_number id.0) in
+      let step : other ≡ suc next = omega (arith, more) in
+      subst F (sym (at_drop_more (λ (l : List Value). l) parts i part less))
+      (subst (λ p. F (p ∷ drop (i + 1) parts)) is (
+        (
+          subst (λ o. HasType o (IsSwept items Begins (datum_of part))) (sym (typed_part dynamic variant next id typed)) one.0,
+          subst (ArePartsSwept items (data_from (map datum_of (drop (i + 1) parts))) dynamic variant) step later.0,
+        ),
+        ap (λ l. l ++ freed_parts (data_from (map datum_of (drop (i + 1) parts)))) one.1 ∙ later.1,
+      ))
+
+  -- the parts of a value are swept at once
+  pub parts_plain : (stage : Stage) (value : Value) (variant : ℕ) (serial : Option ℕ) (values : List Value) (dynamic : DynamicType) (work : List Sweeps) → value ≡ Parts variant serial values → IsFoundAgain items dynamic →
+      own_impl stage (drop_impl items (concrete_ty items dynamic)) ≡ None → GoneOver items (data_from (map datum_of values)) dynamic variant 0 →
+      PutsBefore items work (IsSwept items stage (datum_of value) dynamic) (freed (datum_of value)) work
+  parts_plain stage value variant serial values dynamic work is again none gone =
+      let is_datum : datum_of value ≡ Aggregate variant serial (data_from (map datum_of values)) = ap datum_of is ∙ datum_of-Parts variant serial values in
+      nothing_put work (IsSwept items stage (datum_of value) dynamic) (freed (datum_of value))
+      (subst (λ d. IsSwept items stage d dynamic) (sym is_datum) (again, none, gone.0)) (ap freed is_datum ∙ gone.1)
+
   -- the content of a box comes next, and then the box
   pub content_put : (stage : Stage) (value : Value) (serial : ℕ) (impl_no : Option ℕ) (inside : TheBox Value Global) (dynamic child : DynamicType) → value ≡ Boxed serial impl_no inside → IsFoundAgain items dynamic →
       type_of_part items Inside (datum_of value) dynamic ≡ Some child → (old mid new : List Sweeps) (last : Sweeps) → mid ≡ old ++ Sweeps.Boxed serial ∷ [] → new ≡ mid ++ last ∷ [] →
@@ -74,10 +115,6 @@ module _ (items : ItemTable) where
             ∙ sym (append_assoc (freed (datum_of inside.value)) (Event.Freed serial ∷ []) (freed_before old after))
             ∙ ap (λ l. l ++ freed_before old after) (ap freed (sym is_datum));
       }
-
-  typed_part : (dynamic : DynamicType) (variant n : ℕ) (id : TyId) → option_and_then (λ ty. slice_get (parts_of items ty variant) n) (concrete_ty items dynamic) ≡ Some id →
-      type_of_number items dynamic variant n ≡ Some (OfType id)
-  typed_part dynamic variant n id e = ap found_of e
 
   -- the first part comes next, and then the others
   pub part_put : (parts : List Value) (first : Value) (others : List Value) → parts ≡ first ∷ others → (variant n other : ℕ) (dynamic : DynamicType) → other ≡ n + 1 → (id : TyId) →

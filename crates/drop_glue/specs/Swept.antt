@@ -62,6 +62,17 @@ module _ (items : ItemTable) where
         HasType (type_of_number items dynamic variant next) (IsSwept Begins first)
         × ArePartsSwept rest dynamic variant (suc next)
 
+-- a value of parts, or a box
+abbrev pub holds_parts : Datum → Bool
+holds_parts (Aggregate variant serial parts) = true
+holds_parts (Box serial impl_no inside) = true
+holds_parts value = false
+
+-- parts of what is found so, the first of which has this number, are swept, and nothing in them is freed
+abbrev pub GoneOver : ItemTable → Data → DynamicType → (variant next : ℕ) → Type 0
+GoneOver items parts dynamic variant next =
+    ArePartsSwept items parts dynamic variant next × (freed_parts parts ≡ [])
+
 abbrev pub is_there : Datum → Bool
 is_there Gone = false
 is_there value = true

@@ -3,12 +3,14 @@ ghost use Rattle.std.specs.Prelude.{◌≡◌, ◌++◌, map, true, IfOk};
 ghost use Rattle.drop_glue.specs.Swept.{
   ArePartsSwept,
   GoesOver,
+  GoneOver,
   IsSwept,
   PutsBefore,
   SweptSo,
   Sweeping,
   freed,
   freed_parts,
+  holds_parts as holds_parts_of,
   is_there as is_there_so,
 };
 ghost use Rattle.drop_glue.specs.Turns.{stage_by};
@@ -56,6 +58,35 @@ fn is_there(value: &Value) -> bool
     !matches!(value, Value::Gone)
 }
 
+/// Whether a value has parts or is a box.
+fn holds_parts(value: &Value) -> bool
+    ensures { result ≡ holds_parts_of (datum_of value.now) }
+{
+    matches!(value, Value::Parts { .. } | Value::Boxed { .. })
+}
+
+/// Whether the parts of a variant of what was found so have types, and hold no parts themselves: then nothing is left to
+/// be gone over.
+fn are_plain(items: &Items, parts: &[Value], variant: u32, dynamic: Dynamic) -> bool
+    ensures { result ≡ true →
+        GoneOver items.now (data_from (map datum_of parts.now)) (dynamic_of dynamic) variant 0 }
+{
+    let mut next: u32 = 0;
+    for part in parts {
+        if holds_parts(part) {
+            return false;
+        }
+        let Some(_id) = field_ty(items, dynamic, variant, next) else {
+            return false;
+        };
+        let Some(other) = next.checked_add(1) else {
+            return false;
+        };
+        next = other;
+    }
+    true
+}
+
 /// Goes over a value, whose own `Drop` body may have run: its parts come next. False where one is to run, or where what
 /// is found has no type.
 fn sweep_value<'a>(
@@ -76,6 +107,9 @@ fn sweep_value<'a>(
         Value::Parts { variant, parts, .. } => {
             if let Some(_) = own_drop(items, has_run, dynamic) {
                 return Ok(false);
+            }
+            if are_plain(items, parts.as_slice(), *variant, dynamic) {
+                return Ok(true);
             }
             work.push(Sweeps::Rest {
                 parts: parts.as_slice(),
