@@ -1,9 +1,8 @@
 -- How patterns with parts end, once their parts are checked.
-use Rattle.std.proofs.Common.{◌≡◌, ℕ, zero, suc, Bool, true, false, ◌&&◌, ◌||◌, not, ◌==◌, List, [], ◌∷◌, ◌++◌, length, reverse, take, Option, Some, None, Result, Ok, Err, refl, ap, sym, subst, ◌∙◌}
+use Rattle.std.proofs.Common.{◌≡◌, ℕ, zero, suc, Bool, true, false, ◌&&◌, ◌||◌, List, [], ◌∷◌, length, reverse, take, Option, Some, None, Result, Ok, Err, refl, ap, sym, subst, ◌∙◌}
 use Rattle.std.proofs.lemmas.List.{reverse-append}
 use Rattle.call_rows.specs.Lists.{below_all, last_nodes, nodes_on}
 use Rattle.item_heads.specs.Answers.{Refuses}
-use Rattle.item_heads.proofs.Sequences.{stopped}
 use Rattle.mir_base.specs.declared.place_in_text.Pos.{Pos}
 use Rattle.mir_base.specs.declared.rule.Rule.{Rule}
 use Rattle.mir_base.specs.declared.rule.RuleError.{RuleError}
@@ -17,7 +16,7 @@ use Rattle.pattern_rows.specs.declared.parts.PartTypes.{PartTypes}
 use Rattle.pattern_rows.proofs.Alone.{numbered}
 use Rattle.pattern_rows.proofs.Units.{begins, beside, ends_beside, target_bound}
 use Rattle.src_ast.specs.Syntax.{Syns, no_syn, a_syn, TuplePattern}
-use Rattle.type_rows.specs.Stand.{Gives, below, stack, state, top}
+use Rattle.type_rows.specs.Stand.{Gives, below, top}
 use Rattle.type_rows.specs.declared.checker.Checker.{Checker}
 use Rattle.typed_tree.specs.Tree as tree
 use Rattle.typed_tree.specs.Tree.{Node, Nodes, a_node, Fields, no_field, a_field, Form}

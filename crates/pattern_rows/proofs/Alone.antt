@@ -1,5 +1,5 @@
 -- Rows of patterns whose first lines are known to hold.
-use Rattle.std.proofs.Common.{◌≡◌, ℕ, suc, Bool, true, false, not, ◌||◌, List, ◌∷◌, ◌++◌, [], Option, Some, None, Result, Ok, refl, ap, sym, ◌∙◌}
+use Rattle.std.proofs.Common.{◌≡◌, ℕ, suc, Bool, true, false, not, ◌||◌, List, ◌∷◌, ◌++◌, [], Option, Some, None, Ok, refl, ap, ◌∙◌}
 use Rattle.std.specs.Prelude.{is_some, if◌then◌else◌}
 use Rattle.mir_base.specs.declared.place_in_text.Pos.{Pos}
 use Rattle.mir_base.specs.declared.rule.Rule.{Rule}
@@ -8,7 +8,7 @@ use Rattle.mir_ty.specs.ItemTable.{ItemTable}
 use Rattle.mir_ty.specs.declared.ty.TyId.{TyId}
 use Rattle.src_ast.specs.Syntax.{Word}
 use Rattle.typed_tree.specs.Tree as tree
-use Rattle.typing_rules.specs.Check.{Check, State, Broken, and_then, ◌>>=◌, ◌>>◌, pure, breaks, obeys, known, number, the_items}
+use Rattle.typing_rules.specs.Check.{Check, State, and_then, ◌>>=◌, ◌>>◌, pure, breaks, obeys, known, number, the_items}
 use Rattle.typing_rules.specs.Patterns.{Bound, Target, bind, is_unit_kind, lone_by, lone_struct, no_parts, of_target, path_alone, target, target_of}
 use Rattle.typing_rules.specs.Places.{a_node_of, used}
 use Rattle.typing_rules.specs.Rows.{Expected, taking}

@@ -1,14 +1,11 @@
 -- Fields of variants by their names, as the tables of names have them.
-use Rattle.std.proofs.Common.{◌≡◌, ℕ, List, [], ◌++◌, Option, Some, None, map, slice_get, refl, ap, sym, ◌∙◌}
+use Rattle.std.proofs.Common.{◌≡◌, [], Option, Some, None, slice_get, refl, ap, ◌∙◌}
 use Rattle.std.specs.Prelude.{option_and_then}
-use Rattle.std.specs.List.{position as position_of}
 use Rattle.std.specs.Option.{option_map, option_map_or}
-use Rattle.std.specs.Str.{bytes_eq}
 use Rattle.std.proofs.lemmas.Option.{slice_get-map}
 use Rattle.mir_ty.specs.declared.adt.Adt.{Adt}
 use Rattle.mir_ty.specs.declared.adt.Variant.{Variant}
 use Rattle.mir_ty.specs.ItemTable.{ItemTable}
-use Rattle.src_ast.specs.Syntax.{Word}
 use Rattle.type_env.specs.Members.{adt_names}
 use Rattle.type_rows.specs.Tables.{IsReady}
 use Rattle.type_rows.specs.declared.tables.Tables.{Tables}

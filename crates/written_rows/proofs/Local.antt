@@ -1,6 +1,5 @@
 -- The walk over a type looks at the items alone, and adds types alone.
 use Rattle.std.proofs.Common.{◌≡◌, ℕ, Bool, true, false, List, [], ◌∷◌, ◌||◌, not, length, nat_le, Option, Some, None, Result, Ok, Err, refl, ap, sym, subst, ◌∙◌}
-use Rattle.std.specs.Prelude.{⊤}
 use Rattle.std.specs.List.{position as position_of}
 use Rattle.mir_base.specs.declared.place_in_text.Pos.{Pos}
 use Rattle.mir_base.specs.declared.rule.Rule.{Rule}
@@ -11,7 +10,7 @@ use Rattle.mir_ty.specs.declared.ty.Ty.{Ty}
 use Rattle.mir_ty.specs.declared.ty.TyId.{TyId}
 use Rattle.src_ast.specs.Syntax.{Syn, syn, Shape, Ident, LabelOf, Literal, TruthLiteral, Path, Minus, Bang, Star, Ampersand, Calculate, Compare, Both, Either, Store, CallOf, MethodOf, FieldOf, PartOf, ElementOf, StructOf, FieldInit, Parens, TupleOf, ArrayOf, Braces, IfElse, IfLetElse, MatchOn, ArmOf, LoopOf, WhileOf, WhileLetOf, BreakOf, ContinueOf, ReturnOf, MoveOf, PanicOf, LetOf, Empty, Semi, AnyPattern, BindPattern, LiteralPattern, TruthPattern, PathPattern, PartsPattern, FieldsPattern, FieldPattern, ParensPattern, TuplePattern, ArrayPattern, Alternatives, NamedType, GenericType, DynType, SelfType, ParensType, TupleType, ArrayType, NeverType, RefType, StructItem, EnumItem, FieldDecl, VariantDecl, TraitItem, ImplItem, FnItem, ParamOf, SelfParam, Odd, Syns, no_syn, a_syn}
 use Rattle.type_env.specs.Walked.{HasOnlyTypes}
-use Rattle.typing_rules.specs.Check.{Check, State, Broken, and_then, ◌>>=◌, ◌>>◌, pure, breaks, obeys, known, interned, interned_at}
+use Rattle.typing_rules.specs.Check.{Check, State, Broken, and_then, ◌>>=◌, pure, breaks, obeys, known, interned, interned_at}
 use Rattle.typing_rules.specs.Collected.{starting_with}
 use Rattle.typing_rules.specs.Places.{never, unit}
 use Rattle.typing_rules.specs.Written.{Around, all_written, is_box, is_usize, length_shown, named_by, number_of, reference_to, scalar_named, tuple_by, written, written_form, written_param, written_param_form}

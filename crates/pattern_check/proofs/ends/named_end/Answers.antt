@@ -1,4 +1,4 @@
-use Rattle.std.proofs.Common.{◌≡◌, Bool, ◌&&◌, ◌||◌, ap, subst, ◌∙◌}
+use Rattle.std.proofs.Common.{Bool, ◌&&◌, ◌||◌, ap, subst, ◌∙◌}
 use Rattle.pattern_rows.specs.Fields.{last_fields}
 use Rattle.pattern_rows.specs.Rests.{target_rest}
 use Rattle.pattern_rows.specs.Targets.{target_of}

@@ -1,4 +1,4 @@
-use Rattle.std.proofs.Common.{◌≡◌, ℕ, ◌+◌, Err, ap, drop, get_or, length, map, replicate, reverse, sym, subst, take, ◌∙◌, rules}
+use Rattle.std.proofs.Common.{ℕ, ◌+◌, ap, drop, get_or, length, map, replicate, reverse, sym, subst, take, ◌∙◌, rules}
 use Rattle.std.specs.Option.{option_map}
 use Rattle.std.proofs.lemmas.List.{length-replicate}
 use Rattle.call_rows.specs.Lists.{last_nodes, many_form}
