@@ -1,5 +1,5 @@
 -- One name as a pattern, by the form of its node; initialisers that are no use of a place.
-use Rattle.std.proofs.Common.{◌≡◌, ℕ, suc, Bool, true, false, not, ◌&&◌, Option, Some, None, refl, ap, sym, ◌∙◌}
+use Rattle.std.proofs.Common.{◌≡◌, ℕ, Bool, true, false, ◌&&◌, Option, Some, None, refl, ap}
 use Rattle.std.specs.Prelude.{is_none}
 use Rattle.mir_base.specs.declared.place_in_text.Pos.{Pos}
 use Rattle.mir_ty.specs.ItemTable.{ItemTable}
@@ -7,7 +7,7 @@ use Rattle.mir_ty.specs.declared.ty.TyId.{TyId}
 use Rattle.src_tree.specs.declared.node.Node.{Node}
 use Rattle.src_ast.specs.Seen.{syn_of}
 use Rattle.src_ast.specs.Sorts.{pattern_part}
-use Rattle.src_ast.specs.Syntax.{Syn, syn, Shape, at_of, shape_of, Ident, LabelOf, Literal, TruthLiteral, Path, Minus, Bang, Star, Ampersand, Calculate, Compare, Both, Either, Store, CallOf, MethodOf, FieldOf, PartOf, ElementOf, StructOf, FieldInit, Parens, TupleOf, ArrayOf, Braces, IfElse, IfLetElse, MatchOn, ArmOf, LoopOf, WhileOf, WhileLetOf, BreakOf, ContinueOf, ReturnOf, MoveOf, PanicOf, LetOf, Empty, Semi, AnyPattern, BindPattern, LiteralPattern, TruthPattern, PathPattern, PartsPattern, FieldsPattern, FieldPattern, ParensPattern, TuplePattern, ArrayPattern, Alternatives, NamedType, GenericType, DynType, SelfType, ParensType, TupleType, ArrayType, NeverType, RefType, StructItem, EnumItem, FieldDecl, VariantDecl, TraitItem, ImplItem, FnItem, ParamOf, SelfParam, Odd}
+use Rattle.src_ast.specs.Syntax.{Syn, syn, Shape, shape_of, Ident, LabelOf, Literal, TruthLiteral, Path, Minus, Bang, Star, Ampersand, Calculate, Compare, Both, Either, Store, CallOf, MethodOf, FieldOf, PartOf, ElementOf, StructOf, FieldInit, Parens, TupleOf, ArrayOf, Braces, IfElse, IfLetElse, MatchOn, ArmOf, LoopOf, WhileOf, WhileLetOf, BreakOf, ContinueOf, ReturnOf, MoveOf, PanicOf, LetOf, Empty, Semi, AnyPattern, BindPattern, LiteralPattern, TruthPattern, PathPattern, PartsPattern, FieldsPattern, FieldPattern, ParensPattern, TuplePattern, ArrayPattern, Alternatives, NamedType, GenericType, DynType, SelfType, ParensType, TupleType, ArrayType, NeverType, RefType, StructItem, EnumItem, FieldDecl, VariantDecl, TraitItem, ImplItem, FnItem, ParamOf, SelfParam, Odd}
 use Rattle.type_rows.proofs.Nodes.{shape}
 use Rattle.typed_tree.specs.Tree.{absent}
 use Rattle.typed_tree.specs.View as view

@@ -51,7 +51,12 @@ fn place_of(checker: &mut Checker, want: TyId) -> Result<(), RuleError>
     ensures gives { Gives (rows.place_for_parts (env checker.old) (Some want) (top (stack checker.old)) (state checker.old)) result checker.new }
     ensures kept { Keeps (below (stack checker.old)) checker.old result checker.new }
 {
-    match how_it_fits(&checker.tables.pairs, &checker.walk.items, want, checker.last_ty()) {
+    match how_it_fits(
+        &checker.tables.pairs,
+        &checker.walk.items,
+        want,
+        checker.last_ty(),
+    ) {
         Fit::Fits => checker.no_reference(),
         Fit::Coerced(_) => checker.taken(Some(want)),
         Fit::Differs => checker.taken(Some(want)),
@@ -87,12 +92,7 @@ fn ends(checker: &Checker) -> bool
     is_never(&checker.walk.items, checker.second_ty()) && !is_unused(checker.second())
 }
 
-fn put_let(
-    checker: &mut Checker,
-    id: NodeId,
-    at: Pos,
-    bound: &Variables,
-) -> Result<(), RuleError>
+fn put_let(checker: &mut Checker, id: NodeId, at: Pos, bound: &Variables) -> Result<(), RuleError>
     ensures made { OnOk result (stack checker.new ≡
         a_node_of id.0 at unit (tree.Let (top (stack checker.old)) (present (top (below (stack checker.old))))) ∷ below (below (stack checker.old))) }
     ensures state { OnOk result (state checker.new ≡ state checker.old) }
