@@ -1,4 +1,4 @@
-use Rattle.std.proofs.Common.{◌≡◌, ◌∙◌, ap, map, length}
+use Rattle.std.proofs.Common.{◌≡◌, ◌∙◌, ap, map}
 use Rattle.node_numbers.specs.Places.{placed}
 use Rattle.typed_tree.specs.View.{field_of, fields_from, nodes_from, tree_of}
 use Rattle.typing_rules.specs.Numbered.{renumbered}
