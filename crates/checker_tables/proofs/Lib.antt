@@ -1,0 +1,2 @@
+pub mod KindForms
+pub mod KindWalk
