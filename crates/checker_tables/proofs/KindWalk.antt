@@ -23,14 +23,14 @@ at_node n = ap kinds_at (node_seen n)
 abbrev among : List Single → List (List Kind)
 among ps = all_kinds (item_syns (items_of (parts_from ps)))
 
-apart : {X Y : Type 0} {h : X → Option Y} (F : List X → List Y) → F ≡ filter_map h → (x : X) (xs : List X) → F (x ∷ xs) ≡ F (x ∷ []) ++ F xs
-apart {h = h} F is x xs =
+apart : {X Y : Type 0} (h : X → Option Y) (F : List X → List Y) → F ≡ filter_map h → (x : X) (xs : List X) → F (x ∷ xs) ≡ F (x ∷ []) ++ F xs
+apart h F is x xs =
     ap (λ G. G (x ∷ xs)) is ∙ filter_map-append h (x ∷ []) xs
     ∙ sym (ap (λ G. G (x ∷ []) ++ G xs) is)
 
 first_piece : (o : Single) (ys : List Single) → among (o ∷ ys) ≡ kinds_at o ++ among ys
 first_piece (a_token t) ys = refl
-first_piece (a_node g) ys = apart all_kinds refl (view g) (item_syns (items_of (parts_from ys)))
+first_piece (a_node g) ys = apart _ all_kinds refl (view g) (item_syns (items_of (parts_from ys)))
 
 pub one_more : (whole earlier more : List (List Kind)) (ps : List Piece) (i : ℕ) (p : Piece) → i < length ps → p ≡ get_or ps i p →
     whole ≡ earlier ++ among (map piece_of (drop i ps)) → more ≡ earlier ++ kinds_at (piece_of p) →

@@ -35,7 +35,7 @@ fn methods_of(alloc: Global, def: &TraitDef) -> Result<NameTable, NoMemory>
     ensures { IfOk result (λ names. names ≡ method_words def.now) }
 {
     let mut names = NameTable::new(alloc);
-    for sig in &def.methods {
+    for sig in def.methods.as_slice() {
         names = names.with(alloc, sig.name.as_str())?;
     }
     Ok(names)

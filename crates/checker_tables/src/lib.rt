@@ -4,6 +4,6 @@
 mod drops;
 mod items;
 mod kinds;
-//mod start;
+mod start;
 
-//pub use start::checker_of;
+pub use start::checker_of;
