@@ -1,5 +1,5 @@
 -- Tables put together of three parts, and the place where a checker begins.
-use Rattle.std.proofs.Common.{◌≡◌, ℕ, List, [], Option, None, map, reverse, refl, ap, sym, ◌∙◌}
+use Rattle.std.proofs.Common.{◌≡◌, ℕ, List, [], Option, None, map, reverse, ap, ◌∙◌}
 use Rattle.mir_ty.specs.declared.ty.TyId.{TyId}
 use Rattle.mir_ty.specs.ItemTable.{ItemTable}
 use Rattle.type_env.specs.Scope.{around_of}

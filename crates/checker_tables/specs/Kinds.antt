@@ -1,5 +1,5 @@
 -- How the parts of variants are written, variant by variant and item by item.
-use Rattle.std.specs.Prelude.{List, [], ◌∷◌, Option, Some, None}
+use Rattle.std.specs.Prelude.{List, [], ◌∷◌, Option, Some}
 use Rattle.src_ast.specs.Syntax.{Kind, Unit_, Syn, syn, Syns, no_syn, a_syn, Shape, StructItem, EnumItem, VariantDecl}
 use Rattle.src_ast.specs.View.{view}
 use Rattle.src_tree.specs.View.{Single, a_token, a_node}

@@ -1,7 +1,6 @@
 -- The tables of a checker in three parts: those of the text, those of the items, and those of impls.
 use Rattle.std.specs.Prelude.{◌≡◌, ℕ, ◌==◌, List, map}
 use Rattle.std.specs.List.{list_any}
-use Rattle.item_heads.specs.declared.names.NameTable.{NameTable}
 use Rattle.mir_ty.specs.ItemTable.{ItemTable}
 use Rattle.name_table.specs.declared.known_names.NameSort.{NameSort}
 use Rattle.src_ast.specs.Syntax.{Word}

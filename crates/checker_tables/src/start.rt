@@ -95,10 +95,16 @@ fn impl_tables(alloc: Global, items: &Items) -> Result<ImplTables, NoMemory>
 
 fn put_together(text: TextTables, of_items: ItemTables, impls: ImplTables) -> Tables
     ensures { result ≡ record {
-        adts = text.adts; traits = text.traits; kinds = text.kinds;
-        adt_names = of_items.adt_names; body_names = of_items.body_names;
-        members = of_items.members; methods = of_items.methods;
-        pairs = impls.pairs; drop_bodies = impls.drop_bodies } }
+      adts = text.adts;
+      traits = text.traits;
+      kinds = text.kinds;
+      adt_names = of_items.adt_names;
+      body_names = of_items.body_names;
+      members = of_items.members;
+      methods = of_items.methods;
+      pairs = impls.pairs;
+      drop_bodies = impls.drop_bodies;
+    } }
 {
     let TextTables {
         adts,
