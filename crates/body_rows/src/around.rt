@@ -37,11 +37,7 @@ pub fn begin_body(checker: &mut Checker) -> Outer
 }
 
 /// A body, and then others, behind those before it.
-fn joined(
-    earlier: List<TBody>,
-    body: TBody,
-    inner: List<TBody>,
-) -> Result<List<TBody>, RuleError>
+fn joined(earlier: List<TBody>, body: TBody, inner: List<TBody>) -> Result<List<TBody>, RuleError>
     ensures joined { IfOk result (λ all. map body_of all ≡ map body_of earlier ++ body_of body ∷ map body_of inner) }
     ensures short { IfErr result (λ e. e ≡ RuleError.Memory) }
 {

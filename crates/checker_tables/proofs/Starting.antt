@@ -25,6 +25,7 @@ together text of_items impls =
       traits = text.traits;
       kinds = text.kinds;
       adt_names = of_items.adt_names;
+      trait_names = of_items.trait_names;
       body_names = of_items.body_names;
       members = of_items.members;
       methods = of_items.methods;
@@ -37,6 +38,7 @@ pub ready : (items : ItemTable) (text : TextTables) (of_items : ItemTables) (imp
 ready items text of_items impls known done =
     record {
       adts = known.adts;
+      traits = known.traits;
       bodies = known.bodies;
       members = known.members;
       methods = known.methods;

@@ -8,7 +8,7 @@ use Rattle.src_tree.specs.declared.node.Piece.{Piece}
 use Rattle.src_tree.specs.View.{parts_in}
 use Rattle.type_env.specs.Coerced.{HasImpls}
 use Rattle.type_env.specs.Members.{all_names}
-use Rattle.type_rows.specs.Tables.{adt_words, body_words, method_words, all_kinds_of}
+use Rattle.type_rows.specs.Tables.{adt_words, body_words, method_words, trait_words, all_kinds_of}
 use Rattle.typing_rules.specs.Items.{adt_names, all_kinds, item_syns, items_of, trait_names}
 use Rattle.well_typed.specs.Nodes.{is_drop_body}
 use Rattle.checker_tables.specs.declared.start.TextTables.{TextTables}
@@ -26,6 +26,7 @@ pub record HasTextTables (pieces : List Piece) (tables : TextTables) : Type 0 wh
 
 pub record HasItemTables (items : ItemTable) (tables : ItemTables) : Type 0 where
   pub adts : tables.adt_names ≡ adt_words items
+  pub traits : tables.trait_names ≡ trait_words items
   pub bodies : tables.body_names ≡ body_words items
   pub members : tables.members ≡ all_names items.adts
   pub methods : tables.methods ≡ map method_words items.traits

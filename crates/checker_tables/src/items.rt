@@ -1,6 +1,6 @@
 //! The names of structs and enums, of bodies, and of the methods of each trait, as the items have them.
 ghost use Rattle.std.specs.Prelude.{◌≡◌, IfOk, map};
-ghost use Rattle.type_rows.specs.Tables.{adt_words, body_words, method_words};
+ghost use Rattle.type_rows.specs.Tables.{adt_words, body_words, method_words, trait_words};
 
 use item_heads::NameTable;
 use mir_base::{List, NoMemory};
@@ -14,6 +14,18 @@ pub fn adt_names(alloc: Global, items: &Items) -> Result<NameTable, NoMemory>
     let mut n: u32 = 0;
     while let Some(adt) = items.adt(n) {
         names = names.with(alloc, adt.name.as_str())?;
+        n += 1;
+    }
+    Ok(names)
+}
+
+pub fn trait_names(alloc: Global, items: &Items) -> Result<NameTable, NoMemory>
+    ensures { IfOk result (λ names. names ≡ trait_words items.now) }
+{
+    let mut names = NameTable::new(alloc);
+    let mut n: u32 = 0;
+    while let Some(def) = items.trait_def(n) {
+        names = names.with(alloc, def.name.as_str())?;
         n += 1;
     }
     Ok(names)

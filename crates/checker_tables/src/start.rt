@@ -11,7 +11,7 @@ ghost use Rattle.type_rows.specs.Tables.{IsReady, all_kinds_of};
 ghost use Rattle.checker_tables.specs.Start.{HasImplTables, HasItemTables, HasTextTables, HasNamesOf};
 
 use crate::drops::drop_bodies;
-use crate::items::{adt_names, body_names, method_names};
+use crate::items::{adt_names, body_names, method_names, trait_names};
 use crate::kinds::kinds;
 use item_heads::NameTable;
 use mir_base::{List, NoMemory};
@@ -36,6 +36,7 @@ struct TextTables {
 #[derive(Drop)]
 struct ItemTables {
     adt_names: NameTable,
+    trait_names: NameTable,
     body_names: NameTable,
     members: List<AdtNames>,
     methods: List<NameTable>,
@@ -74,11 +75,13 @@ fn item_tables(alloc: Global, items: &Items) -> Result<ItemTables, NoMemory>
     ensures { IfOk result (λ tables. HasItemTables items.now tables) }
 {
     let adt_names = adt_names(alloc, items)?;
+    let trait_names = trait_names(alloc, items)?;
     let body_names = body_names(alloc, items)?;
     let members = member_names(alloc, items)?;
     let methods = method_names(alloc, items)?;
     Ok(ItemTables {
         adt_names,
+        trait_names,
         body_names,
         members,
         methods,
@@ -99,6 +102,7 @@ fn put_together(text: TextTables, of_items: ItemTables, impls: ImplTables) -> Ta
       traits = text.traits;
       kinds = text.kinds;
       adt_names = of_items.adt_names;
+      trait_names = of_items.trait_names;
       body_names = of_items.body_names;
       members = of_items.members;
       methods = of_items.methods;
@@ -113,6 +117,7 @@ fn put_together(text: TextTables, of_items: ItemTables, impls: ImplTables) -> Ta
     } = text;
     let ItemTables {
         adt_names,
+        trait_names,
         body_names,
         members,
         methods,
@@ -123,6 +128,7 @@ fn put_together(text: TextTables, of_items: ItemTables, impls: ImplTables) -> Ta
         traits,
         kinds,
         adt_names,
+        trait_names,
         body_names,
         members,
         methods,

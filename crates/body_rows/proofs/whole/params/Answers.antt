@@ -11,9 +11,10 @@ loop-pattern-preserved c =
     let counted : c.loop-pattern.k + 1 ≡ length (seen ++ c.in-Some.pattern ∷ []) =
     ap (λ n. n + 1) c.loop-pattern.invariant.0 ∙ sym (length-append seen (c.in-Some.pattern ∷ [])) in
     let looked : c.copied.result ≡ slice_get c.args.tys.now (length seen) =
-    c.copied.ensures ∙ c.get.ensures ∙ ap (slice_get c.args.tys.now) c.loop-pattern.invariant.0 in
-    (counted,
+    c.copied.ensures ∙ c.get.ensures ∙ ap (slice_get c.args.tys.now) c.loop-pattern.invariant.0 in (
+      counted,
       c.in_ok-add_param.ensures.added
-      ∙ ap (λ l. l ++ one_param (tree_of c.in-Some.pattern) c.copied.result) c.loop-pattern.invariant.1
-      ∙ ap (λ o. zipped seen c.args.tys.now ++ one_param (tree_of c.in-Some.pattern) o) looked
-      ∙ sym (one_more seen c.in-Some.pattern c.args.tys.now))
+          ∙ ap (λ l. l ++ one_param (tree_of c.in-Some.pattern) c.copied.result) c.loop-pattern.invariant.1
+          ∙ ap (λ o. zipped seen c.args.tys.now ++ one_param (tree_of c.in-Some.pattern) o) looked
+          ∙ sym (one_more seen c.in-Some.pattern c.args.tys.now),
+    )
