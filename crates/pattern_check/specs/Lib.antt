@@ -1,0 +1,5 @@
+pub mod Sizes
+pub mod Forms
+pub mod Answers
+pub mod Numbers
+pub mod Rests
