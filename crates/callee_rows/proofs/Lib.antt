@@ -1,0 +1,4 @@
+pub mod Beginnings
+pub mod CalledClosures
+pub mod CalleeForms
+pub mod Numbers
