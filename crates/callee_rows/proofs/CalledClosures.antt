@@ -1,5 +1,5 @@
 -- Closures that are called, behind their arguments.
-use Rattle.std.proofs.Common.{◌≡◌, ℕ, ◌==◌, List, [], Option, Some, None, length, slice_get, refl, ap, sym, ◌∙◌}
+use Rattle.std.proofs.Common.{◌≡◌, ℕ, Option, Some, None, slice_get, refl, ap, sym, ◌∙◌}
 use Rattle.std.specs.Option.{option_and_then, option_map, option_map_or}
 use Rattle.mir_base.specs.declared.place_in_text.Pos.{Pos}
 use Rattle.mir_ty.specs.declared.def.ClosureDef.{ClosureDef}

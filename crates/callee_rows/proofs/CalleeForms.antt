@@ -1,6 +1,5 @@
 -- Callees by the forms that are borrowed from their nodes: what a definition says of a node is what it says of its form.
-use Rattle.std.proofs.Common.{◌≡◌, ℕ, suc, ◌<◌, ◌==◌, Bool, true, false, Option, Some, None, refl, ap, sym, ◌∙◌, arith}
-use Rattle.mir_base.specs.declared.place_in_text.Pos.{Pos}
+use Rattle.std.proofs.Common.{◌≡◌, ℕ, suc, ◌<◌, ◌==◌, Bool, true, false, Option, Some, None, refl, arith}
 use Rattle.mir_ty.specs.ItemTable.{ItemTable}
 use Rattle.mir_ty.specs.declared.def.Sig.{Sig}
 use Rattle.src_tree.specs.declared.node.Node.{Node}

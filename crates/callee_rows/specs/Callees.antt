@@ -1,8 +1,8 @@
 -- What paths and callees name, in Rust as the rules of typing see it.
-use Rattle.std.specs.Prelude.{ℕ, suc, List, [], Option, Some, None, slice_get}
+use Rattle.std.specs.Prelude.{ℕ, suc, [], Option, Some, None, slice_get}
 use Rattle.std.specs.Option.{option_map_or}
 use Rattle.mir_ty.specs.ItemTable.{ItemTable}
-use Rattle.src_ast.specs.Syntax.{Parens, Path, Shape, Syn, syn}
+use Rattle.src_ast.specs.Syntax.{Parens, Shape, Syn, syn}
 use Rattle.typing_rules.specs.Named as named
 use Rattle.typing_rules.specs.Named.{callee_of, callee_by, function_by}
 use Rattle.typing_rules.specs.Scope.{Env}

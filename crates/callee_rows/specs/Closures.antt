@@ -4,7 +4,6 @@ use Rattle.mir_ty.specs.ItemTable.{ItemTable}
 use Rattle.mir_ty.specs.declared.def.Sig.{Sig}
 use Rattle.mir_ty.specs.declared.ty.TyId.{TyId}
 use Rattle.well_typed.specs.Types.{closure_of}
-use Rattle.callee_rows.specs.declared.closures.CalledClosure.{CalledClosure}
 use Rattle.callee_rows.specs.declared.closures.ClosureCallee.{ClosureCallee}
 
 -- the body of a closure of this type

@@ -1,5 +1,5 @@
 -- The rest of a call, behind its arguments: each is by definition the end of a row.
-use Rattle.std.specs.Prelude.{ℕ, Bool, true, ◌==◌, not, drop, length, List, Option, Some, None, option_and_then, slice_get}
+use Rattle.std.specs.Prelude.{ℕ, Bool, true, ◌==◌, not, length, Option, Some, None, option_and_then, slice_get}
 use Rattle.std.specs.Option.{option_map_or}
 use Rattle.mir_base.specs.declared.int_kind.IntKind.{IntKind}
 use Rattle.mir_base.specs.declared.place_in_text.Pos.{Pos}
@@ -9,7 +9,7 @@ use Rattle.typed_tree.specs.Tree as tree
 use Rattle.typed_tree.specs.Tree.{Node, Nodes, Form}
 use Rattle.call_rows.specs.Rests.{call_rest, counted_rest}
 use Rattle.member_rows.specs.Calls.{Arguments}
-use Rattle.typing_rules.specs.Check.{Check, ◌>>=◌, ◌>>◌, pure, breaks, the_items}
+use Rattle.typing_rules.specs.Check.{Check, ◌>>=◌, breaks, the_items}
 use Rattle.typing_rules.specs.Places.{int, unit}
 use Rattle.typing_rules.specs.Rows as rows
 use Rattle.typing_rules.specs.Rows.{box_by, first_node, with_closure}

@@ -38,7 +38,11 @@ pub enum Ending {
         is_drop: bool,
     },
     /// A value of a struct or a variant, of this type.
-    Make { adt: u32, variant: u32, ty: TyId },
+    Make {
+        adt: u32,
+        variant: u32,
+        ty: TyId,
+    },
     Print,
     Ask,
     DropValue,
@@ -59,11 +63,7 @@ pub struct Begun {
     pub ending: Ending,
 }
 
-fn started(
-    checker: &mut Checker,
-    params: List<TyId>,
-    ending: Ending,
-) -> Result<Begun, RuleError>
+fn started(checker: &mut Checker, params: List<TyId>, ending: Ending) -> Result<Begun, RuleError>
     ensures number { GivesValue (λ b. b.id.0) (number (state checker.old)) result checker.new }
     ensures params { IfOk result (λ b. b.params ≡ params) }
     ensures ending { IfOk result (λ b. b.ending ≡ ending) }
@@ -135,11 +135,7 @@ fn listed(alloc: Global, ty: Option<TyId>) -> Result<List<TyId>, RuleError>
     Ok(types)
 }
 
-fn built_in(
-    checker: &mut Checker,
-    ending: Ending,
-    param: Option<TyId>,
-) -> Result<Begun, RuleError>
+fn built_in(checker: &mut Checker, ending: Ending, param: Option<TyId>) -> Result<Begun, RuleError>
     ensures number { GivesValue (λ b. b.id.0) (number (state checker.old)) result checker.new }
     ensures params { IfOk result (λ b. b.params ≡ rows.listed param) }
     ensures ending { IfOk result (λ b. b.ending ≡ ending) }

@@ -14,7 +14,9 @@ ghost use Rattle.well_typed.specs.Types as types;
 
 use mir_base::{Rule, RuleError};
 use mir_ty::Items;
-use name_rows::{adt_at_head, adt_named, body_named, kind_at, method_of, variable, variant_of_enum};
+use name_rows::{
+    adt_at_head, adt_named, body_named, kind_at, method_of, variable, variant_of_enum,
+};
 use src_ast::{ExpressionForm, FieldKind, PathForm, expression_form};
 use src_tree::Node;
 use type_env::{closure_of, is_enum};

@@ -111,7 +111,16 @@ pub fn closure_end(
     match callee.called {
         Some(called) => {
             let behind = Behind::ClosureCall(called.body);
-            counted_end(checker, id, at, called.answer, behind, count, is_count, want)
+            counted_end(
+                checker,
+                id,
+                at,
+                called.answer,
+                behind,
+                count,
+                is_count,
+                want,
+            )
         }
         None => Err(broken(Rule::T13, at)),
     }

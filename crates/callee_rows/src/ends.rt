@@ -198,7 +198,9 @@ fn ended(
             is_drop,
         } => {
             let many = Many::Call(body);
-            body_end(checker, id, at, answer, many, count, is_count, !is_drop, want)
+            body_end(
+                checker, id, at, answer, many, count, is_count, !is_drop, want,
+            )
         }
         Ending::Make { adt, variant, ty } => {
             make_end(checker, id, at, ty, adt, variant, count, is_count, want)

@@ -17,8 +17,7 @@ use item_heads::broken;
 use mir_base::{List, Pos, Rule, RuleError};
 use mir_ty::{Items, Ty, TyId};
 use name_rows::{
-    adt_at_head, adt_named, body_named, kind_at, method_of, put_variable, variable,
-    variant_of_enum,
+    adt_at_head, adt_named, body_named, kind_at, method_of, put_variable, variable, variant_of_enum,
 };
 use src_ast::{FieldKind, PathForm};
 use type_env::is_enum;

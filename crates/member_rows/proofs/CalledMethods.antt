@@ -1,5 +1,5 @@
 -- Receivers of methods, and what is called on them.
-use Rattle.std.proofs.Common.{◌≡◌, rules, ℕ, ◌==◌, Bool, true, false, ◌&&◌, ◌||◌, not, if◌then◌else◌, List, [], ◌∷◌, drop, length, Option, Some, None, IsSome, Result, Ok, Err, refl, ap, sym, subst, ◌∙◌}
+use Rattle.std.proofs.Common.{◌≡◌, ℕ, ◌==◌, Bool, true, false, ◌&&◌, ◌||◌, not, if◌then◌else◌, List, [], ◌∷◌, drop, length, Option, Some, None, IsSome, Result, Ok, Err, refl, ap, sym, subst, ◌∙◌}
 use Rattle.std.specs.Option.{option_map_or}
 use Rattle.mir_base.specs.declared.place_in_text.Pos.{Pos}
 use Rattle.mir_base.specs.declared.rule.Rule.{Rule}
@@ -9,8 +9,7 @@ use Rattle.mir_ty.specs.declared.ty.TyId.{TyId}
 use Rattle.call_rows.specs.Lists.{behind_form}
 use Rattle.item_heads.specs.Answers.{Refuses}
 use Rattle.type_rows.specs.declared.checker.Checker.{Checker}
-use Rattle.typed_tree.specs.Tree as tree
-use Rattle.typed_tree.specs.Tree.{Node, node, Nodes, Form}
+use Rattle.typed_tree.specs.Tree.{Node, Nodes}
 use Rattle.typing_rules.specs.Check.{Broken, Check, State, and_then, ◌>>=◌, ◌>>◌, pure, breaks, obeys, the_items}
 use Rattle.typing_rules.specs.Places.{Coerced, Differs, Fit, Fits, Member, a_node_of, fit, is_behind_shared, through}
 use Rattle.typing_rules.specs.Rows.{Method, fitted, fitted_by, head_of, is_drop_method, is_unique_borrow, method_form, received, takes_self, with_method, with_self}
@@ -133,13 +132,13 @@ module _ (env : Env) (at : Pos) (id : ℕ) (base : Node) (f : Method) (count : �
         begins
         ∙ ap (λ o. and_then o behind) got
         ∙ sym (λ i. (do
-            given ← args (same i)
-            n ← fitted want (a_node_of id at (answer i) (form given i))
-            items ← the_items
-            obeys Rule.T04 at (count == length (same i))
-            obeys Rule.T08 at (not (shared items i))
-            obeys Rule.T13 at (not (is_drop i))
-            pure n) t)
+          given ← args (same i)
+          n ← fitted want (a_node_of id at (answer i) (form given i))
+          items ← the_items
+          obeys Rule.T04 at (count == length (same i))
+          obeys Rule.T08 at (not (shared items i))
+          obeys Rule.T13 at (not (is_drop i))
+          pure n) t)
 
 -- ---- what is found of a receiver
 

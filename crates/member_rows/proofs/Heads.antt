@@ -1,5 +1,5 @@
 -- Methods by their names.
-use Rattle.std.proofs.Common.{◌≡◌, rules, ℕ, ◌+◌, Bool, false, cond, not, nat_lt, if◌then◌else◌, List, [], ◌∷◌, map, length, Option, Some, None, IsSome, slice_get, refl, ap, sym, ◌∙◌}
+use Rattle.std.proofs.Common.{◌≡◌, ℕ, ◌+◌, Bool, false, cond, not, nat_lt, if◌then◌else◌, List, [], ◌∷◌, map, Option, Some, None, IsSome, slice_get, refl, ap, sym, ◌∙◌}
 use Rattle.std.specs.List.{position as position_of, prefix_len}
 use Rattle.std.specs.Option.{is_some, option_map, option_and_then}
 use Rattle.std.specs.Str.{bytes_eq}

@@ -1,5 +1,5 @@
 -- Fields by their names.
-use Rattle.std.proofs.Common.{◌≡◌, rules, ℕ, ◌<◌, ◌-◌, ◌^◌, List, [], ◌∷◌, length, map, Option, Some, None, slice_get, get_or, All, refl, ap, sym, subst, ◌∙◌, arith}
+use Rattle.std.proofs.Common.{◌≡◌, ℕ, ◌<◌, ◌^◌, List, Option, Some, None, slice_get, get_or, refl, ap, subst, ◌∙◌, arith}
 use Rattle.std.specs.List.{position as position_of}
 use Rattle.std.specs.Option.{option_map, option_and_then}
 use Rattle.std.specs.Str.{bytes_eq}

@@ -155,12 +155,7 @@ fn through(checker: &mut Checker, at: Pos, wanted: Wanted) -> Result<Option<Part
     Err(RuleError::Memory)
 }
 
-fn wanted_end(
-    checker: &mut Checker,
-    id: NodeId,
-    at: Pos,
-    wanted: Wanted,
-) -> Result<(), RuleError>
+fn wanted_end(checker: &mut Checker, id: NodeId, at: Pos, wanted: Wanted) -> Result<(), RuleError>
     ensures gives { Gives (field_rest (wanted_by wanted.entry) id.0 at (top (stack checker.old)) (state checker.old)) result checker.new }
     ensures kept { Keeps (below (stack checker.old)) checker.old result checker.new }
 {
@@ -171,12 +166,7 @@ fn wanted_end(
 }
 
 /// `e.f`, where `e` is the last node.
-pub fn field_end(
-    checker: &mut Checker,
-    id: NodeId,
-    at: Pos,
-    name: &str,
-) -> Result<(), RuleError>
+pub fn field_end(checker: &mut Checker, id: NodeId, at: Pos, name: &str) -> Result<(), RuleError>
     ensures gives { Gives (field_rest (places.struct_field name.now) id.0 at (top (stack checker.old)) (state checker.old)) result checker.new }
     ensures kept { Keeps (below (stack checker.old)) checker.old result checker.new }
 {
@@ -194,12 +184,7 @@ fn digits(alloc: Global, number: u64) -> Result<Name, AllocError>
 }
 
 /// `e.0`, where `e` is the last node.
-pub fn part_end(
-    checker: &mut Checker,
-    id: NodeId,
-    at: Pos,
-    number: u64,
-) -> Result<(), RuleError>
+pub fn part_end(checker: &mut Checker, id: NodeId, at: Pos, number: u64) -> Result<(), RuleError>
     ensures gives { Gives (field_rest (places.numbered_part number) id.0 at (top (stack checker.old)) (state checker.old)) result checker.new }
     ensures kept { Keeps (below (stack checker.old)) checker.old result checker.new }
 {

@@ -274,7 +274,16 @@ fn refused_end(
     ensures gives { Gives (refused_rest id.0 at called is_count is_refused want (top (below_all count (stack checker.old))) (last_nodes count (stack checker.old)) (state checker.old)) result checker.new }
     ensures kept { Keeps (below (below_all count (stack checker.old))) checker.old result checker.new }
 {
-    counted_end(checker, id, at, called.answer, called.behind, count, is_count, want)?;
+    counted_end(
+        checker,
+        id,
+        at,
+        called.answer,
+        called.behind,
+        count,
+        is_count,
+        want,
+    )?;
     if is_refused {
         return Err(broken(Rule::T08, at));
     }

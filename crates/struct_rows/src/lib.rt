@@ -6,6 +6,6 @@ mod made;
 mod structs;
 mod variants;
 
-pub use made::{wrap_make};
+pub use made::wrap_make;
 pub use structs::{StructBegun, struct_begin, struct_end};
 pub use variants::{copied, field_want, variant_types};

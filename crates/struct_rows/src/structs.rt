@@ -33,11 +33,7 @@ pub struct StructBegun {
 
 /// How a struct expression begins, once it is known what it names.
 #[tactic(auto, using(crate::proofs::Begun::names_at))]
-pub fn struct_begin(
-    checker: &mut Checker,
-    adt: u32,
-    variant: u32,
-) -> Result<StructBegun, RuleError>
+pub fn struct_begin(checker: &mut Checker, adt: u32, variant: u32) -> Result<StructBegun, RuleError>
     ensures gives { (at : Pos) (want : Option TyId) → GivesFields (λ fields. rows.struct_row at adt variant (variant_of checker.old.walk.items adt variant).fields fields want) (state checker.old)
         (λ b. struct_rest b.id.0 at adt variant b.ty (length b.types) want) result checker.new }
     ensures types { IfOk result (λ b. b.types ≡ (variant_of checker.old.walk.items adt variant).fields) }
@@ -103,5 +99,7 @@ pub fn struct_end(
     ensures kept { Keeps (below_all (length given.now) (stack checker.old)) checker.old result checker.new }
 {
     let is_whole = is_whole(checker.alloc, given, begun.types.len())?;
-    made_end(checker, begun.id, at, begun.ty, adt, variant, given, is_whole, want)
+    made_end(
+        checker, begun.id, at, begun.ty, adt, variant, given, is_whole, want,
+    )
 }

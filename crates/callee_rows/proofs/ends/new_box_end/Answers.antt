@@ -1,5 +1,4 @@
 use Rattle.std.proofs.Common.{◌<◌, List, Option, Result, arith, ap, sym, subst, ◌∙◌}
-use Rattle.call_rows.specs.Lists.{below_all}
 use Rattle.call_rows.specs.Rests.{box_rest}
 use Rattle.callee_rows.proofs.Numbers.{first_is}
 use Rattle.type_rows.specs.Stand.{Gives, stack, state, top}
