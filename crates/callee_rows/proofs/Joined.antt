@@ -1,5 +1,5 @@
 -- How a call is joined of its beginning, its arguments and its end, and a struct expression of its fields.
-use Rattle.std.proofs.Common.{◌≡◌, ℕ, List, Result, Ok, Err, ap, sym, subst, ◌∙◌}
+use Rattle.std.proofs.Common.{◌≡◌, ℕ, List, Result, Ok, ap, sym, subst, ◌∙◌}
 use Rattle.mir_base.specs.declared.rule.RuleError.{RuleError}
 use Rattle.mir_ty.specs.declared.ty.TyId.{TyId}
 use Rattle.item_heads.specs.Answers.{Refuses}
