@@ -1,6 +1,6 @@
 -- One more of a list is checked: what a check gives of all is what it gives of the rest, behind the nodes of the first
 -- ones.
-use Rattle.std.proofs.Common.{◌≡◌, ℕ, zero, suc, ◌+◌, Bool, true, false, ◌||◌, List, [], ◌∷◌, ◌++◌, append_assoc, length, length-append, map, drop, Option, Some, None, Result, Ok, Err, slice_get, refl, ap, sym, ◌∙◌, arith, add-one}
+use Rattle.std.proofs.Common.{◌≡◌, ℕ, zero, suc, ◌+◌, Bool, true, false, ◌||◌, List, [], ◌∷◌, ◌++◌, append_assoc, length, length-append, map, drop, Option, Some, None, Result, Ok, Err, slice_get, refl, ap, sym, ◌∙◌, arith, rules, add-one}
 use Rattle.mir_ty.specs.declared.ty.TyId.{TyId}
 use Rattle.src_ast.specs.Syntax.{Syn, Syns, no_syn, a_syn}
 use Rattle.typed_tree.specs.Tree.{Node, Nodes, a_node}
@@ -11,6 +11,7 @@ use Rattle.typing_rules.specs.Typed.{by_reference, first_want, other_wants, part
 use Rattle.well_typed.specs.Places.{ty_of}
 use Rattle.call_rows.specs.Lists.{nodes_on, types_on}
 use Rattle.type_rows.specs.Stand.{below, top}
+use Rattle.type_env.proofs.Slots.{one_more_left}
 use Rattle.list_rows.specs.Lists.{argument_at, behind_nodes, behind_parts, behind_typed}
 
 -- ---- nodes
@@ -27,12 +28,11 @@ with_argument e [] x xs s = refl
 with_argument e (p ∷ ps) x xs s = refl
 
 drop_more : {A : Type 0} (k : ℕ) (xs : List A) → drop 1 (drop k xs) ≡ drop (k + 1) xs
-drop_more k [] = cc
-drop_more zero (x ∷ xs) = refl
-drop_more (suc k) (x ∷ xs) = drop_more k xs
+drop_more k xs = one_more_left k xs ∙ ap (λ (n : ℕ). drop n xs) (sym (add-one k))
 
 first_dropped : {A : Type 0} (k : ℕ) (xs : List A) → slice_get (drop k xs) 0 ≡ slice_get xs k
-first_dropped k [] = cc
+first_dropped zero [] = search rules
+first_dropped (suc k) [] = search rules
 first_dropped zero (x ∷ xs) = refl
 first_dropped (suc k) (x ∷ xs) = first_dropped k xs
 
@@ -83,7 +83,8 @@ one_part_behind tys more ty ns ms (Ok p) h pushed =
 one_part_behind tys more ty ns ms (Err e) h pushed = refl
 
 wants_at : (k : ℕ) (wants : List TyId) → first_want (drop k (map Some wants)) ≡ slice_get wants k
-wants_at k [] = cc
+wants_at zero [] = search rules
+wants_at (suc k) [] = search rules
 wants_at zero (x ∷ xs) = refl
 wants_at (suc k) (x ∷ xs) = wants_at k xs
 

@@ -1,6 +1,7 @@
 //! How an array ends, once its elements are checked (The Rust Reference, "Array expressions").
-ghost use Rattle.std.specs.Prelude.{◌≡◌};
+ghost use Rattle.std.specs.Prelude.{◌≡◌, ◌==◌, ◌||◌, not};
 ghost use Rattle.call_rows.specs.Lists.{below_all, last_nodes, last_types};
+ghost use Rattle.call_rows.specs.Rests.{array_rest};
 ghost use Rattle.typing_rules.specs.Rows as rows;
 ghost use Rattle.list_rows.specs.Rests.{counted_array_rest, elements_rest};
 ghost use Rattle.type_rows.specs.Stand.{Gives, Keeps, stack, state};
@@ -22,6 +23,28 @@ fn element_ty(checker: &Checker, wanted: Option<TyId>, count: usize) -> Option<T
     }
 }
 
+fn sized_array(
+    checker: &mut Checker,
+    id: NodeId,
+    at: Pos,
+    element: TyId,
+    count: usize,
+    want: Option<TyId>,
+) -> Result<(), RuleError>
+    ensures gives { Gives (array_rest id.0 at count element (last_nodes count (stack checker.old)) want (state checker.old)) result checker.new }
+    ensures kept { Keeps (below_all count (stack checker.old)) checker.old result checker.new }
+{
+    let length = as_length(count)?;
+    array_end(checker, id, at, element, length, want)
+}
+
+/// Whether the type of an array is known: it has elements, or one is required.
+fn is_known(has_type: bool, count: usize) -> bool
+    ensures { result ≡ (has_type || not (count == 0)) }
+{
+    has_type || count != 0
+}
+
 fn counted_array(
     checker: &mut Checker,
     id: NodeId,
@@ -34,9 +57,8 @@ fn counted_array(
     ensures gives { Gives (counted_array_rest id.0 at count has_type element (last_nodes count (stack checker.old)) want (state checker.old)) result checker.new }
     ensures kept { Keeps (below_all count (stack checker.old)) checker.old result checker.new }
 {
-    obeys(Rule::T16, at, has_type || !(count == 0))?;
-    let length = as_length(count)?;
-    array_end(checker, id, at, element, length, want)
+    obeys(Rule::T16, at, is_known(has_type, count))?;
+    sized_array(checker, id, at, element, count, want)
 }
 
 /// `[a, b]`, whose elements are the last nodes, so many, each of the type that is required of it, if one is.

@@ -1,0 +1,54 @@
+//! Places that are gone through (The Rust Reference, "Place Expressions and Value Expressions").
+ghost use Rattle.std.specs.Prelude.{◌≡◌};
+ghost use Rattle.mir_base.specs.declared.rule.Rule.{Rule};
+ghost use Rattle.src_ast.specs.Seen.{syn_of};
+ghost use Rattle.typing_rules.specs.Check.{◌>>=◌, ◌>>◌, breaks};
+ghost use Rattle.typing_rules.specs.Rows as rows;
+ghost use Rattle.typing_rules.specs.Typed as rules;
+ghost use Rattle.type_rows.specs.Stand.{Gives, Keeps, env, stack, state};
+
+use crate::expressions::{base_of, plain_base, typed};
+use item_heads::broken;
+use mir_base::{Pos, Rule, RuleError};
+use mir_ty::TyId;
+use operator_rows::{deref_end, element_end};
+use src_tree::Node;
+use type_rows::Checker;
+
+/// `a[i]`.
+#[cycle(typed)]
+pub fn element(
+    checker: &mut Checker,
+    at: Pos,
+    base: &Node,
+    index: &Node,
+) -> Result<(), RuleError>
+    ensures gives { Gives (rows.element at (rules.base_of (env checker.old) (syn_of base.now)) (rules.typed (env checker.old) (syn_of index.now)) (state checker.old)) result checker.new }
+    ensures kept { Keeps (stack checker.old) checker.old result checker.new }
+{
+    let id = checker.number()?;
+    plain_base(checker, base)?;
+    typed(checker, index, Some(TyId(7)))?;
+    element_end(checker, id, at)
+}
+
+/// `*e`.
+#[cycle(typed)]
+pub fn deref(checker: &mut Checker, at: Pos, base: &Node) -> Result<(), RuleError>
+    ensures gives { Gives (rows.deref at (rules.base_of (env checker.old) (syn_of base.now)) (state checker.old)) result checker.new }
+    ensures kept { Keeps (stack checker.old) checker.old result checker.new }
+{
+    let id = checker.number()?;
+    base_of(checker, base)?;
+    deref_end(checker, id, at)
+}
+
+/// `&e` and `&mut e` where it is no argument for a reference.
+#[cycle(typed)]
+pub fn borrowed_value(checker: &mut Checker, at: Pos, operand: &Node) -> Result<(), RuleError>
+    ensures gives { Gives ((rules.base_of (env checker.old) (syn_of operand.now) >>= rows.no_reference >> breaks Rule.T08 at) (state checker.old)) result checker.new }
+    ensures kept { Keeps (stack checker.old) checker.old result checker.new }
+{
+    plain_base(checker, operand)?;
+    Err(broken(Rule::T08, at))
+}
