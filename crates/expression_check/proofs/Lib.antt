@@ -1,3 +1,4 @@
 pub mod Statements
 pub mod Tuples
 pub mod Jumps
+pub mod Stores

@@ -11,10 +11,10 @@ use Rattle.typed_tree.specs.Tree.{Nodes, a_node}
 use Rattle.typing_rules.specs.Check.{State, Broken, and_then, pure}
 use Rattle.typing_rules.specs.Scope.{Env, Entry, joined, with_variables}
 use Rattle.typing_rules.specs.Typed.{statement, typed_all, with_statement}
-use Rattle.call_rows.specs.Lists.{nodes_on}
-use Rattle.scope_rows.specs.Scopes.{with_only}
+use Rattle.call_rows.specs.Lists.{below_all, nodes_on}
+use Rattle.scope_rows.specs.Scopes.{OnlyPlace, with_only}
 use Rattle.scope_rows.proofs.Left.{leaves}
-use Rattle.type_rows.specs.Stand.{below, env, top}
+use Rattle.type_rows.specs.Stand.{Stays, below, env, stack, top}
 use Rattle.type_rows.specs.declared.checker.Checker.{Checker}
 use Rattle.expression_check.specs.Blocks.{Grows, behind_statements, below_if, last_if, more_if, statement_as}
 
@@ -153,3 +153,16 @@ grown_length a b (x, t) = omega (arith, joined_length x.0 (env a).variables, ap 
 pub left_grown : (a b c : Checker) → Grows a b → env c ≡ with_only (length (env a).variables) (env b) → env c ≡ env a
 left_grown a b c (x, t) h =
     h ∙ ap (with_only (length (env a).variables)) x.1 ∙ leaves x.0 (env a)
+
+-- a block is left
+pub block_left : (a b c : Checker) (n : ℕ) → OnlyPlace b c → n ≡ length (env a).variables → env c ≡ with_only n (env b) →
+    below (stack b) ≡ stack a → Grows a b → (below (stack c) ≡ stack a) × Stays a c
+block_left a b c n (same, walked, tables) is left under (x, t) =
+    (ap below same ∙ under, (left_grown a b c (x, t) (left ∙ ap (λ (k : ℕ). with_only k (env b)) is), tables ∙ t))
+
+-- what stands below one statement more
+pub below_statement : (k m : ℕ) (is_made : Bool) (ns ms others : List tree.Node) → below_all k ns ≡ others → below_if is_made ms ≡ ns → m ≡ more_if is_made k →
+    below_all m ms ≡ others
+below_statement k m true ns ms others h under next =
+    ap (λ (n : ℕ). below_all n ms) (next ∙ add-one k) ∙ ap (below_all k) under ∙ h
+below_statement k m false ns ms others h under next = ap (λ (n : ℕ). below_all n ms) next ∙ ap (below_all k) under ∙ h

@@ -15,7 +15,7 @@ use Rattle.item_heads.specs.Answers.{Refuses}
 use Rattle.call_rows.specs.Lists.{below_all, last_nodes, nodes_on}
 use Rattle.type_rows.specs.Stand.{below, env, stack, state, top}
 use Rattle.type_rows.specs.declared.checker.Checker.{Checker}
-use Rattle.expression_check.specs.declared.blocks.Statement.{Statement}
+use Rattle.expression_check.specs.declared.blocks.StatementNode.{StatementNode}
 use Rattle.expression_check.specs.declared.blocks.Statements.{Statements}
 
 -- the last node, where one was made
@@ -36,12 +36,12 @@ abbrev pub Grows : Checker → Checker → Type 0
 Grows before after =
     ((xs : List Entry) × (env after ≡ with_variables xs (env before))) × (after.tables ≡ before.tables)
 
-abbrev pub GivesStatement : Result ((Option Node × Bool × Env) × State) Broken → Result Statement RuleError → Checker →
+abbrev pub GivesStatement : Result ((Option Node × Bool × Env) × State) Broken → Result StatementNode RuleError → Checker →
     Type 0
 GivesStatement outcome (Ok s) after = outcome ≡ Ok ((last_if s.is_made (stack after), s.ends, env after), state after)
 GivesStatement outcome (Err e) after = Refuses outcome e
 
-abbrev pub KeepsStatement : List Node → Checker → Result Statement RuleError → Checker → Type 0
+abbrev pub KeepsStatement : List Node → Checker → Result StatementNode RuleError → Checker → Type 0
 KeepsStatement others before (Ok s) after = (below_if s.is_made (stack after) ≡ others) × Grows before after
 KeepsStatement others before (Err e) after = ⊤
 

@@ -29,7 +29,7 @@ fn borrow(
     is_unique: bool,
     to: TyId,
 ) -> Result<(), RuleError>
-    ensures gives { (want : _) → Gives (rows.borrow at unique (rules.base_of (env checker.old) (syn_of base.now)) want is_unique to (state checker.old)) result checker.new }
+    ensures gives { Gives (rows.borrow at unique (rules.base_of (env checker.old) (syn_of base.now)) to is_unique to (state checker.old)) result checker.new }
     ensures kept { Keeps (stack checker.old) checker.old result checker.new }
 {
     let id = checker.number()?;
@@ -52,15 +52,9 @@ fn referred(
         ArgumentForm::Borrow { at, unique, base } => {
             borrow(checker, at, unique, base, is_unique, to)
         }
-        ArgumentForm::Passed { at, variable } => passed_on(
-            checker,
-            at,
-            variable.name,
-            variable.found,
-            want,
-            is_unique,
-            to,
-        ),
+        ArgumentForm::Passed { at, variable } => {
+            passed_on(checker, at, variable.name, variable.found, is_unique, to)
+        }
         ArgumentForm::Value(node) => typed(checker, node, Some(want)),
     }
 }

@@ -20,7 +20,7 @@ use type_rows::Checker;
 
 /// What a statement gives: whether it has a node, and whether its expression or initialiser has the type `!`.
 #[derive(Clone, Copy)]
-pub struct Statement {
+pub struct StatementNode {
     pub is_made: bool,
     pub ends: bool,
 }
@@ -39,28 +39,27 @@ fn evaluate(
     at: Pos,
     expression: &Node,
     has_semicolon: bool,
-) -> Result<Statement, RuleError>
+) -> Result<StatementNode, RuleError>
     ensures gives { GivesStatement (evaluated at (env checker.old) has_semicolon (rules.typed (env checker.old) (syn_of expression.now)) (state checker.old)) result checker.new }
     ensures kept { KeepsStatement (stack checker.old) checker.old result checker.new }
 {
     let id = checker.number()?;
     typed(checker, expression, None)?;
     let ends = evaluate_end(checker, id, at, has_semicolon)?;
-    Ok(Statement {
+    Ok(StatementNode {
         is_made: true,
         ends,
     })
 }
 
 /// A `let`.
-#[cycle(typed)]
 fn let_statement(
     checker: &mut Checker,
     at: Pos,
     pattern: &Node,
     ty: Option<&Node>,
     value: Option<&Node>,
-) -> Result<Statement, RuleError>
+) -> Result<StatementNode, RuleError>
     ensures gives { GivesStatement (rules.other_statement (env checker.old) at (LetOf (syn_of pattern.now) (maybe_of ty.entry) (maybe_of value.entry)) (state checker.old)) result checker.new }
     ensures kept { KeepsStatement (stack checker.old) checker.old result checker.new }
 {
@@ -70,7 +69,7 @@ fn let_statement(
 /// A statement.
 #[cycle(typed)]
 #[tactic(auto, using(crate::proofs::Statements::statement_seen))]
-fn statement(checker: &mut Checker, node: &Node) -> Result<Statement, RuleError>
+fn statement(checker: &mut Checker, node: &Node) -> Result<StatementNode, RuleError>
     ensures gives { GivesStatement (rules.statement (env checker.old) (syn_of node.now) (state checker.old)) result checker.new }
     ensures kept { KeepsStatement (stack checker.old) checker.old result checker.new }
 {
@@ -78,7 +77,7 @@ fn statement(checker: &mut Checker, node: &Node) -> Result<Statement, RuleError>
         StatementForm::Let { pattern, ty, value } => {
             let_statement(checker, node.at, pattern, ty, value)
         }
-        StatementForm::Empty => Ok(Statement {
+        StatementForm::Empty => Ok(StatementNode {
             is_made: false,
             ends: false,
         }),

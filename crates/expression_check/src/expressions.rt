@@ -3,15 +3,15 @@ ghost use Rattle.std.specs.Prelude.{◌≡◌, Some};
 ghost use Rattle.src_ast.specs.Expressions.{expression_of};
 ghost use Rattle.src_ast.specs.Seen.{syn_of, word_of};
 ghost use Rattle.src_ast.specs.Syntax.{Path};
-ghost use Rattle.typing_rules.specs.Check.{◌>>=◌};
-ghost use Rattle.typing_rules.specs.Rows as rows;
 ghost use Rattle.typing_rules.specs.Typed as rules;
+ghost use Rattle.expression_check.specs.Bases as bases;
 ghost use Rattle.expression_forms.specs.Forms.{place_by, value_as};
 ghost use Rattle.type_rows.specs.Stand.{Gives, Keeps, env, stack, state};
 
 use crate::aggregates::{array, tuple};
 use crate::blocks::block;
 use crate::branches::if_of;
+use crate::calls::call;
 use crate::loops::{break_of, continue_of, loop_of, return_of, while_of};
 use crate::operators::{arithmetic, comparison, logic, minus, not, store};
 use crate::places::{borrowed_value, deref, element};
@@ -56,7 +56,7 @@ pub fn base_of(checker: &mut Checker, node: &Node) -> Result<(), RuleError>
 /// The same, where it is no reference variable.
 #[cycle(typed)]
 pub fn plain_base(checker: &mut Checker, node: &Node) -> Result<(), RuleError>
-    ensures gives { Gives ((rules.base_of (env checker.old) (syn_of node.now) >>= rows.no_reference) (state checker.old)) result checker.new }
+    ensures gives { Gives (bases.plain_base (env checker.old) (syn_of node.now) (state checker.old)) result checker.new }
     ensures kept { Keeps (stack checker.old) checker.old result checker.new }
 {
     base_of(checker, node)?;
@@ -151,8 +151,8 @@ fn value(
         ExpressionForm::Continue { label } => continue_of(checker, at, label, want),
         ExpressionForm::Return(value) => return_of(checker, at, value, want),
         ExpressionForm::Panic => checker.leaf(at, TyId(2), Leaf::Panic, want),
-        ExpressionForm::Call { .. }
-        | ExpressionForm::MethodCall { .. }
+        ExpressionForm::Call { callee, args } => call(checker, at, callee, args, want),
+        ExpressionForm::MethodCall { .. }
         | ExpressionForm::Struct { .. }
         | ExpressionForm::IfLet { .. }
         | ExpressionForm::Match { .. }

@@ -6,6 +6,7 @@ mod aggregates;
 mod arguments;
 mod blocks;
 mod branches;
+mod calls;
 mod expressions;
 mod loops;
 mod operators;

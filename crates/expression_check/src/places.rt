@@ -1,10 +1,9 @@
 //! Places that are gone through (The Rust Reference, "Place Expressions and Value Expressions").
 ghost use Rattle.std.specs.Prelude.{◌≡◌};
-ghost use Rattle.mir_base.specs.declared.rule.Rule.{Rule};
 ghost use Rattle.src_ast.specs.Seen.{syn_of};
-ghost use Rattle.typing_rules.specs.Check.{◌>>=◌, ◌>>◌, breaks};
 ghost use Rattle.typing_rules.specs.Rows as rows;
 ghost use Rattle.typing_rules.specs.Typed as rules;
+ghost use Rattle.expression_check.specs.Bases as bases;
 ghost use Rattle.type_rows.specs.Stand.{Gives, Keeps, env, stack, state};
 
 use crate::expressions::{base_of, plain_base, typed};
@@ -46,7 +45,7 @@ pub fn deref(checker: &mut Checker, at: Pos, base: &Node) -> Result<(), RuleErro
 /// `&e` and `&mut e` where it is no argument for a reference.
 #[cycle(typed)]
 pub fn borrowed_value(checker: &mut Checker, at: Pos, operand: &Node) -> Result<(), RuleError>
-    ensures gives { Gives ((rules.base_of (env checker.old) (syn_of operand.now) >>= rows.no_reference >> breaks Rule.T08 at) (state checker.old)) result checker.new }
+    ensures gives { Gives (bases.borrowed_value (env checker.old) at (syn_of operand.now) (state checker.old)) result checker.new }
     ensures kept { Keeps (stack checker.old) checker.old result checker.new }
 {
     plain_base(checker, operand)?;

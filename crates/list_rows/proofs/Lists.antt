@@ -1,15 +1,17 @@
 -- One more of a list is checked: what a check gives of all is what it gives of the rest, behind the nodes of the first
 -- ones.
-use Rattle.std.proofs.Common.{◌≡◌, ℕ, zero, suc, ◌+◌, Bool, true, false, ◌||◌, List, [], ◌∷◌, ◌++◌, append_assoc, length, length-append, map, drop, Option, Some, None, Result, Ok, Err, slice_get, refl, ap, sym, ◌∙◌, arith, rules, add-one}
+use Rattle.std.proofs.Common.{◌≡◌, ℕ, zero, suc, ◌+◌, Bool, true, false, ◌||◌, List, [], ◌∷◌, ◌++◌, append_assoc, length, length-append, map, drop, Option, Some, None, Result, Ok, Err, slice_get, refl, ap, sym, subst, ◌∙◌, arith, rules, add-one}
 use Rattle.mir_ty.specs.declared.ty.TyId.{TyId}
 use Rattle.src_ast.specs.Syntax.{Syn, Syns, no_syn, a_syn}
 use Rattle.typed_tree.specs.Tree.{Node, Nodes, a_node}
-use Rattle.typing_rules.specs.Check.{State, Broken, and_then, pure}
+use Rattle.mir_base.specs.declared.rule.RuleError.{RuleError}
+use Rattle.item_heads.specs.Answers.{Refuses}
+use Rattle.typing_rules.specs.Check.{Check, State, Broken, and_then, pure}
 use Rattle.typing_rules.specs.Rows.{argument}
 use Rattle.typing_rules.specs.Scope.{Env}
 use Rattle.typing_rules.specs.Typed.{by_reference, first_want, other_wants, part_ty, typed, typed_args, typed_elements, typed_parts}
 use Rattle.well_typed.specs.Places.{ty_of}
-use Rattle.call_rows.specs.Lists.{nodes_on, types_on}
+use Rattle.call_rows.specs.Lists.{below_all, nodes_on, types_on}
 use Rattle.type_rows.specs.Stand.{below, top}
 use Rattle.type_env.proofs.Slots.{one_more_left}
 use Rattle.list_rows.specs.Lists.{argument_at, behind_nodes, behind_parts, behind_typed}
@@ -50,6 +52,28 @@ one_argument e whole k m ns ms params want ss x xs s t h split wanted here under
     ∙ ap (λ ps. behind_nodes (suc k) ms (typed_args e ps xs t)) (drop_more k params)
     ∙ ap (λ (n : ℕ). behind_nodes n ms (typed_args e (drop (k + 1) params) xs t)) (sym (add-one k))
     ∙ ap (λ (n : ℕ). behind_nodes n ms (typed_args e (drop n params) xs t)) (sym next)
+
+refuses_behind : (k : ℕ) (ns : List Node) (o : Result (Node × State) Broken) (f : Node → Check Nodes) (err : RuleError) → Refuses o err →
+    Refuses (behind_nodes k ns (and_then o f)) err
+refuses_behind k ns o f (RuleError.Broken rule at) h = ap (λ r. behind_nodes k ns (and_then r f)) h
+refuses_behind k ns o f RuleError.Memory h = tt
+
+-- an argument that is refused
+pub refused_argument : (e : Env) (whole : Result (Nodes × State) Broken) (k : ℕ) (ns : List Node) (params : List TyId)
+    (want : Option TyId) (ss : Syns) (x : Syn) (xs : Syns) (s : State) (err : RuleError) →
+    whole ≡ behind_nodes k ns (typed_args e (drop k params) ss s) → a_syn x xs ≡ ss → want ≡ slice_get params k →
+    Refuses (argument_at e want x s) err → Refuses whole err
+refused_argument e whole k ns params want ss x xs s err h split wanted here =
+    subst (λ (o : Result (Nodes × State) Broken). Refuses o err)
+    (sym (h ∙ ap (λ z. behind_nodes k ns (typed_args e (drop k params) z s)) (sym split)
+    ∙ ap (behind_nodes k ns) (with_argument e (drop k params) x xs s)
+    ∙ ap (λ w. behind_nodes k ns (and_then (argument_at e w x s) (λ n. λ u. and_then (typed_args e (drop 1 (drop k params)) xs u) (λ more. pure (a_node n more))))) (first_dropped k params ∙ sym wanted)))
+    (refuses_behind k ns (argument_at e want x s) (λ n. λ u. and_then (typed_args e (drop 1 (drop k params)) xs u) (λ more. pure (a_node n more))) err here)
+
+-- what stands below one node more
+pub below_next : (k m : ℕ) (ns ms others : List Node) → below_all k ns ≡ others → below ms ≡ ns → m ≡ k + 1 → below_all m ms ≡ others
+below_next k m ns ms others h under next =
+    ap (λ (n : ℕ). below_all n ms) (next ∙ add-one k) ∙ ap (below_all k) under ∙ h
 
 -- ---- elements
 
@@ -106,3 +130,25 @@ one_part e whole tys more ty ns ms wants want ss x xs s t h split wanted here un
     ∙ one_part_behind tys more ty ns ms (typed_parts e (other_wants (drop (length tys) (map Some wants))) xs t) under pushed
     ∙ ap (λ ws. behind_parts more ms (typed_parts e ws xs t)) (wants_behind (drop (length tys) (map Some wants)) ∙ drop_more (length tys) (map Some wants))
     ∙ ap (λ (n : ℕ). behind_parts more ms (typed_parts e (drop n (map Some wants)) xs t)) (let j : length tys + 1 ≡ length more = omega (arith, length-append tys (ty ∷ []), ap length pushed) in j)
+
+refuses_parts : (tys : List TyId) (ns : List Node) (o : Result (Node × State) Broken) (f : Node → Check (Nodes × List TyId)) (err : RuleError) →
+    Refuses o err → Refuses (behind_parts tys ns (and_then o f)) err
+refuses_parts tys ns o f (RuleError.Broken rule at) h = ap (λ r. behind_parts tys ns (and_then r f)) h
+refuses_parts tys ns o f RuleError.Memory h = tt
+
+-- a part that is refused
+pub refused_part : (e : Env) (whole : Result ((Nodes × List TyId) × State) Broken) (tys : List TyId) (ns : List Node)
+    (wants : List TyId) (want : Option TyId) (ss : Syns) (x : Syn) (xs : Syns) (s : State) (err : RuleError) →
+    whole ≡ behind_parts tys ns (typed_parts e (drop (length tys) (map Some wants)) ss s) → a_syn x xs ≡ ss →
+    want ≡ slice_get wants (length tys) → Refuses (typed e x want s) err → Refuses whole err
+refused_part e whole tys ns wants want ss x xs s err h split wanted here =
+    subst (λ (o : Result ((Nodes × List TyId) × State) Broken). Refuses o err)
+    (sym (h ∙ ap (λ z. behind_parts tys ns (typed_parts e (drop (length tys) (map Some wants)) z s)) (sym split)
+    ∙ ap (λ (w : Option TyId). behind_parts tys ns (and_then (typed e x w s) (λ n. λ u. and_then (typed_parts e (other_wants (drop (length tys) (map Some wants))) xs u) (λ rest. pure (a_node n rest.0, part_ty w n ∷ rest.1))))) (wants_at (length tys) wants ∙ sym wanted)))
+    (refuses_parts tys ns (typed e x want s) (λ n. λ u. and_then (typed_parts e (other_wants (drop (length tys) (map Some wants))) xs u) (λ rest. pure (a_node n rest.0, part_ty want n ∷ rest.1))) err here)
+
+-- what stands below one part more
+pub below_part : (tys more : List TyId) (ty : TyId) (ns ms others : List Node) → below_all (length tys) ns ≡ others → below ms ≡ ns →
+    more ≡ tys ++ ty ∷ [] → below_all (length more) ms ≡ others
+below_part tys more ty ns ms others h under pushed =
+    below_next (length tys) (length more) ns ms others h under (omega (arith, length-append tys (ty ∷ []), ap length pushed))

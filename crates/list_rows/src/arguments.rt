@@ -47,11 +47,10 @@ pub fn passed_on(
     at: Pos,
     name: &str,
     found: Found,
-    want: TyId,
     is_unique: bool,
     to: TyId,
 ) -> Result<(), RuleError>
-    ensures gives { Gives (rows.passed_on at (found_as name.now found) want is_unique to (state checker.old)) result checker.new }
+    ensures gives { Gives (rows.passed_on at (found_as name.now found) to is_unique to (state checker.old)) result checker.new }
     ensures kept { Keeps (stack checker.old) checker.old result checker.new }
 {
     let may_pass = passes(reference_of(&checker.walk.items, found.ty), is_unique, to);
