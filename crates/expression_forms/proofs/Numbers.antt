@@ -1,5 +1,5 @@
 -- Numbers by the forms that are borrowed from them.
-use Rattle.std.proofs.Common.{◌≡◌, ℕ, Bool, true, false, Option, Some, None, refl, ap, sym, ◌∙◌}
+use Rattle.std.proofs.Common.{◌≡◌, ℕ, false, Option, None, refl}
 use Rattle.std.specs.Borrow.{Bor}
 use Rattle.mir_base.specs.declared.int_kind.IntKind.{IntKind}
 use Rattle.src_tree.specs.declared.node.Node.{Node}

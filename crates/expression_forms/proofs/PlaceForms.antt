@@ -1,5 +1,5 @@
 -- Places by the forms that are borrowed from them.
-use Rattle.std.proofs.Common.{◌≡◌, ℕ, Bool, true, false, if◌then◌else◌, Option, Some, None, refl, ap, sym, subst, ◌∙◌, arith}
+use Rattle.std.proofs.Common.{◌≡◌, ℕ, false, if◌then◌else◌, Option, Some, None, refl, ap, sym, subst, ◌∙◌, arith}
 use Rattle.std.specs.Borrow.{Bor}
 use Rattle.std.specs.Prelude.{option_map, is_some}
 use Rattle.mir_base.specs.declared.place_in_text.Pos.{Pos}
@@ -78,6 +78,8 @@ by_index e at form base index h =
 pub of_node : (e : Env) (n : Node) (o : Option Shape) (r : Option PlaceForm) → o ≡ expression_part (shape_of (syn_of n)) → IsPlaceAs e n.at o r →
     IsPlaceOf e (syn_of n) r
 of_node e n o None h is = place_seen e n ∙ ap (is_place_as e) (sym h) ∙ is
-of_node e n o (Some p) h (is, same, small) =
-    (place_seen e n ∙ ap (is_place_as e) (sym h) ∙ is, base_seen e n ∙ ap (base_as e n.at) (sym h) ∙ same,
-    omega (arith, node_size n, ap seen_size h, small))
+of_node e n o (Some p) h (is, same, small) = (
+  place_seen e n ∙ ap (is_place_as e) (sym h) ∙ is,
+  base_seen e n ∙ ap (base_as e n.at) (sym h) ∙ same,
+  omega (arith, node_size n, ap seen_size h, small),
+)

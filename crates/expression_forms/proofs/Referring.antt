@@ -1,7 +1,7 @@
 -- Arguments for references by the forms that are borrowed from them.
-use Rattle.std.proofs.Common.{◌≡◌, ℕ, Bool, true, false, if◌then◌else◌, Option, Some, None, refl, ap, sym, ◌∙◌, ◌≤◌, arith}
+use Rattle.std.proofs.Common.{◌≡◌, Bool, true, false, if◌then◌else◌, Option, Some, None, refl, ap, sym, ◌∙◌, ◌≤◌, arith}
 use Rattle.std.specs.Borrow.{Bor}
-use Rattle.std.specs.Prelude.{◌==◌, option_map, is_some}
+use Rattle.std.specs.Prelude.{option_map, is_some}
 use Rattle.mir_base.specs.declared.place_in_text.Pos.{Pos}
 use Rattle.mir_ty.specs.declared.ty.TyId.{TyId}
 use Rattle.src_tree.specs.declared.node.Node.{Node}
@@ -9,8 +9,8 @@ use Rattle.src_ast.specs.declared.expression.ExpressionForm.{ExpressionForm}
 use Rattle.src_ast.specs.declared.path.PathForm.{PathForm}
 use Rattle.src_ast.specs.Expressions.{expression_of}
 use Rattle.src_ast.specs.Seen.{syn_of}
-use Rattle.src_ast.specs.Sorts.{sort_of, some_if, expression_part}
-use Rattle.src_ast.specs.Syntax.{Word, Syn, syn, Shape, at_of, shape_of, Ident, LabelOf, Literal, TruthLiteral, Path, Minus, Bang, Star, Ampersand, Calculate, Compare, Both, Either, Store, CallOf, MethodOf, FieldOf, PartOf, ElementOf, StructOf, FieldInit, Parens, TupleOf, ArrayOf, Braces, IfElse, IfLetElse, MatchOn, ArmOf, LoopOf, WhileOf, WhileLetOf, BreakOf, ContinueOf, ReturnOf, MoveOf, PanicOf, LetOf, Empty, Semi, AnyPattern, BindPattern, LiteralPattern, TruthPattern, PathPattern, PartsPattern, FieldsPattern, FieldPattern, ParensPattern, TuplePattern, ArrayPattern, Alternatives, NamedType, GenericType, DynType, SelfType, ParensType, TupleType, ArrayType, NeverType, RefType, StructItem, EnumItem, FieldDecl, VariantDecl, TraitItem, ImplItem, FnItem, ParamOf, SelfParam, Odd}
+use Rattle.src_ast.specs.Sorts.{expression_part}
+use Rattle.src_ast.specs.Syntax.{Word, Syn, syn, Shape, shape_of, Ident, LabelOf, Literal, TruthLiteral, Path, Minus, Bang, Star, Ampersand, Calculate, Compare, Both, Either, Store, CallOf, MethodOf, FieldOf, PartOf, ElementOf, StructOf, FieldInit, Parens, TupleOf, ArrayOf, Braces, IfElse, IfLetElse, MatchOn, ArmOf, LoopOf, WhileOf, WhileLetOf, BreakOf, ContinueOf, ReturnOf, MoveOf, PanicOf, LetOf, Empty, Semi, AnyPattern, BindPattern, LiteralPattern, TruthPattern, PathPattern, PartsPattern, FieldsPattern, FieldPattern, ParensPattern, TuplePattern, ArrayPattern, Alternatives, NamedType, GenericType, DynType, SelfType, ParensType, TupleType, ArrayType, NeverType, RefType, StructItem, EnumItem, FieldDecl, VariantDecl, TraitItem, ImplItem, FnItem, ParamOf, SelfParam, Odd}
 use Rattle.typed_tree.specs.Tree as tree
 use Rattle.well_typed.specs.Types.{is_reference}
 use Rattle.typing_rules.specs.Check.{Check, State, ◌>>=◌}
@@ -59,10 +59,11 @@ module _ (e : Env) (at : Pos) (f s : Option Word) (node : Bor Node) (is : syn_of
 
   pub by_path : (v : Option NamedVariable) → option_map entry_named v ≡ variable_of e f s →
       IsArgumentOf e (syn_of node.now) st (argument_of at node (reference_among st.items v))
-  by_path v h =
-      (λ want unique to. ap (λ (x : Syn). by_reference e x want unique to st) is
-      ∙ ap (λ o. passed at (path e at f s) o want unique to st) (sym h) ∙ by_found v want unique to,
-      small (reference_among st.items v))
+  by_path v h = (
+    λ want unique to. ap (λ (x : Syn). by_reference e x want unique to st) is
+        ∙ ap (λ o. passed at (path e at f s) o want unique to st) (sym h) ∙ by_found v want unique to,
+    small (reference_among st.items v),
+  )
 
 -- ---- values
 
@@ -196,19 +197,22 @@ by_value e (syn at form) want unique to h = by (may_refer form) (may_refer_form 
 module _ (e : Env) (n : Node) (st : State) where
   pub as_borrow : (unique : Bool) (base : Bor Node) → Some (Ampersand unique (syn_of base.now)) ≡ expression_part (shape_of (syn_of n)) →
       IsArgumentOf e (syn_of n) st (ArgumentForm.Borrow n.at unique base)
-  as_borrow unique base h =
-      (λ want is_unique to. ap (λ (x : Syn). by_reference e x want is_unique to st) (is_expression n (Ampersand unique (syn_of base.now)) (sym h)),
-      omega (arith, part_size n (Ampersand unique (syn_of base.now)) (sym h)))
+  as_borrow unique base h = (
+    λ want is_unique to. ap (λ (x : Syn). by_reference e x want is_unique to st) (is_expression n (Ampersand unique (syn_of base.now)) (sym h)),
+    omega (arith, part_size n (Ampersand unique (syn_of base.now)) (sym h)),
+  )
 
   pub as_inside : (inside : Bor Node) (form : ArgumentForm) → Some (Parens (syn_of inside.now)) ≡ expression_part (shape_of (syn_of n)) →
       IsArgumentOf e (syn_of inside.now) st form → IsArgumentOf e (syn_of n) st form
-  as_inside inside form h (is, small) =
-      (λ want is_unique to. ap (λ (x : Syn). by_reference e x want is_unique to st) (is_expression n (Parens (syn_of inside.now)) (sym h)) ∙ is want is_unique to,
-      omega (arith, part_size n (Parens (syn_of inside.now)) (sym h), small))
+  as_inside inside form h (is, small) = (
+    λ want is_unique to. ap (λ (x : Syn). by_reference e x want is_unique to st) (is_expression n (Parens (syn_of inside.now)) (sym h)) ∙ is want is_unique to,
+    omega (arith, part_size n (Parens (syn_of inside.now)) (sym h), small),
+  )
 
   pub as_other : (node : Bor Node) (f : ExpressionForm) → node.now ≡ n → expression_of f ≡ expression_part (shape_of (syn_of n)) → may_refer_as (expression_of f) ≡ false →
       IsArgumentOf e (syn_of n) st (ArgumentForm.Value node)
-  as_other node f at h none =
-      (λ want is_unique to. ap (λ (c : Check tree.Node). c st) (by_value e (syn_of n) want is_unique to (ap may_refer_as (sym h) ∙ none))
-      ∙ ap (λ (m : Node). typed e (syn_of m) (Some want) st) (sym at),
-      omega (arith, ap (λ (m : Node). size (syn_of m)) at))
+  as_other node f at h none = (
+    λ want is_unique to. ap (λ (c : Check tree.Node). c st) (by_value e (syn_of n) want is_unique to (ap may_refer_as (sym h) ∙ none))
+        ∙ ap (λ (m : Node). typed e (syn_of m) (Some want) st) (sym at),
+    omega (arith, ap (λ (m : Node). size (syn_of m)) at),
+  )

@@ -51,11 +51,7 @@ fn reference_in<'a>(
 
 /// A path as an argument for a reference.
 #[tactic(auto, using(crate::proofs::Referring::by_path))]
-fn path_argument<'a>(
-    checker: &Checker,
-    node: &'a Node,
-    path: PathForm<'a>,
-) -> ArgumentForm<'a>
+fn path_argument<'a>(checker: &Checker, node: &'a Node, path: PathForm<'a>) -> ArgumentForm<'a>
     requires { syn_of node.now ≡ syn node.now.at (Path (word_of path.first) (word_of path.second)) }
     ensures { IsArgumentOf (env checker.now) (syn_of node.entry.now) (state checker.now) result }
 {

@@ -70,11 +70,7 @@ pub fn variable_of<'a>(checker: &Checker, path: PathForm<'a>) -> Option<NamedVar
 
 /// A path as a place, where it is a variable.
 #[tactic(auto, using(crate::proofs::PlaceForms::by_variable))]
-fn variable_form<'a>(
-    checker: &Checker,
-    at: Pos,
-    path: PathForm<'a>,
-) -> Option<PlaceForm<'a>>
+fn variable_form<'a>(checker: &Checker, at: Pos, path: PathForm<'a>) -> Option<PlaceForm<'a>>
     ensures { IsPlaceAs (env checker.now) at (Some (Path (word_of path.entry.first) (word_of path.entry.second))) result }
 {
     match variable_of(checker, path) {

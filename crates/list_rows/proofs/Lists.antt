@@ -1,15 +1,14 @@
 -- One more of a list is checked: what a check gives of all is what it gives of the rest, behind the nodes of the first
 -- ones.
-use Rattle.std.proofs.Common.{◌≡◌, ℕ, zero, suc, ◌+◌, Bool, true, false, ◌||◌, List, [], ◌∷◌, ◌++◌, append_assoc, length, length-append, map, drop, Option, Some, None, Result, Ok, Err, slice_get, refl, ap, sym, subst, ◌∙◌, arith, rules, add-one}
+use Rattle.std.proofs.Common.{◌≡◌, ℕ, zero, suc, ◌+◌, List, [], ◌∷◌, ◌++◌, append_assoc, length, length-append, map, drop, Option, Some, Result, Ok, Err, slice_get, refl, ap, sym, subst, ◌∙◌, arith, rules, add-one}
 use Rattle.mir_ty.specs.declared.ty.TyId.{TyId}
-use Rattle.src_ast.specs.Syntax.{Syn, Syns, no_syn, a_syn}
+use Rattle.src_ast.specs.Syntax.{Syn, Syns, a_syn}
 use Rattle.typed_tree.specs.Tree.{Node, Nodes, a_node}
 use Rattle.mir_base.specs.declared.rule.RuleError.{RuleError}
 use Rattle.item_heads.specs.Answers.{Refuses}
 use Rattle.typing_rules.specs.Check.{Check, State, Broken, and_then, pure}
-use Rattle.typing_rules.specs.Rows.{argument}
 use Rattle.typing_rules.specs.Scope.{Env}
-use Rattle.typing_rules.specs.Typed.{by_reference, first_want, other_wants, part_ty, typed, typed_args, typed_elements, typed_parts}
+use Rattle.typing_rules.specs.Typed.{first_want, other_wants, part_ty, typed, typed_args, typed_elements, typed_parts}
 use Rattle.well_typed.specs.Places.{ty_of}
 use Rattle.call_rows.specs.Lists.{below_all, nodes_on, types_on}
 use Rattle.type_rows.specs.Stand.{below, top}

@@ -67,7 +67,11 @@ fn copied_if(alloc: Global, types: &[TyId], count: usize) -> Result<List<TyId>, 
 }
 
 /// The types that are required of the parts of a tuple, where one of as many is required; none otherwise.
-pub fn parts_wanted(checker: &Checker, count: usize, want: Option<TyId>) -> Result<List<TyId>, RuleError>
+pub fn parts_wanted(
+    checker: &Checker,
+    count: usize,
+    want: Option<TyId>,
+) -> Result<List<TyId>, RuleError>
     ensures made { IfOk result (λ types. map Some types ≡ rows.parts_wanted checker.now.walk.items count want) }
     ensures short { IfErr result (λ e. e ≡ RuleError.Memory) }
 {

@@ -1,7 +1,7 @@
-use Rattle.std.proofs.Common.{arith, sym, refl}
+use Rattle.std.proofs.Common.{arith, sym}
 use Rattle.src_ast.specs.Seen.{syn_of}
 use Rattle.src_ast.specs.Syntax.{Parens}
-use Rattle.expression_forms.proofs.Referring.{as_borrow, as_inside, as_other, refers_to_none}
+use Rattle.expression_forms.proofs.Referring.{as_borrow, as_inside}
 use Rattle.expression_forms.proofs.Shapes.{part_size}
 use Rattle.type_rows.specs.Stand.{env, state}
 use Rattle.expression_forms.proofs.arguments.+argument_form.Goals as goal
