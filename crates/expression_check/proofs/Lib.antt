@@ -1,4 +1,0 @@
-pub mod Statements
-pub mod Tuples
-pub mod Jumps
-pub mod Stores
