@@ -1,0 +1,4 @@
+pub mod Answers
+pub mod Beginning
+pub mod Judged
+pub mod Wrong
