@@ -123,11 +123,11 @@ module _ (heads items : ItemTable) (h : HaveFree heads) where
 
   within_free : (d : ℕ) (id : TyId) → feedless (type_within (under heads items) d id) ≡ true
   within_free zero id = refl
-  within_free (suc d) id = by (type_at items id)
+  within_free (suc d) id = by (type_at items id) (within_free d)
     where
-      by : (o : Option Ty) → feedless (found_text (under heads items) (type_within (under heads items) d) o) ≡ true
-      by None = refl
-      by (Some ty) = form_free (type_within (under heads items) d) (within_free d) ty
+      by : (o : Option Ty) → ((part : TyId) → feedless (type_within (under heads items) d part) ≡ true) → feedless (found_text (under heads items) (type_within (under heads items) d) o) ≡ true
+      by None deeper = refl
+      by (Some ty) deeper = form_free (type_within (under heads items) d) deeper ty
 
   pub word_free : (id : TyId) → feedless (text_under heads items id) ≡ true
   unfolding type_text

@@ -179,13 +179,13 @@ closure_leaves part same heads s u t r h =
 
 module _ (heads : ItemTable) (t : List ℕ) where
   abbrev pub after_adts : ItemsSeen × List ℕ
-  after_adts = then_section (one_adt heads) (none_seen, t)
+  after_adts = then_section heads (one_adt heads) (none_seen, t)
 
   abbrev pub after_traits : ItemsSeen × List ℕ
-  after_traits = then_section (one_trait heads) after_adts
+  after_traits = then_section heads (one_trait heads) after_adts
 
   abbrev pub after_impls : ItemsSeen × List ℕ
-  after_impls = then_section (one_impl heads) after_traits
+  after_impls = then_section heads (one_impl heads) after_traits
 
   pub adts_stay : (items_under heads t).0.adts ≡ after_adts.0.adts
   adts_stay =

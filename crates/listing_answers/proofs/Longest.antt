@@ -176,7 +176,7 @@ module _ (graph : Graph) (heads : ItemTable) (x : Extends graph.items heads) (t 
           let p = closures_pass graph.items heads x count_seen adds_closure graph.items.closures 0 u3 (sym (ap length none)) in
           let own = counted_so (one_closure heads) count_seen (LineStands graph.items) (closure_lines graph) u3 p.0 p.1 in
           let v : List ℕ = texts (take (suc d3) (from_closures graph)) ++ behind in
-          by p.0 own (subst (λ (q : ItemsSeen × List ℕ). Read (one_closure heads) count_seen (LineStands graph.items) (closure_lines graph) (from_bodies graph) u3 p.0 (suc d3) behind (then_section (one_closure heads) q))
+          by p.0 own (subst (λ (q : ItemsSeen × List ℕ). Read (one_closure heads) count_seen (LineStands graph.items) (closure_lines graph) (from_bodies graph) u3 p.0 (suc d3) behind (then_section heads (one_closure heads) q))
           (sym (same_at (after_impls heads t) u3 v at rest))
           (section (one_closure heads) count_seen (LineStands graph.items) (closure_lines graph) (from_bodies graph) u3 p.0 (suc d3) v behind (closures_grow graph.items heads x count_seen adds_closure) p.1
           (begin_up BehindClosures _ (λ l h s r. no_closure_at heads l h s r) (from_bodies graph) (behind_closures graph.items 0 graph.bodies)) stand refl))
@@ -196,7 +196,7 @@ module _ (graph : Graph) (heads : ItemTable) (x : Extends graph.items heads) (t 
           let p = impls_pass graph.items heads x count_seen adds_impl graph.items.impls u2 in
           let own = counted_so (one_impl heads) count_seen (LineStands graph.items) (impl_lines graph) u2 p.0 p.1 in
           let v : List ℕ = texts (take (suc d2) (from_impls graph)) ++ behind in
-          by p.0 (p.2 ∙ none) own (subst (λ (q : ItemsSeen × List ℕ). Read (one_impl heads) count_seen (LineStands graph.items) (impl_lines graph) (from_closures graph) u2 p.0 (suc d2) behind (then_section (one_impl heads) q))
+          by p.0 (p.2 ∙ none) own (subst (λ (q : ItemsSeen × List ℕ). Read (one_impl heads) count_seen (LineStands graph.items) (impl_lines graph) (from_closures graph) u2 p.0 (suc d2) behind (then_section heads (one_impl heads) q))
           (sym (same_at (after_traits heads t) u2 v at rest))
           (section (one_impl heads) count_seen (LineStands graph.items) (impl_lines graph) (from_closures graph) u2 p.0 (suc d2) v behind (impls_grow graph.items heads x count_seen adds_impl) p.1
           (begin_up BehindImpls _ (λ l h s r. no_impl_at heads l h s r) (from_closures graph) (behind_impls graph.items 0 graph.items.closures (from_bodies graph) (behind_closures graph.items 0 graph.bodies))) stand refl))
@@ -215,7 +215,7 @@ module _ (graph : Graph) (heads : ItemTable) (x : Extends graph.items heads) (t 
           let p = traits_pass graph.items heads x count_seen adds_trait graph.items.traits [] u1 refl (sym (ap length no_traits)) in
           let own = counted_so (one_trait heads) count_seen (LineStands graph.items) (trait_lines graph) u1 p.0 p.1 in
           let v : List ℕ = texts (take (suc d1) (from_traits graph)) ++ behind in
-          by p.0 (p.2 ∙ none) own (subst (λ (q : ItemsSeen × List ℕ). Read (one_trait heads) count_seen (LineStands graph.items) (trait_lines graph) (from_impls graph) u1 p.0 (suc d1) behind (then_section (one_trait heads) q))
+          by p.0 (p.2 ∙ none) own (subst (λ (q : ItemsSeen × List ℕ). Read (one_trait heads) count_seen (LineStands graph.items) (trait_lines graph) (from_impls graph) u1 p.0 (suc d1) behind (then_section heads (one_trait heads) q))
           (sym (same_at (after_adts heads t) u1 v at rest))
           (section (one_trait heads) count_seen (LineStands graph.items) (trait_lines graph) (from_impls graph) u1 p.0 (suc d1) v behind (traits_grow graph.items heads x count_seen adds_trait) p.1
           (begin_up BehindTraits _ (λ l h s r. no_trait_at heads l h s r) (from_impls graph) (behind_traits graph.items graph.items.impls (from_closures graph)

@@ -70,11 +70,11 @@ module _ (heads items : ItemTable) (read : AreRead heads items.types) (x : Exten
 
   within_word : (d : ℕ) (id : TyId) → tree_text (tree_within items d id) ≡ type_within (under heads items) d id
   within_word zero id = refl
-  within_word (suc d) id = by (type_at items id) refl
+  within_word (suc d) id = by (type_at items id) refl (within_word d)
     where
-      by : (o : Option Ty) → type_at items id ≡ o → tree_text (found_tree items (tree_within items d) o) ≡ found_text (under heads items) (type_within (under heads items) d) o
-      by None e = refl
-      by (Some ty) e = form_word (tree_within items d) (type_within (under heads items) d) (within_word d) ty (read id.0 ty e).head
+      by : (o : Option Ty) → type_at items id ≡ o → ((part : TyId) → tree_text (tree_within items d part) ≡ type_within (under heads items) d part) → tree_text (found_tree items (tree_within items d) o) ≡ found_text (under heads items) (type_within (under heads items) d) o
+      by None e deeper = refl
+      by (Some ty) e deeper = form_word (tree_within items d) (type_within (under heads items) d) deeper ty (read id.0 ty e).head
 
   pub word_is : (id : TyId) → tree_text (tree_of items id) ≡ text_under heads items id
   unfolding tree_of type_text

@@ -340,12 +340,15 @@ module _ (heads items : ItemTable) (t : List ℕ) (front : ItemsFront heads item
 none_fewer : (a most_a b most_b : ℕ) → fewer_of a most_a b most_b ≡ None → (most_a ≤ a) × (most_b ≤ b)
 none_fewer a most_a b most_b h = by (nat_lt a most_a) refl h
   where
-    by : (v : Bool) → nat_lt a most_a ≡ v → (if v || nat_lt b most_b then Some (min a most_a, min b most_b) else None) ≡ None → (most_a ≤ a) × (most_b ≤ b)
-    by true e h = absurd (none-some (min a most_a, min b most_b) (sym h))
+    counts : ℕ × ℕ
+    counts = (min a most_a, min b most_b)
+
+    by : (v : Bool) → nat_lt a most_a ≡ v → (if v || nat_lt b most_b then Some counts else None) ≡ None → (most_a ≤ a) × (most_b ≤ b)
+    by true e h = absurd (none-some counts (sym h))
     by false e h = also (nat_lt b most_b) refl h
       where
-        also : (w : Bool) → nat_lt b most_b ≡ w → (if w then Some (min a most_a, min b most_b) else None) ≡ None → (most_a ≤ a) × (most_b ≤ b)
-        also true f h = absurd (none-some (min a most_a, min b most_b) (sym h))
+        also : (w : Bool) → nat_lt b most_b ≡ w → (if w then Some counts else None) ≡ None → (most_a ≤ a) × (most_b ≤ b)
+        also true f h = absurd (none-some counts (sym h))
         also false f h = (ltb-false a most_a e, ltb-false b most_b f)
 
 -- settled heads are heads within some numbers

@@ -23,8 +23,8 @@ use Rattle.listing_lines.specs.LineReading.{due_number, name_read, params_from, 
 use Rattle.listing_lines.proofs.Sound.{name_sound, ended_sound, as_sound}
 use Rattle.listing_parts.specs.Numbers.{adt_no, trait_no}
 use Rattle.listing_traits.specs.TraitReading as traits
-use Rattle.listing_traits.specs.TraitReading.{self_text, self_read, params_read, method_from, method_read, some_methods, methods_behind, methods_read, trait_from, own_head, own_head_from, trait_read, more_types, result_from}
-use Rattle.listing_types.specs.TypeReading.{plain_number, type_read, types_read}
+use Rattle.listing_traits.specs.TraitReading.{self_text, self_read, params_read, method_from, method_read, some_methods, methods_behind, methods_read, trait_from, own_head, own_head_from, trait_read, result_from}
+use Rattle.listing_types.specs.TypeReading.{plain_number, type_read, types_read, more_types}
 use Rattle.listing_types.proofs.PlainNumbers.{plain_sound}
 use Rattle.listing_types.proofs.Splits.{split, same_found}
 
