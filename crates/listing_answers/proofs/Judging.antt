@@ -19,5 +19,5 @@ answers text t graph whole rest (Ok answered) first is j =
     subst (IsText text) (sym j.2.0) (record { listed = record { items = j.0; fits = fits; well_formed = j.2.1 }; same = listed.same ∙ sym (listing-lines graph) })
 answers text t graph whole rest (Err (ListingError.BadListing n)) first is j = first_wrong t graph whole rest is j.0 text first n j.1
 answers text t graph whole rest (Err (ListingError.BadGraph fault n)) first is j =
-    record { graph = graph; listed = listing_read t graph whole rest is j.0 text first j.1; first = j.2.0; at = j.2.1 }
+    record { graph = graph; listed = listing_read t graph whole rest is j.0 text first j.1; signed = is.told.drafted.signed; first = j.2.0; at = j.2.1 }
 answers text t graph whole rest (Err ListingError.Memory) first is j = tt

@@ -1,5 +1,6 @@
 pub mod Aligned
 pub mod Code
+pub mod Counting
 pub mod Fit
 pub mod Free
 pub mod Fronts

@@ -10,6 +10,7 @@ use Rattle.mir_text.specs.Compared.{IsListed}
 use Rattle.mir_text.specs.Listing.{listing}
 use Rattle.listing_answers.specs.declared.error.ListingError.{ListingError}
 use Rattle.listing_answers.specs.Beginning.{IsListingOf, IsFirstWrong}
+use Rattle.listing_sections.specs.BodiesRead.{AreSigned}
 
 -- how many lines blocks have: each its own, its statements and its terminator
 abbrev pub blocks_lines : List Block → ℕ
@@ -46,10 +47,12 @@ line_of_fault graph fault =
     else 2 + item_count graph.items + bodies_lines (take fault.body graph.bodies) +
     line_in (slice_get graph.bodies fault.body) fault
 
--- a text that is the listing of a graph with this first fault, at this line
+-- a text that is the listing of a graph with this first fault, at this line; the signatures of bodies are no part of a
+-- listing, and those that their locals tell
 pub record HasFault (text : List ℕ) (fault : GraphFault) (number : ℕ) : Type 0 where
   pub graph : Graph
   pub listed : IsListingOf text graph
+  pub signed : AreSigned graph.items graph.items.bodies graph.bodies
   pub first : first_fault graph ≡ Some fault
   pub at : number ≡ line_of_fault graph fault
 

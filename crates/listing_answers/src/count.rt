@@ -1,6 +1,5 @@
 //! The lines of graphs, counted.
-ghost use Rattle.std.specs.Prelude.{◌≡◌, ◌<◌, ◌^◌, ◌-◌, IfSome, length};
-ghost use Rattle.std.specs.Option.{option_copied};
+ghost use Rattle.std.specs.Prelude.{◌≡◌, ◌<◌, ◌^◌, ◌-◌, IfSome, length, slice_get};
 ghost use Rattle.mir_ty.specs.AreItems.{AreItems};
 ghost use Rattle.mir_ty.specs.ItemTable.{item_count};
 ghost use Rattle.listing_answers.specs.Answers as answers;
@@ -81,7 +80,7 @@ fn body_lines(body: &Body) -> Option<u32>
     ensures { IfSome result (λ n. n ≡ answers.body_lines body.now) }
 {
     let locals = u32::try_from(body.locals.len()).ok()?;
-    let blocks = blocks_lines(&body.blocks)?;
+    let blocks = blocks_lines(body.blocks.as_slice())?;
     locals.checked_add(1)?.checked_add(blocks)
 }
 
@@ -103,7 +102,7 @@ pub(crate) fn lines_count(graph: &Graph) -> Option<u32>
     ensures sound { AreItems graph.now.items }
 {
     let items = item_lines(&graph.items);
-    let lines = bodies_lines(&graph.bodies)?.checked_add(items)?;
+    let lines = bodies_lines(graph.bodies.as_slice())?.checked_add(items)?;
     lines.checked_add(3)?;
     Some(lines + 2)
 }
@@ -116,16 +115,16 @@ fn line_in_body(body: &Body, fault: &GraphFault) -> Option<u32>
         return if fault.line == NOWHERE { Some(0) } else { fault.line.checked_add(1) };
     }
     let count = body.blocks.len().min(fault.block as usize);
-    let before = blocks_lines(&body.blocks[..count])?;
+    let before = blocks_lines(&body.blocks.as_slice()[..count])?;
     let locals = u32::try_from(body.locals.len()).ok()?;
     locals.checked_add(before)?.checked_add(2)?.checked_add(fault.line)
 }
 
-/// The same of the body with a number, if there is one.
-fn line_in(body: Option<&Body>, fault: &GraphFault) -> Option<u32>
-    ensures { IfSome result (λ n. n ≡ answers.line_in (option_copied body) fault.now) }
+/// The same of the body that a fault is in, if there is one.
+fn line_in(graph: &Graph, fault: &GraphFault) -> Option<u32>
+    ensures { IfSome result (λ n. n ≡ answers.line_in (slice_get graph.now.bodies fault.now.body) fault.now) }
 {
-    match body {
+    match graph.bodies.get(fault.body as usize) {
         Some(body) => line_in_body(body, fault),
         None => Some(0),
     }
@@ -139,8 +138,8 @@ pub(crate) fn line_of_fault(graph: &Graph, fault: &GraphFault) -> Option<u32>
         return if fault.line == NOWHERE { lines_count(graph) } else { fault.line.checked_add(2) };
     }
     let count = graph.bodies.len().min(fault.body as usize);
-    let before = bodies_lines(&graph.bodies[..count])?;
+    let before = bodies_lines(&graph.bodies.as_slice()[..count])?;
     let items = item_lines(&graph.items);
-    let within = line_in(graph.bodies.get(fault.body as usize), fault)?;
+    let within = line_in(graph, fault)?;
     items.checked_add(2)?.checked_add(before)?.checked_add(within)
 }

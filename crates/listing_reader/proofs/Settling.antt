@@ -80,3 +80,22 @@ are_fewer a most_a b most_b counts h = by (nat_lt a most_a) refl h
 -- one round more
 pub next_round : (n : ℕ) (t : List ℕ) (heads : ItemTable) (counts : ℕ × ℕ) → heads ≡ heads_after n t → fewer heads (items_under heads t).0 ≡ Some counts → heads_within counts.0 counts.1 t ≡ heads_after (suc n) t
 next_round n t heads counts are h = sym (ap (again t (heads_after n t)) (ap (λ (x : ItemTable). fewer x (items_under x t).0) (sym are) ∙ h))
+
+-- heads of some round
+pub record AreAfter (t : List ℕ) (heads : ItemTable) : Type 0 where
+  pub rounds : ℕ
+  pub are : heads ≡ heads_after rounds t
+
+pub next_heads : (t : List ℕ) (heads more : ItemTable) (counts : ℕ × ℕ) → AreAfter t heads → fewer heads (items_under heads t).0 ≡ Some counts → more ≡ heads_within counts.0 counts.1 t → AreAfter t more
+next_heads t heads more counts a h are = record { rounds = suc a.rounds; are = are ∙ next_round a.rounds t heads counts a.are h }
+
+pub are_less : (t : List ℕ) (heads more : ItemTable) (counts : ℕ × ℕ) → fewer heads (items_under heads t).0 ≡ Some counts → more ≡ heads_within counts.0 counts.1 t
+    → length more.adts + length more.traits < length heads.adts + length heads.traits
+are_less t heads more counts h are =
+    let seen = (items_under heads t).0 in
+    let (less, adts, traits) = are_fewer (length seen.adts) (length heads.adts) (length seen.traits) (length heads.traits) counts h in
+    let most_adts = no_more_adts counts.0 counts.1 t in
+    let most_traits = no_more_traits counts.0 counts.1 t in
+    let same_adts = ap (λ (x : ItemTable). length x.adts) are in
+    let same_traits = ap (λ (x : ItemTable). length x.traits) are in
+    omega (arith, less, most_adts, most_traits, same_adts, same_traits)
