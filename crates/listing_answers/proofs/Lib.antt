@@ -9,6 +9,7 @@ pub mod HeadLines
 pub mod Judging
 pub mod Heads
 pub mod InFront
+pub mod Listed
 pub mod Longest
 pub mod Named
 pub mod Passing

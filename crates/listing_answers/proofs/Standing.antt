@@ -45,6 +45,30 @@ module _ (items : ItemTable) (names : AreNames items) where
   pub adt_named : (n : ℕ) → n < length items.adts → IsAdtName items (adt_name items n)
   adt_named n h = let all = adt_stands n h in (is_a_name (adt_name items n) all.0, all.1)
 
+-- a type stands as a tree, where those in it do
+module _ (items : ItemTable) (names : AreNames items) where
+  all_stand : (inner : TyId → Tree) (ids : List TyId) → Every (λ id. Stands items (inner id)) ids → AllStand items (trees_of inner ids)
+  all_stand inner [] h = tt
+  all_stand inner (id ∷ ids) h = (h.0, all_stand inner ids h.1)
+
+  has_one : (inner : TyId → Tree) (ids : List TyId) → 0 < length ids → HasOne (trees_of inner ids)
+  has_one inner [] h = absurd (omega arith)
+  has_one inner (id ∷ ids) h = tt
+
+  pub form_stands : (inner : TyId → Tree) (ty : Ty) → Every (λ id. Stands items (inner id)) (types_in ty) → HasHead items ty → TyFits ty → HasParts ty → Stands items (form_tree items inner ty)
+  form_stands inner (Ty.Int kind) h head fits parts = tt
+  form_stands inner Ty.Bool h head fits parts = tt
+  form_stands inner Ty.Unit h head fits parts = tt
+  form_stands inner Ty.Never h head fits parts = tt
+  form_stands inner (Ty.Adt n) h head fits parts = adt_stands items names n head
+  form_stands inner (Ty.Tuple ids) h head fits parts = (has_one inner ids parts, all_stand inner ids h)
+  form_stands inner (Ty.Array element count) h head fits parts = (h.0, fits)
+  form_stands inner (Ty.Boxed inside) h head fits parts = h.0
+  form_stands inner (Ty.Dyn n) h head fits parts = trait_stands items names n head
+  form_stands inner (Ty.Shared to) h head fits parts = h.0
+  form_stands inner (Ty.Unique to) h head fits parts = h.0
+  form_stands inner (Ty.Closure n) h head fits parts = fits
+
 module _ (heads items : ItemTable) (read : AreRead heads items.types) (x : Extends heads items) where
   parts_below : (id : TyId) (ty : Ty) → type_at items id ≡ Some ty → Every (λ part. part.0 < id.0) (types_in ty)
   parts_below id ty is = every_from_all (λ part. part.0 < id.0) (types_in ty) (read id.0 ty is).below
@@ -86,27 +110,10 @@ module _ (heads items : ItemTable) (read : AreRead heads items.types) (x : Exten
 
   -- and it stands
   module _ (names : AreNames items) (are : AreItems items) where
-    all_stand : (inner : TyId → Tree) (ids : List TyId) → Every (λ id. Stands items (inner id)) ids → AllStand items (trees_of inner ids)
-    all_stand inner [] h = tt
-    all_stand inner (id ∷ ids) h = (h.0, all_stand inner ids h.1)
-
-    has_one : (inner : TyId → Tree) (ids : List TyId) → 0 < length ids → HasOne (trees_of inner ids)
-    has_one inner [] h = absurd (omega arith)
-    has_one inner (id ∷ ids) h = tt
-
-    form_stands : (inner : TyId → Tree) (ty : Ty) → Every (λ id. Stands items (inner id)) (types_in ty) → HasHead heads ty → TyFits ty → HasParts ty → Stands items (form_tree items inner ty)
-    form_stands inner (Ty.Int kind) h head fits parts = tt
-    form_stands inner Ty.Bool h head fits parts = tt
-    form_stands inner Ty.Unit h head fits parts = tt
-    form_stands inner Ty.Never h head fits parts = tt
-    form_stands inner (Ty.Adt n) h head fits parts = let most = no_fewer_adts heads items x in adt_stands items names n (omega (arith, head, most))
-    form_stands inner (Ty.Tuple ids) h head fits parts = (has_one inner ids parts, all_stand inner ids h)
-    form_stands inner (Ty.Array element count) h head fits parts = (h.0, fits)
-    form_stands inner (Ty.Boxed inside) h head fits parts = h.0
-    form_stands inner (Ty.Dyn n) h head fits parts = let most = no_fewer_traits heads items x in trait_stands items names n (omega (arith, head, most))
-    form_stands inner (Ty.Shared to) h head fits parts = h.0
-    form_stands inner (Ty.Unique to) h head fits parts = h.0
-    form_stands inner (Ty.Closure n) h head fits parts = fits
+    head_up : (ty : Ty) → HasHead heads ty → HasHead items ty
+    head_up (Ty.Adt n) head = let most = no_fewer_adts heads items x in omega (arith, head, most)
+    head_up (Ty.Dyn n) head = let most = no_fewer_traits heads items x in omega (arith, head, most)
+    head_up _ head = tt
 
     within_stands : (d : ℕ) (id : TyId) → id.0 < d → id.0 < length items.types → Stands items (tree_within items d id)
     within_stands zero id less there = absurd (omega arith)
@@ -116,7 +123,7 @@ module _ (heads items : ItemTable) (read : AreRead heads items.types) (x : Exten
         by None e deeper = let found = found_at items.types id.0 there in absurd (none-some found.0 (sym e ∙ found.1))
         by (Some ty) e deeper =
             let may = read id.0 ty e in
-            form_stands (tree_within items d) ty (every_more (λ part. part.0 < id.0) (λ part. Stands items (tree_within items d part)) deeper (types_in ty) (parts_below id ty e)) may.head may.fits
+            form_stands items names (tree_within items d) ty (every_more (λ part. part.0 < id.0) (λ part. Stands items (tree_within items d part)) deeper (types_in ty) (parts_below id ty e)) (head_up ty may.head) may.fits
             (all_at (IsTy items.types) items.types are.types id.0 ty e).parts
 
     pub type_stands : (id : TyId) → id.0 < length items.types → Stands items (tree_of items id)

@@ -1,8 +1,8 @@
 -- There is one first wrong line.
-use Rattle.std.proofs.Common.{◌≡◌, ℕ, List, arith}
-use Rattle.listing_answers.specs.Beginning.{IsFirstWrong}
+use Rattle.std.proofs.Common.{arith}
+use Rattle.listing_answers.specs.Laws.{OneFirstWrong}
 
-pub one_first_wrong : (text : List ℕ) (a b : ℕ) → IsFirstWrong text a → IsFirstWrong text b → a ≡ b
+pub one_first_wrong : OneFirstWrong
 one_first_wrong text a b left right =
     let up = left.longest right.before right.begins in
     let down = right.longest left.before left.begins in
