@@ -161,7 +161,7 @@ module _ (items heads : ItemTable) (x : Extends items heads) where
         (
           next,
           λ stands r. ap (λ (f : Found (List ℕ)). bind f (λ f. Some (s ++ f.0 ∷ [], f.1)))
-          (ap (λ (k : ℕ). lines.local_read heads k (line (line_text (line_of_local items n id)) ++ r)) (sym due) ∙ locals_read_ heads n (tree_of items id) r stands.0 (tree_up items heads x (tree_of items id) stands.1)),
+              (ap (λ (k : ℕ). lines.local_read heads k (line (line_text (line_of_local items n id)) ++ r)) (sym due) ∙ locals_read_ heads n (tree_of items id) r stands.0 (tree_up items heads x (tree_of items id) stands.1)),
           count,
           deeper.1,
         ),

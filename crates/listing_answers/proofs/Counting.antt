@@ -4,6 +4,7 @@ use Rattle.cfg_graph.specs.declared.graph.Block.{Block}
 use Rattle.cfg_graph.specs.declared.graph.Body.{Body}
 use Rattle.cfg_graph.specs.declared.graph.Graph.{Graph}
 use Rattle.cfg_graph.specs.WellFormed.Faults.{IsCounted, IsCountedBody}
+use Rattle.mir_text.specs.Listing.{IsShortGraph}
 use Rattle.mir_text.proofs.Reading.Basics.{Every}
 use Rattle.listing_answers.specs.Answers.{blocks_lines, body_lines, bodies_lines, lines_count}
 use Rattle.listing_answers.proofs.Told.{all_from_every}
@@ -59,3 +60,6 @@ counted graph h =
       bodies = omega (arith, h, few);
       each = all_from_every IsCountedBody graph.bodies (counted_each graph.bodies (omega (arith, h)));
     }
+
+pub short : (graph : Graph) → IsCounted graph → IsShortGraph graph
+short graph c = record { bodies = c.bodies; each = λ k d less. let own = c.each k d less in record { locals = own.locals; blocks = own.blocks } }

@@ -82,7 +82,7 @@ module _ (items : ItemTable) where
         (
           next,
           λ stands r. ap (λ (f : Found (List ℕ)). bind f (λ f. Some (with_adt s (adt_of f.0), f.1)))
-          (adt_head_of items (line_of_adt items adt) r (is_own adt.is_enum adt) stands ∙ ap (λ (name : List ℕ). Some (name, r)) (own_name adt.is_enum adt)),
+              (adt_head_of items (line_of_adt items adt) r (is_own adt.is_enum adt) stands ∙ ap (λ (name : List ℕ). Some (name, r)) (own_name adt.is_enum adt)),
           (let one : length next.adts ≡ suc (length s.adts) = omega (arith, sum) in one),
           deeper.1,
         ),

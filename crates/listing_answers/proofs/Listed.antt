@@ -295,12 +295,14 @@ module _ (graph : Graph) (listed : IsListed graph) (counted : IsCounted graph) (
   lines_stand =
       let few = listed.items.short.others in
       let closures : 0 + length graph.items.closures < 2 ^ 32 = omega (arith, few) in
-      subst (Every (LineStands graph.items)) (sym (lines_are graph))
-      (tt, every_joined (LineStands graph.items) (adt_lines graph) _ (adts_stand graph.items.adts each_adt)
-      (every_joined (LineStands graph.items) (trait_lines graph) _ (traits_stand graph.items.traits each_trait)
-      (every_joined (LineStands graph.items) (impl_lines graph) _ (impls_stand graph.items.impls each_impl)
-      (every_joined (LineStands graph.items) (closure_lines graph) _ (closures_stand 0 graph.items.closures closures (good_closures graph listed))
-      (every_joined (LineStands graph.items) (body_lines_of graph) (EndLine ∷ []) (bodies_stand 0 graph.bodies each_body) (tt, tt))))))
+      subst (Every (LineStands graph.items)) (sym (lines_are graph)) (
+        tt,
+        every_joined (LineStands graph.items) (adt_lines graph) _ (adts_stand graph.items.adts each_adt)
+            (every_joined (LineStands graph.items) (trait_lines graph) _ (traits_stand graph.items.traits each_trait)
+            (every_joined (LineStands graph.items) (impl_lines graph) _ (impls_stand graph.items.impls each_impl)
+            (every_joined (LineStands graph.items) (closure_lines graph) _ (closures_stand 0 graph.items.closures closures (good_closures graph listed))
+            (every_joined (LineStands graph.items) (body_lines_of graph) (EndLine ∷ []) (bodies_stand 0 graph.bodies each_body) (tt, tt))))),
+      )
 
 pub well_formed_is_listed : WellFormedIsListed
 well_formed_is_listed graph listed counted utf = record {

@@ -136,7 +136,7 @@ module _ (items heads : ItemTable) (x : Extends items heads) where
           (
             next,
             λ stands r. ap (λ (f : Found (List ℕ × List SigSeen)). bind f (λ f. Some (record s { traits = s.traits ++ f.0 ∷ [] }, f.1)))
-            (ap (λ (k : ℕ). trait_read heads k (line (line_text (line_of_trait items def)) ++ r)) (sym due) ∙ trait_found (length front) def r within called stands),
+                (ap (λ (k : ℕ). trait_read heads k (line (line_text (line_of_trait items def)) ++ r)) (sym due) ∙ trait_found (length front) def r within called stands),
             adds s seen,
             deeper.1,
           ),
@@ -164,7 +164,7 @@ module _ (items heads : ItemTable) (x : Extends items heads) where
           (
             next,
             λ stands r. ap (λ (f : Found ImplDef). bind f (λ f. Some (record s { impls = s.impls ++ f.0 ∷ [] }, f.1)))
-            (impls_read_ heads trait adt def.bodies r stands.0.0 stands.1.0 (trait_name_up items heads x trait stands.0).1 (adt_name_up items heads x adt stands.1).1 stands.2),
+                (impls_read_ heads trait adt def.bodies r stands.0.0 stands.1.0 (trait_name_up items heads x trait stands.0).1 (adt_name_up items heads x adt stands.1).1 stands.2),
             adds s seen,
             deeper.1,
           ),
@@ -192,7 +192,7 @@ module _ (items heads : ItemTable) (x : Extends items heads) where
           (
             next,
             λ stands r. ap (λ (f : Found (List Written × ℕ)). bind f (λ f. Some (record s { closures = s.closures ++ f.0 ∷ [] }, f.1)))
-            (ap (λ (k : ℕ). closure_read heads k (line (line_text (line_of_closure items n def)) ++ r)) (sym due) ∙ closures_read_ heads n captures def.body r stands.0 (each_up items heads x captures stands.1) stands.2),
+                (ap (λ (k : ℕ). closure_read heads k (line (line_text (line_of_closure items n def)) ++ r)) (sym due) ∙ closures_read_ heads n captures def.body r stands.0 (each_up items heads x captures stands.1) stands.2),
             adds s seen,
             deeper.1,
           ),

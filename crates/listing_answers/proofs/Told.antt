@@ -255,10 +255,10 @@ module _ (heads items : ItemTable) (t : List ℕ) (front : ItemsFront heads item
     trait_heads n [] h = tt
     trait_heads n (def ∷ traits) h = (
       λ s r. ap (λ (f : Found (List ℕ)). bind f (λ f. Some (with_trait s (trait_of f.0), f.1)))
-      (trait_line_named def.name (in_braces (map written_method (map (sig_seen (under heads items)) def.methods))) r h.0.1.0.0 h.0.1.0.1
-      (braces_free (map written_method (map (sig_seen (under heads items)) def.methods))
-      (methods_free def.methods (every_more (λ (m : SigSeen). MethodNamed def.name m) (λ (m : SigSeen). IsNamed m.0) (λ m k. k.0) (map (sig_seen (under heads items)) def.methods)
-      (every_from_all (MethodNamed def.name) (map (sig_seen (under heads items)) def.methods) h.0.1.1))))),
+          (trait_line_named def.name (in_braces (map written_method (map (sig_seen (under heads items)) def.methods))) r h.0.1.0.0 h.0.1.0.1
+          (braces_free (map written_method (map (sig_seen (under heads items)) def.methods))
+          (methods_free def.methods (every_more (λ (m : SigSeen). MethodNamed def.name m) (λ (m : SigSeen). IsNamed m.0) (λ m k. k.0) (map (sig_seen (under heads items)) def.methods)
+          (every_from_all (MethodNamed def.name) (map (sig_seen (under heads items)) def.methods) h.0.1.1))))),
       trait_heads (suc n) traits h.1,
     )
 

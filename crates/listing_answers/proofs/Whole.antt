@@ -265,15 +265,17 @@ module _ (t : List ℕ) (graph : Graph) (whole : Bool) (rest : List ℕ) (is : I
     begins_so (l ∷ ls) more behind all stand same declared =
         let own : List Line = l ∷ ls in
         let taken : take (length own) (lines_of graph) ≡ own = ap (take (length own)) all ∙ take-append_seam own more in
-        let sum = ap length all ∙ length-append own more in
-        (graph, record {
-          items = are;
-          enough = omega (arith, sum);
-          declared = declared;
-          stand = all_from_every (LineStands graph.items) (take (length own) (lines_of graph)) (subst (Every (LineStands graph.items)) (sym taken) stand);
-          behind = behind;
-          same = same ∙ ap (λ (xs : List Line). texts xs ++ behind) (sym taken);
-        })
+        let sum = ap length all ∙ length-append own more in (
+          graph,
+          record {
+            items = are;
+            enough = omega (arith, sum);
+            declared = declared;
+            stand = all_from_every (LineStands graph.items) (take (length own) (lines_of graph)) (subst (Every (LineStands graph.items)) (sym taken) stand);
+            behind = behind;
+            same = same ∙ ap (λ (xs : List Line). texts xs ++ behind) (sym taken);
+          },
+        )
 
     no_longer : (before : ℕ) → ((n : ℕ) (other : Graph) (behind : List ℕ) → Bounded (length (from_adts other)) is.heads t n behind → suc n ≤ before) → (count : ℕ) → Begins text count → count ≤ before
     no_longer before each zero b = omega arith

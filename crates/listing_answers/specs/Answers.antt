@@ -5,9 +5,9 @@ use Rattle.cfg_graph.specs.declared.graph.Block.{Block}
 use Rattle.cfg_graph.specs.declared.graph.Body.{Body}
 use Rattle.cfg_graph.specs.declared.graph.Graph.{Graph}
 use Rattle.cfg_graph.specs.declared.graph.GraphFault.{GraphFault}
-use Rattle.cfg_graph.specs.WellFormed.Faults.{first_fault, nowhere}
+use Rattle.cfg_graph.specs.WellFormed.Faults.{first_fault, nowhere, IsCounted}
 use Rattle.mir_text.specs.Compared.{IsListed}
-use Rattle.mir_text.specs.Listing.{listing}
+use Rattle.mir_text.specs.Listing.{listing, IsShortGraph}
 use Rattle.listing_answers.specs.declared.error.ListingError.{ListingError}
 use Rattle.listing_answers.specs.Beginning.{IsListingOf, IsFirstWrong}
 use Rattle.listing_sections.specs.BodiesRead.{AreSigned}
@@ -56,10 +56,12 @@ pub record HasFault (text : List ℕ) (fault : GraphFault) (number : ℕ) : Type
   pub first : first_fault graph ≡ Some fault
   pub at : number ≡ line_of_fault graph fault
 
--- a text that is the listing of a well formed graph
+-- a text that is the listing of a well formed graph, whose lists are as short as the calls on graphs ask
 pub record IsText (text : List ℕ) (graph : Graph) : Type 0 where
   pub listed : IsListed graph
   pub same : text ≡ listing graph
+  pub counted : IsCounted graph
+  pub short : IsShortGraph graph
 
 -- what the reader answers: the graph, the first wrong line, or the first fault with its line
 abbrev pub Answers : List ℕ → Result Graph ListingError → Type 0

@@ -112,12 +112,19 @@ fn line_in_body(body: &Body, fault: &GraphFault) -> Option<u32>
     ensures { IfSome result (λ n. n ≡ answers.line_in_body body.now fault.now) }
 {
     if fault.block == NOWHERE {
-        return if fault.line == NOWHERE { Some(0) } else { fault.line.checked_add(1) };
+        return if fault.line == NOWHERE {
+            Some(0)
+        } else {
+            fault.line.checked_add(1)
+        };
     }
     let count = body.blocks.len().min(fault.block as usize);
     let before = blocks_lines(&body.blocks.as_slice()[..count])?;
     let locals = u32::try_from(body.locals.len()).ok()?;
-    locals.checked_add(before)?.checked_add(2)?.checked_add(fault.line)
+    locals
+        .checked_add(before)?
+        .checked_add(2)?
+        .checked_add(fault.line)
 }
 
 /// The same of the body that a fault is in, if there is one.
@@ -135,11 +142,18 @@ pub(crate) fn line_of_fault(graph: &Graph, fault: &GraphFault) -> Option<u32>
     ensures { IfSome result (λ n. n ≡ answers.line_of_fault graph.now fault.now) }
 {
     if fault.body == NOWHERE {
-        return if fault.line == NOWHERE { lines_count(graph) } else { fault.line.checked_add(2) };
+        return if fault.line == NOWHERE {
+            lines_count(graph)
+        } else {
+            fault.line.checked_add(2)
+        };
     }
     let count = graph.bodies.len().min(fault.body as usize);
     let before = bodies_lines(&graph.bodies.as_slice()[..count])?;
     let items = item_lines(&graph.items);
     let within = line_in(graph, fault)?;
-    items.checked_add(2)?.checked_add(before)?.checked_add(within)
+    items
+        .checked_add(2)?
+        .checked_add(before)?
+        .checked_add(within)
 }

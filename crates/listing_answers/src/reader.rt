@@ -7,8 +7,8 @@ ghost use Rattle.listing_answers.specs.Answers.{Answers};
 ghost use Rattle.listing_answers.specs.Judged.{Judges, IsJudged};
 ghost use Rattle.listing_answers.specs.Wrong as wrong;
 
-use crate::count::{line_of_fault, lines_count};
 use crate::ListingError;
+use crate::count::{line_of_fault, lines_count};
 use cfg_graph::{Graph, well_formed};
 use listing_parts::strip;
 use listing_reader::read_graph;

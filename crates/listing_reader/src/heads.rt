@@ -132,12 +132,7 @@ fn trait_heads<'a>(
 }
 
 /// The heads of a text: its structs and enums, no more than `adts`, and then its traits, no more than `traits`.
-pub fn read_heads(
-    alloc: Global,
-    adts: usize,
-    traits: usize,
-    text: &[u8],
-) -> Result<Items, NoMemory>
+pub fn read_heads(alloc: Global, adts: usize, traits: usize, text: &[u8]) -> Result<Items, NoMemory>
     ensures { IfOk result (λ heads. heads ≡ reading.heads_within adts traits text.now) }
 {
     let mut heads = Items::new(alloc);
