@@ -1,5 +1,5 @@
 pub mod Aligned
-pub mod Code
+pub mod CodeThrough
 pub mod Counting
 pub mod Fit
 pub mod Free

@@ -9,7 +9,7 @@ use Rattle.mir_text.specs.Compared.{AdtSeen, SigSeen, Written, numbered}
 use Rattle.mir_text.specs.Lines.{Line, HeadLine, EndLine, lines_of, line_of_adt, line_of_trait, line_of_impl, line_of_closure, lines_each, lines_of_body}
 use Rattle.mir_text.proofs.Reading.Basics.{Every}
 use Rattle.listing_answers.specs.Beginning.{LineStands, texts}
-use Rattle.listing_answers.proofs.Code.{told_full, EndsBody, EndsAll, bodies_through, bodies_broken}
+use Rattle.listing_answers.proofs.CodeThrough.{told_full, EndsBody, EndsAll, bodies_through, bodies_broken}
 use Rattle.listing_answers.proofs.Heads.{after_adts, after_traits, after_impls}
 use Rattle.listing_answers.proofs.Named.{Extends}
 use Rattle.listing_answers.proofs.Passing.{count_seen, adts_pass, adts_grow, traits_pass, traits_grow, impls_pass, impls_grow, closures_pass, closures_grow, BehindAdts, BehindTraits, BehindImpls, BehindClosures, behind_adts, behind_traits, behind_impls, behind_closures, no_adt_at, no_trait_at, no_impl_at, no_closure_at}

@@ -26,7 +26,7 @@ use Rattle.mir_text.proofs.Reading.Basics.{Every}
 use Rattle.listing_answers.specs.Answers.{blocks_lines, bodies_lines, lines_count}
 use Rattle.listing_answers.specs.Beginning.{LineStands, texts, HasBeginning, Begins, IsListingOf, IsFirstWrong}
 use Rattle.listing_answers.specs.Wrong.{wrong_line}
-use Rattle.listing_answers.proofs.Code.{block_full, blocks_full, told_full}
+use Rattle.listing_answers.proofs.CodeThrough.{block_full, blocks_full, told_full}
 use Rattle.listing_answers.proofs.Fronts.{Fronts, FrontOf, then_front, one_in_front}
 use Rattle.listing_answers.proofs.GraphLines.{adts_front, traits_front, impls_front, closures_front, bodies_front}
 use Rattle.listing_answers.proofs.Heads.{Front, spare, after_adts, after_traits, after_impls, rounds_extend}
