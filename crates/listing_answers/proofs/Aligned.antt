@@ -1,39 +1,30 @@
 -- The items that are read under settled heads have the names of these at their front.
-use Rattle.std.proofs.Common.{◌≡◌, ℕ, zero, suc, ◌+◌, ◌<◌, ◌≤◌, Bool, true, false, List, [], ◌∷◌, ◌++◌, map, take, length, codes, Option, Some, None, decimal, slice_get, refl, ap, sym, subst, ◌∙◌, arith, append_assoc, append-nil, length-append, inl, inr}
-use Rattle.std.specs.Prelude.{◌⊎◌, ⊤}
-use Rattle.std.specs.Str.{is_utf8}
+use Rattle.std.proofs.Common.{◌≡◌, ℕ, zero, suc, ◌+◌, ◌≤◌, true, List, [], ◌∷◌, ◌++◌, map, length, codes, Option, Some, None, decimal, slice_get, refl, ap, sym, subst, ◌∙◌, arith, append_assoc, append-nil, length-append, inl, inr}
+use Rattle.std.specs.Prelude.{◌⊎◌}
 use Rattle.std.proofs.lemmas.List.{map-append}
 use Rattle.std.proofs.lemmas.Option.{same_Some, none-some}
-use Rattle.cfg_graph.specs.WellFormed.NameFaults.{is_name, is_adt_name}
 use Rattle.mir_ty.specs.declared.adt.Adt.{Adt}
 use Rattle.mir_ty.specs.declared.def.TraitDef.{TraitDef}
 use Rattle.mir_ty.specs.declared.ty.Ty.{Ty}
 use Rattle.mir_ty.specs.declared.ty.TyId.{TyId}
 use Rattle.mir_ty.specs.ItemTable.{ItemTable, no_items, type_at, with_adt, with_trait}
 use Rattle.mir_ty.specs.Named.{adt_name, name_of_adt}
-use Rattle.mir_text.specs.Compared.{AdtSeen, VariantSeen, SigSeen, Written}
-use Rattle.mir_text.specs.Items.{copy_text, drop_text, counted}
-use Rattle.mir_text.specs.Lists.{line, in_braces, in_parentheses}
-use Rattle.mir_text.specs.Reading.Words.{Found, bind, or_else, strip}
-use Rattle.mir_text.specs.Types.{form_text, found_text, tuple_text, type_within, type_text, deepest, trait_name, name_of_trait}
-use Rattle.mir_text.proofs.Reading.Basics.{Every, behind7}
-use Rattle.listing_answers.proofs.Free.{feedless, AllFree, both_free, name_free, decimal_free, row_free, braces_free, tuple_free, kind_free, array_free, box_free, copy_free, drop_free}
-use Rattle.listing_answers.proofs.HeadLines.{adt_line_named, trait_line_named}
-use Rattle.listing_answers.proofs.InFront.{EachFrom}
+use Rattle.mir_text.specs.Items.{counted}
+use Rattle.mir_text.specs.Reading.Words.{Found, or_else, strip}
+use Rattle.mir_text.specs.Types.{form_text, found_text, type_within, type_text, deepest, trait_name, name_of_trait}
+use Rattle.mir_text.proofs.Reading.Basics.{Every}
+use Rattle.listing_answers.proofs.Free.{feedless, AllFree, both_free, name_free, decimal_free, tuple_free, kind_free, array_free, box_free}
 use Rattle.listing_answers.proofs.Named.{adt_names, trait_names, length_map}
 use Rattle.listing_answers.proofs.Sections.{every_joined}
 use Rattle.listing_items.specs.ItemReading.{blank_name, blank_behind}
-use Rattle.listing_items.specs.ItemsFound.{written_variant, own_fields, written_shape, written_adt}
 use Rattle.listing_lines.specs.LineReading.{name_read}
 use Rattle.listing_lines.proofs.Sound.{name_sound}
 use Rattle.listing_reader.specs.HeadReading.{behind_feed, named_line, adt_head, trait_head, adt_of, trait_of, one_adt_head, one_trait_head, heads_within}
 use Rattle.listing_sections.specs.SectionReading.{onward, on_within}
-use Rattle.listing_sections.proofs.Onward.{one_more, no_more, keeps}
+use Rattle.listing_sections.proofs.Onward.{one_more, keeps}
 use Rattle.listing_reader.proofs.Settling.{adt_more, trait_more}
-use Rattle.listing_traits.specs.TraitsFound.{written_method}
 use Rattle.listing_types.specs.Table.{under, text_under}
 use Rattle.listing_types.proofs.Complete.{name_all}
-use Rattle.listing_types.proofs.Depth.{is_a_name}
 use Rattle.listing_types.proofs.Splits.{split, same_found}
 
 -- the names of heads have no line feed

@@ -1,5 +1,5 @@
 -- The lines of blocks and bodies are read through, as far as a text has them.
-use Rattle.std.proofs.Common.{◌≡◌, ℕ, zero, suc, ◌+◌, ◌<◌, ◌≤◌, Bool, true, false, List, [], ◌∷◌, ◌++◌, map, take, length, Option, Some, None, refl, ap, sym, subst, ◌∙◌, arith, append_assoc, length-append, inl, inr}
+use Rattle.std.proofs.Common.{◌≡◌, ℕ, zero, suc, ◌+◌, ◌<◌, ◌≤◌, Bool, true, false, List, [], ◌∷◌, ◌++◌, map, take, length, Some, None, refl, ap, sym, subst, ◌∙◌, arith, append_assoc, length-append, inl, inr}
 use Rattle.std.specs.Prelude.{◌⊎◌, ⊤}
 use Rattle.cfg_graph.specs.declared.graph.Block.{Block}
 use Rattle.cfg_graph.specs.declared.graph.Body.{Body}
@@ -25,7 +25,6 @@ use Rattle.listing_code.proofs.Complete.{statements_read, terminators_read, no_s
 use Rattle.listing_lines.specs.LineReading as lines
 use Rattle.listing_lines.proofs.Complete.{blocks_read_, bodies_read_, locals_read_}
 use Rattle.listing_sections.specs.BodyReading.{BodyTold, one_local, locals_read, with_locals, body_read, bodies_read}
-use Rattle.listing_sections.specs.SectionReading.{on_within}
 use Rattle.listing_types.proofs.Splits.{split, same_found}
 
 -- the lines of a block that was read, and of a body

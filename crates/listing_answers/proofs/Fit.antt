@@ -1,8 +1,5 @@
 -- The numbers of a graph whose lines stand fit their fields.
-use Rattle.std.proofs.Common.{◌≡◌, ℕ, zero, suc, ◌<◌, Bool, true, false, List, [], ◌∷◌, ◌++◌, map, length, Option, Some, None, All, IfSome, slice_get, get_or, refl, ap, sym, subst, ◌∙◌, arith}
-use Rattle.std.specs.Prelude.{⊤}
-use Rattle.std.proofs.lemmas.List.Elements.{All-cons, All-nil}
-use Rattle.std.proofs.lemmas.Option.{slice_get_within}
+use Rattle.std.proofs.Common.{◌≡◌, ℕ, zero, suc, ◌<◌, Bool, true, false, List, [], ◌∷◌, ◌++◌, map, length, Some, All, IfSome, slice_get, get_or, refl, arith}
 use Rattle.cfg_graph.specs.declared.graph.Block.{Block}
 use Rattle.cfg_graph.specs.declared.graph.Body.{Body}
 use Rattle.cfg_graph.specs.declared.graph.Graph.{Graph}
@@ -12,11 +9,10 @@ use Rattle.mir_ty.specs.declared.adt.Adt.{Adt}
 use Rattle.mir_ty.specs.declared.def.ClosureDef.{ClosureDef}
 use Rattle.mir_ty.specs.declared.def.ImplDef.{ImplDef}
 use Rattle.mir_ty.specs.declared.ty.Ty.{Ty}
-use Rattle.mir_ty.specs.declared.ty.TyId.{TyId}
 use Rattle.mir_ty.specs.ItemTable.{ItemTable}
 use Rattle.mir_text.specs.Compared.{numbered}
-use Rattle.mir_text.specs.Fields.{Fits, StmtFits, TermFits, BlockFits, BodyFits, TyFits, ItemsFit, GraphFits}
-use Rattle.mir_text.specs.Lines.{Line, adt_in_line, line_of_adt, line_of_impl, line_of_closure, line_of_stmt, line_of_term, line_of_local, lines_of_block, lines_of_body, lines_each}
+use Rattle.mir_text.specs.Fields.{Fits, StmtFits, TermFits, BlockFits, BodyFits, TyFits, GraphFits}
+use Rattle.mir_text.specs.Lines.{adt_in_line, line_of_adt, line_of_impl, line_of_closure, line_of_stmt, line_of_term, line_of_local, lines_of_block, lines_of_body, lines_each}
 use Rattle.mir_text.proofs.Reading.Basics.{Every}
 use Rattle.listing_answers.specs.Beginning.{LineStands}
 use Rattle.listing_answers.proofs.Longest.{adt_lines, trait_lines, impl_lines, closure_lines, body_lines_of}

@@ -1,8 +1,8 @@
 -- Words without a line feed in them.
-use Rattle.std.proofs.Common.{◌≡◌, ℕ, Bool, true, false, not, ◌&&◌, if◌then◌else◌, nat_eq, List, [], ◌∷◌, ◌++◌, map, codes, Option, Some, None, decimal, refl, ap, sym, ◌∙◌, eqb-true}
+use Rattle.std.proofs.Common.{◌≡◌, ℕ, Bool, true, false, not, nat_eq, List, [], ◌∷◌, ◌++◌, map, codes, Option, Some, None, decimal, refl, ap, sym, ◌∙◌, eqb-true}
 use Rattle.std.specs.List.{list_all}
 use Rattle.std.proofs.lemmas.Bool.{and_parts, and_from, false≢true}
-use Rattle.cfg_graph.specs.WellFormed.NameFaults.{stands_in_names, is_name, is_adt_name}
+use Rattle.cfg_graph.specs.WellFormed.NameFaults.{stands_in_names}
 use Rattle.mir_base.specs.declared.int_kind.IntKind.{IntKind}
 use Rattle.mir_ty.specs.ItemTable.{ItemTable}
 use Rattle.mir_text.specs.Items.{copy_text, drop_text}

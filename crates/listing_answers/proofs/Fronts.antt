@@ -1,6 +1,5 @@
 -- What was read of a text are the first lines of the graph that it tells.
-use Rattle.std.proofs.Common.{◌≡◌, ℕ, zero, suc, ◌+◌, ◌<◌, ◌≤◌, Bool, true, false, List, [], ◌∷◌, ◌++◌, map, flat_map, length, codes, Option, Some, None, All, IfSome, decimal, slice_get, refl, ap, sym, subst, ◌∙◌, arith, append_assoc, append-nil, length-append}
-use Rattle.std.specs.Prelude.{⊤}
+use Rattle.std.proofs.Common.{◌≡◌, ℕ, Bool, true, false, List, [], ◌∷◌, ◌++◌, refl, ap, sym, subst, ◌∙◌, append_assoc, append-nil}
 use Rattle.mir_text.specs.Lines.{Line, line_text}
 use Rattle.mir_text.specs.Lists.{line}
 use Rattle.mir_text.proofs.Reading.Basics.{Every}

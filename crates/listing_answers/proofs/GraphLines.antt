@@ -1,9 +1,8 @@
 -- What was read of a text are the first lines of the graph that it tells, and each of its lines stands.
-use Rattle.std.proofs.Common.{◌≡◌, ℕ, zero, suc, ◌+◌, ◌<◌, ◌≤◌, Bool, true, false, List, [], ◌∷◌, ◌++◌, map, flat_map, length, codes, Option, Some, None, All, IfSome, decimal, slice_get, refl, ap, sym, subst, ◌∙◌, arith, append_assoc, append-nil, length-append}
-use Rattle.std.specs.Prelude.{⊤}
+use Rattle.std.proofs.Common.{◌≡◌, ℕ, zero, suc, ◌<◌, Bool, true, false, List, [], ◌∷◌, ◌++◌, map, length, codes, Option, Some, None, All, IfSome, decimal, slice_get, refl, ap, sym, subst, ◌∙◌, arith, append_assoc, append-nil}
 use Rattle.std.specs.Str.{is_utf8}
 use Rattle.std.proofs.lemmas.Bool.{false≢true}
-use Rattle.std.proofs.lemmas.Option.{slice_get_within, get_or_from_slice_get, none-some}
+use Rattle.std.proofs.lemmas.Option.{slice_get_within, get_or_from_slice_get}
 use Rattle.cfg_graph.specs.WellFormed.NameFaults.{is_name, is_adt_name}
 use Rattle.cfg_graph.specs.declared.graph.Block.{Block}
 use Rattle.cfg_graph.specs.declared.graph.Body.{Body}
@@ -19,20 +18,20 @@ use Rattle.mir_ty.specs.declared.def.TraitDef.{TraitDef}
 use Rattle.mir_ty.specs.declared.ty.TyId.{TyId}
 use Rattle.mir_ty.specs.AreItems.{AreItems, AreTypes, IsAdt, IsVariant, IsSig}
 use Rattle.mir_ty.specs.ItemTable.{ItemTable}
-use Rattle.mir_ty.specs.Named.{adt_name, name_of_adt, body_name, sig_name}
+use Rattle.mir_ty.specs.Named.{adt_name, name_of_adt, body_name}
 use Rattle.mir_ty.specs.Parts.{fields_of}
-use Rattle.mir_text.specs.Compared.{AdtSeen, VariantSeen, SigSeen, Written, adt_seen, variant_seen, trait_seen, sig_seen, closure_seen, numbered}
+use Rattle.mir_text.specs.Compared.{VariantSeen, Written, adt_seen, variant_seen, trait_seen, sig_seen, closure_seen, numbered}
 use Rattle.mir_text.specs.Fields.{Fits}
 use Rattle.mir_text.specs.Items.{counted, copy_text, drop_text}
-use Rattle.mir_text.specs.Lines.{Tree, Line, StructLine, EnumLine, TraitLine, ImplLine, ClosureLine, BodyLine, LocalLine, BlockLine, MakeLine, UnsizeLine, StmtLine, VirtualLine, TermLine, line_text, tree_text, tree_of, trees, trees_in_row, variant_of, variant_words, method_of, method_words, adt_in_line, line_of_adt, line_of_trait, line_of_impl, line_of_closure, line_of_stmt, line_of_term, line_of_local, lines_of_block, lines_of_body, lines_each}
+use Rattle.mir_text.specs.Lines.{Line, ImplLine, BodyLine, BlockLine, MakeLine, UnsizeLine, VirtualLine, TermLine, line_text, tree_text, trees, variant_of, variant_words, method_of, method_words, adt_in_line, line_of_adt, line_of_trait, line_of_impl, line_of_closure, line_of_stmt, line_of_term, line_of_local, lines_of_block, lines_of_body, lines_each}
 use Rattle.mir_text.specs.Lists.{line, in_braces, in_parentheses}
 use Rattle.mir_text.specs.Reading.Rows.{after, many, many_within}
-use Rattle.mir_text.specs.Reading.Words.{Found, bind}
+use Rattle.mir_text.specs.Reading.Words.{Found}
 use Rattle.mir_text.specs.Types.{trait_name, name_of_trait}
 use Rattle.mir_text.proofs.Reading.Basics.{Every}
-use Rattle.listing_answers.specs.Beginning.{LineStands, texts}
+use Rattle.listing_answers.specs.Beginning.{LineStands}
 use Rattle.listing_answers.proofs.Fronts.{Fronts, none_in_front, then_front, one_in_front, same_front, broken_off}
-use Rattle.listing_answers.proofs.InFront.{EachFrom, IsOne, StandInFront, in_front}
+use Rattle.listing_answers.proofs.InFront.{EachFrom, IsOne, in_front}
 use Rattle.listing_answers.proofs.Named.{Extends, no_fewer_adts, no_fewer_traits, adt_same, trait_same, adt_name_up, trait_name_up}
 use Rattle.listing_answers.proofs.Standing.{adt_stands, trait_stands, adt_named, word_is, words_are, type_stands, types_stand}
 use Rattle.listing_answers.proofs.Told.{AdtValid, TraitValid, ClosureValid, trait_text, impl_text, closure_text}
@@ -45,14 +44,13 @@ use Rattle.listing_lines.specs.LineReading as lines
 use Rattle.listing_lines.proofs.Sound.{bodies_sound, locals_sound, blocks_sound}
 use Rattle.listing_sections.specs.BodiesRead.{body_told, bodies_told, AreSigned}
 use Rattle.listing_sections.specs.BodyReading.{BodyTold, one_local, locals_read, told, with_locals, body_read}
-use Rattle.listing_sections.specs.SectionReading.{on_within}
 use Rattle.listing_traits.specs.TraitReading.{self_text}
-use Rattle.listing_traits.specs.TraitsFound.{ParamsStand, MethodStands, MethodsStand, written_method}
+use Rattle.listing_traits.specs.TraitsFound.{ParamsStand, MethodsStand, written_method}
 use Rattle.listing_types.specs.Table.{AreRead, under, text_under}
 use Rattle.listing_types.specs.TypesFound.{EachStands}
 use Rattle.listing_types.proofs.Complete.{found_at}
 use Rattle.listing_types.proofs.Splits.{split, same_found}
-use Rattle.listing_types.proofs.Texts.{every_from_all, every_more}
+use Rattle.listing_types.proofs.Texts.{every_from_all}
 
 named_within : {X : Type 0} (xs : List X) (n : ℕ) (name : Option X → List ℕ) → name None ≡ [] → is_name (name (slice_get xs n)) ≡ true → n < length xs
 named_within xs n name none is = by (slice_get xs n) refl is

@@ -1,8 +1,8 @@
 -- The name of a line of a struct, enum or trait is found as a head.
-use Rattle.std.proofs.Common.{◌≡◌, ℕ, Bool, true, false, List, [], ◌∷◌, ◌++◌, map, codes, Option, Some, None, refl, ap, sym, ◌∙◌, append_assoc}
+use Rattle.std.proofs.Common.{◌≡◌, ℕ, Bool, true, List, [], ◌∷◌, ◌++◌, map, codes, Option, Some, refl, ap, sym, ◌∙◌}
 use Rattle.std.specs.Prelude.{⊤}
 use Rattle.std.specs.Str.{is_utf8}
-use Rattle.cfg_graph.specs.WellFormed.NameFaults.{is_name, is_adt_name}
+use Rattle.cfg_graph.specs.WellFormed.NameFaults.{is_name}
 use Rattle.mir_ty.specs.ItemTable.{ItemTable}
 use Rattle.mir_text.specs.Items.{copy_text, drop_text}
 use Rattle.mir_text.specs.Lines.{Tree, Line, HeadLine, StructLine, EnumLine, TraitLine, ImplLine, ClosureLine, BodyLine, LocalLine, BlockLine, MakeLine, UnsizeLine, StmtLine, VirtualLine, TermLine, EndLine, line_text, tree_text, trees_in_row, variant_words, method_words}
@@ -11,9 +11,8 @@ use Rattle.mir_text.specs.Reading.Words.{Found, bind, or_else, strip}
 use Rattle.mir_text.proofs.Reading.Basics.{behind3, behind5, behind7}
 use Rattle.listing_answers.specs.Beginning.{LineStands}
 use Rattle.listing_answers.proofs.Free.{feedless, both_free, behind, row_free, braces_free, each_free, variants_free, methods_free, copy_free, drop_free, name_free}
-use Rattle.listing_items.specs.ItemReading.{blank_behind, blank_name}
+use Rattle.listing_items.specs.ItemReading.{blank_behind}
 use Rattle.listing_lines.proofs.Complete.{name_reads}
-use Rattle.listing_parts.proofs.LineByLine.{strip_whole}
 use Rattle.listing_reader.specs.HeadReading.{behind_feed, named_line, adt_head, trait_head}
 use Rattle.listing_types.proofs.Complete.{name_all}
 use Rattle.listing_types.proofs.Depth.{is_a_name}

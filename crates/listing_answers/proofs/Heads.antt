@@ -1,13 +1,12 @@
 -- The heads that a text is read under have the names of the items of each of its beginnings at their front.
-use Rattle.std.proofs.Common.{◌≡◌, ℕ, zero, suc, ◌+◌, ◌<◌, ◌≤◌, Bool, true, false, min, List, [], ◌∷◌, ◌++◌, map, length, Option, Some, None, refl, ap, sym, subst, ◌∙◌, arith, append_assoc, append-nil, length-append}
-use Rattle.std.specs.Prelude.{⊤}
+use Rattle.std.proofs.Common.{◌≡◌, ℕ, zero, suc, ◌+◌, ◌≤◌, Bool, true, false, List, [], ◌∷◌, ◌++◌, map, length, Option, Some, None, refl, ap, sym, ◌∙◌, arith, append_assoc, append-nil, length-append}
 use Rattle.std.proofs.lemmas.List.{map-append}
 use Rattle.mir_ty.specs.declared.adt.Adt.{Adt}
 use Rattle.mir_ty.specs.declared.def.TraitDef.{TraitDef}
 use Rattle.mir_ty.specs.declared.def.ImplDef.{ImplDef}
 use Rattle.mir_ty.specs.ItemTable.{ItemTable, no_items, with_adt, with_trait}
 use Rattle.mir_text.specs.Compared.{AdtSeen, SigSeen, Written}
-use Rattle.mir_text.specs.Lines.{Line, line_text, adt_in_line, line_of_adt, line_of_trait}
+use Rattle.mir_text.specs.Lines.{line_text, adt_in_line, line_of_adt, line_of_trait}
 use Rattle.mir_text.specs.Lists.{line}
 use Rattle.mir_text.specs.Reading.Words.{Found, bind}
 use Rattle.mir_text.proofs.Reading.Basics.{Every}
@@ -19,7 +18,7 @@ use Rattle.listing_answers.proofs.Sections.{Passes, through, counted_so, never_l
 use Rattle.listing_lines.specs.LineReading.{impl_read, closure_read}
 use Rattle.listing_reader.specs.GraphReading.{none_seen, items_under, fewer, again, heads_after}
 use Rattle.listing_reader.specs.HeadReading.{adt_head, trait_head, adt_of, trait_of, one_adt_head, one_trait_head, heads_within}
-use Rattle.listing_reader.proofs.Settling.{adt_more, trait_more, are_fewer}
+use Rattle.listing_reader.proofs.Settling.{trait_more, are_fewer}
 use Rattle.listing_sections.specs.SectionReading.{ItemsSeen, onward, on_within, as_long_as, one_adt, one_trait, one_impl, one_closure, then_section}
 use Rattle.listing_sections.proofs.Onward.{no_more, keeps}
 use Rattle.listing_traits.specs.TraitReading.{trait_read}

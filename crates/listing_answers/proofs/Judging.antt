@@ -1,8 +1,7 @@
 -- What is answered of the graph that was read is what is to be answered of the text.
-use Rattle.std.proofs.Common.{◌≡◌, ℕ, Bool, List, ◌++◌, Some, None, codes, sym, subst, ◌∙◌}
+use Rattle.std.proofs.Common.{◌≡◌, ℕ, Bool, List, ◌++◌, codes, sym, subst, ◌∙◌}
 use Rattle.std.specs.Prelude.{Result, Ok, Err}
 use Rattle.cfg_graph.specs.declared.graph.Graph.{Graph}
-use Rattle.mir_text.specs.Compared.{IsListed}
 use Rattle.mir_text.specs.Lists.{line}
 use Rattle.mir_text.proofs.InLines.{listing-lines}
 use Rattle.listing_answers.specs.declared.error.ListingError.{ListingError}

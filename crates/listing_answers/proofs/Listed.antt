@@ -1,11 +1,10 @@
 -- Each line of a well formed graph stands.
-use Rattle.std.proofs.Common.{◌≡◌, ℕ, zero, suc, ◌+◌, ◌-◌, ◌^◌, ◌<◌, ◌≤◌, Bool, true, false, ◌&&◌, nat_lt, List, [], ◌∷◌, ◌++◌, map, length, codes, Option, Some, None, All, IfSome, slice_get, get_or, refl, ap, sym, subst, ◌∙◌, arith, append_assoc, length-append, lt-ltb, ltb-true}
-use Rattle.std.specs.Prelude.{⊤, option_and_then}
+use Rattle.std.proofs.Common.{◌≡◌, ℕ, zero, suc, ◌+◌, ◌-◌, ◌^◌, ◌<◌, ◌≤◌, Bool, true, false, ◌&&◌, nat_lt, List, [], ◌∷◌, ◌++◌, map, length, codes, Option, Some, None, All, IfSome, slice_get, refl, ap, sym, subst, ◌∙◌, arith, ltb-true}
+use Rattle.std.specs.Prelude.{option_and_then}
 use Rattle.std.specs.Str.{is_utf8}
-use Rattle.std.specs.List.{list_all}
 use Rattle.std.specs.Option.{option_map_or}
 use Rattle.std.proofs.lemmas.Bool.{and_parts, false≢true}
-use Rattle.std.proofs.lemmas.Option.{none-some, slice_get_within}
+use Rattle.std.proofs.lemmas.Option.{slice_get_within}
 use Rattle.cfg_graph.specs.declared.graph.Block.{Block}
 use Rattle.cfg_graph.specs.declared.graph.Body.{Body}
 use Rattle.cfg_graph.specs.declared.graph.Graph.{Graph}
@@ -26,28 +25,27 @@ use Rattle.mir_ty.specs.declared.def.Sig.{Sig}
 use Rattle.mir_ty.specs.declared.def.TraitDef.{TraitDef}
 use Rattle.mir_ty.specs.declared.ty.Ty.{Ty}
 use Rattle.mir_ty.specs.declared.ty.TyId.{TyId}
-use Rattle.mir_ty.specs.AreItems.{AreItems, AreMethods, IsMethod, IsSelfTy, IsTy, HasParts, types_in}
-use Rattle.mir_ty.specs.ItemTable.{ItemTable, type_at, item_count}
-use Rattle.mir_ty.specs.Named.{adt_name, name_of_adt, body_name, sig_name}
+use Rattle.mir_ty.specs.AreItems.{AreMethods, IsMethod, IsSelfTy, IsTy, types_in}
+use Rattle.mir_ty.specs.ItemTable.{ItemTable}
+use Rattle.mir_ty.specs.Named.{body_name, sig_name}
 use Rattle.mir_ty.specs.Parts.{fields_of}
 use Rattle.mir_text.specs.Compared.{IsListed, numbered}
-use Rattle.mir_text.specs.Fields.{Fits, StmtFits, TermFits, TyFits}
-use Rattle.mir_text.specs.Lines.{Tree, Line, HeadLine, EndLine, BodyLine, tree_text, tree_of, tree_within, found_tree, trees, variant_of, method_of, adt_in_line, line_of_adt, line_of_trait, line_of_impl, line_of_closure, line_of_stmt, line_of_term, line_of_local, lines_of_block, lines_of_body, lines_each, lines_of}
-use Rattle.mir_text.specs.Listing.{listing}
+use Rattle.mir_text.specs.Fields.{Fits, TermFits, TyFits}
+use Rattle.mir_text.specs.Lines.{EndLine, BodyLine, tree_text, tree_of, tree_within, found_tree, trees, variant_of, method_of, adt_in_line, line_of_adt, line_of_trait, line_of_impl, line_of_closure, line_of_stmt, line_of_term, line_of_local, lines_of_block, lines_of_body, lines_each, lines_of}
 use Rattle.mir_text.specs.Types.{trait_name, name_of_trait, deepest}
 use Rattle.mir_text.proofs.InLines.{listing-lines}
 use Rattle.mir_text.proofs.Reading.Basics.{Every}
 use Rattle.mir_text.proofs.Reading.Bodies.{GoodStmt, GoodBlock, GoodBody}
 use Rattle.mir_text.proofs.Reading.Items.{GoodVariant, GoodAdt, GoodSig, GoodTrait, GoodClosure}
-use Rattle.mir_text.proofs.Reading.Lines.{Named, TermNamed}
-use Rattle.mir_text.proofs.Reading.Listed.{every_by, every_from_by, adt_names, trait_names, are_named, good_adts, good_traits, good_closures, impl_holds, adt_no, trait_no, adts_told, traits_told, good_bodies, own_holds}
+use Rattle.mir_text.proofs.Reading.Lines.{TermNamed}
+use Rattle.mir_text.proofs.Reading.Listed.{every_by, adt_names, trait_names, are_named, good_adts, good_traits, good_closures, impl_holds, adt_no, trait_no, adts_told, traits_told, good_bodies, own_holds}
 use Rattle.mir_text.proofs.Reading.Rows.{EveryFrom}
 use Rattle.mir_text.proofs.Reading.Types.{IsShown, shown_parts, every_of}
-use Rattle.listing_answers.specs.Beginning.{LineStands, IsListingOf}
+use Rattle.listing_answers.specs.Beginning.{LineStands}
 use Rattle.listing_answers.specs.Laws.{AreInUtf8, WellFormedIsListed, WellFormedIsNotWrong}
-use Rattle.listing_answers.proofs.Longest.{adt_lines, trait_lines, impl_lines, closure_lines, body_lines_of, from_adts, lines_are}
+use Rattle.listing_answers.proofs.Longest.{adt_lines, trait_lines, impl_lines, closure_lines, body_lines_of, lines_are}
 use Rattle.listing_answers.proofs.Sections.{every_joined}
-use Rattle.listing_answers.proofs.Standing.{all_at, adt_stands, trait_stands, adt_named, form_stands}
+use Rattle.listing_answers.proofs.Standing.{all_at, trait_stands, adt_named, form_stands}
 use Rattle.listing_answers.proofs.Told.{all_from_every}
 use Rattle.listing_code.specs.CodeStands.{AreNames}
 use Rattle.listing_items.specs.ItemsFound.{VariantsStand}

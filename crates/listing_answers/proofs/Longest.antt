@@ -1,7 +1,6 @@
 -- No beginning of a text is longer than what is read of it.
-use Rattle.std.proofs.Common.{◌≡◌, ℕ, zero, suc, ◌+◌, ◌<◌, ◌≤◌, Bool, true, false, List, [], ◌∷◌, ◌++◌, map, take, length, Option, Some, None, refl, ap, sym, subst, ◌∙◌, arith, append_assoc, length-append, inl, inr}
-use Rattle.std.specs.Prelude.{◌⊎◌, ⊤}
-use Rattle.cfg_graph.specs.declared.graph.Block.{Block}
+use Rattle.std.proofs.Common.{◌≡◌, ℕ, suc, ◌+◌, ◌<◌, ◌≤◌, Bool, true, List, [], ◌∷◌, ◌++◌, map, take, length, refl, ap, sym, subst, ◌∙◌, arith, append_assoc, length-append, inl, inr}
+use Rattle.std.specs.Prelude.{◌⊎◌}
 use Rattle.cfg_graph.specs.declared.graph.Graph.{Graph}
 use Rattle.mir_ty.specs.declared.def.ImplDef.{ImplDef}
 use Rattle.mir_ty.specs.ItemTable.{ItemTable}
@@ -13,11 +12,11 @@ use Rattle.listing_answers.proofs.CodeThrough.{told_full, EndsBody, EndsAll, bod
 use Rattle.listing_answers.proofs.Heads.{after_adts, after_traits, after_impls}
 use Rattle.listing_answers.proofs.Named.{Extends}
 use Rattle.listing_answers.proofs.Passing.{count_seen, adts_pass, adts_grow, traits_pass, traits_grow, impls_pass, impls_grow, closures_pass, closures_grow, BehindAdts, BehindTraits, BehindImpls, BehindClosures, behind_adts, behind_traits, behind_impls, behind_closures, no_adt_at, no_trait_at, no_impl_at, no_closure_at}
-use Rattle.listing_answers.proofs.Sections.{Begin, Passes, Read, section, counted_so, never_less, stand_behind}
+use Rattle.listing_answers.proofs.Sections.{Read, section, counted_so, never_less, stand_behind}
 use Rattle.listing_answers.proofs.Until.{PartlyAll, WhollyAll, total, missing, begin_up}
 use Rattle.listing_reader.specs.GraphReading.{none_seen, items_under}
 use Rattle.listing_sections.specs.BodyReading.{BodyTold, body_read, bodies_read}
-use Rattle.listing_sections.specs.SectionReading.{ItemsSeen, on_within, as_long_as, then_section, one_adt, one_trait, one_impl, one_closure}
+use Rattle.listing_sections.specs.SectionReading.{ItemsSeen, then_section, one_adt, one_trait, one_impl, one_closure}
 
 -- the lines of bodies that were read
 abbrev pub tolds_full : List BodyTold → ℕ

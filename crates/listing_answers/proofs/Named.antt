@@ -1,5 +1,5 @@
 -- Items that have the names of others at their front: what stands under these stands under them.
-use Rattle.std.proofs.Common.{◌≡◌, ℕ, zero, suc, ◌<◌, ◌≤◌, Bool, true, false, if◌then◌else◌, List, [], ◌∷◌, ◌++◌, map, length, Option, Some, None, slice_get, refl, ap, sym, subst, ◌∙◌, arith, length-append}
+use Rattle.std.proofs.Common.{◌≡◌, ℕ, zero, suc, ◌<◌, ◌≤◌, Bool, true, false, if◌then◌else◌, List, [], ◌∷◌, ◌++◌, map, length, Some, slice_get, refl, ap, sym, ◌∙◌, arith, length-append}
 use Rattle.std.proofs.lemmas.Option.{same_Some, none-some}
 use Rattle.mir_ty.specs.declared.adt.Adt.{Adt}
 use Rattle.mir_ty.specs.declared.def.TraitDef.{TraitDef}
@@ -15,7 +15,7 @@ use Rattle.listing_answers.specs.Beginning.{LineStands}
 use Rattle.listing_code.specs.CodeStands.{IsAdtName, IsTraitName, StmtLineStands, TermLineStands}
 use Rattle.listing_items.specs.ItemsFound.{VariantsStand}
 use Rattle.listing_parts.specs.Numbers.{adt_no, trait_no}
-use Rattle.listing_traits.specs.TraitsFound.{ParamsStand, MethodStands, MethodsStand}
+use Rattle.listing_traits.specs.TraitsFound.{ParamsStand, MethodsStand}
 use Rattle.listing_types.specs.TypesFound.{Stands, AllStand, EachStands}
 use Rattle.listing_types.proofs.Complete.{found_at}
 

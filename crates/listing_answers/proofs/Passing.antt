@@ -1,5 +1,5 @@
 -- The lines of items, section by section: each is found under heads that have the names, and none of a later section is found by an earlier one.
-use Rattle.std.proofs.Common.{◌≡◌, ℕ, zero, suc, ◌+◌, ◌<◌, ◌≤◌, Bool, true, false, List, [], ◌∷◌, ◌++◌, map, length, Option, Some, None, slice_get, refl, ap, sym, subst, ◌∙◌, arith, append_assoc, length-append}
+use Rattle.std.proofs.Common.{◌≡◌, ℕ, suc, ◌+◌, ◌<◌, Bool, true, false, List, [], ◌∷◌, ◌++◌, map, length, Some, None, slice_get, refl, ap, sym, subst, ◌∙◌, arith, append_assoc, length-append}
 use Rattle.std.specs.Prelude.{⊤}
 use Rattle.std.specs.Str.{is_utf8}
 use Rattle.cfg_graph.specs.WellFormed.NameFaults.{is_name}
@@ -9,7 +9,6 @@ use Rattle.mir_ty.specs.declared.def.ImplDef.{ImplDef}
 use Rattle.mir_ty.specs.declared.def.ClosureDef.{ClosureDef}
 use Rattle.mir_ty.specs.ItemTable.{ItemTable}
 use Rattle.mir_ty.specs.Named.{adt_name}
-use Rattle.mir_ty.specs.Parts.{fields_of}
 use Rattle.cfg_graph.specs.declared.graph.Body.{Body}
 use Rattle.mir_text.specs.Compared.{AdtSeen, SigSeen, Written, numbered}
 use Rattle.mir_text.specs.Lines.{Tree, Line, HeadLine, StructLine, EnumLine, TraitLine, ImplLine, ClosureLine, BodyLine, LocalLine, BlockLine, MakeLine, UnsizeLine, StmtLine, VirtualLine, TermLine, EndLine, line_text, tree_text, trees, variant_of, method_of, adt_in_line, line_of_adt, line_of_trait, line_of_impl, line_of_closure, lines_each, lines_of_body}
@@ -17,7 +16,7 @@ use Rattle.mir_text.specs.Lists.{line}
 use Rattle.mir_text.specs.Reading.Words.{Found, bind}
 use Rattle.mir_text.specs.Types.{trait_name, name_of_trait}
 use Rattle.listing_answers.specs.Beginning.{LineStands}
-use Rattle.listing_answers.proofs.Named.{Extends, length_map, adt_names, trait_names, no_fewer_traits, each_up, variants_up, methods_up, adt_name_up, trait_name_up, trait_same}
+use Rattle.listing_answers.proofs.Named.{Extends, no_fewer_traits, each_up, variants_up, methods_up, adt_name_up, trait_name_up, trait_same}
 use Rattle.listing_answers.proofs.Sections.{Begin, Passes, Grows}
 use Rattle.listing_answers.proofs.Until.{begin_up}
 use Rattle.listing_reader.specs.HeadReading.{adt_head}

@@ -1,24 +1,22 @@
 -- Types of a table that was read stand as trees, and are written as they were read.
-use Rattle.std.proofs.Common.{◌≡◌, ℕ, zero, suc, ◌-◌, ◌^◌, ◌<◌, ◌≤◌, Bool, true, false, List, [], ◌∷◌, ◌++◌, map, length, codes, Option, Some, None, All, decimal, slice_get, get_or, refl, ap, sym, subst, ◌∙◌, arith}
-use Rattle.std.specs.Prelude.{⊤}
-use Rattle.std.proofs.lemmas.Bool.{and_parts, false≢true}
-use Rattle.std.proofs.lemmas.Option.{same_Some, none-some, slice_get_within, get_or_from_slice_get}
+use Rattle.std.proofs.Common.{◌≡◌, ℕ, zero, suc, ◌<◌, true, List, [], ◌∷◌, ◌++◌, map, length, codes, Option, Some, None, All, decimal, slice_get, refl, ap, sym, subst, ◌∙◌, arith}
+use Rattle.std.proofs.lemmas.Option.{none-some, slice_get_within, get_or_from_slice_get}
 use Rattle.cfg_graph.specs.WellFormed.NameFaults.{is_name, is_adt_name}
 use Rattle.mir_ty.specs.declared.adt.Adt.{Adt}
 use Rattle.mir_ty.specs.declared.def.TraitDef.{TraitDef}
 use Rattle.mir_ty.specs.declared.ty.Ty.{Ty}
 use Rattle.mir_ty.specs.declared.ty.TyId.{TyId}
-use Rattle.mir_ty.specs.AreItems.{AreItems, AreTypes, HasParts, types_in, IsTy}
+use Rattle.mir_ty.specs.AreItems.{AreItems, HasParts, types_in, IsTy}
 use Rattle.mir_ty.specs.ItemTable.{ItemTable, type_at}
 use Rattle.mir_ty.specs.Named.{adt_name, name_of_adt}
 use Rattle.mir_text.specs.Fields.{TyFits}
-use Rattle.mir_text.specs.Lines.{Tree, Trees, tree_text, trees_text, trees_of, form_tree, found_tree, tree_within, tree_of, trees}
+use Rattle.mir_text.specs.Lines.{Tree, tree_text, trees_text, trees_of, form_tree, found_tree, tree_within, tree_of, trees}
 use Rattle.mir_text.specs.Types.{tuple_text, form_text, found_text, type_within, type_text, deepest, trait_name, name_of_trait}
 use Rattle.mir_text.proofs.Reading.Basics.{Every}
 use Rattle.listing_answers.proofs.Named.{Extends, no_fewer_adts, no_fewer_traits, adt_same, trait_same}
 use Rattle.listing_code.specs.CodeStands.{IsAdtName, IsTraitName, AreNames}
 use Rattle.listing_code.proofs.Sound.{is_there}
-use Rattle.listing_parts.specs.Numbers.{adt_no, trait_no}
+use Rattle.listing_parts.specs.Numbers.{adt_no}
 use Rattle.listing_types.specs.Table.{AreRead, HasHead, under, text_under}
 use Rattle.listing_types.specs.TypesFound.{Stands, AllStand, EachStands, HasOne}
 use Rattle.listing_types.proofs.Complete.{found_at}

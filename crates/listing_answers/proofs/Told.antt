@@ -1,6 +1,5 @@
 -- The items that a text tells: what stands in front of it, their names, and the heads that they were read under.
-use Rattle.std.proofs.Common.{◌≡◌, ℕ, zero, suc, ◌+◌, ◌<◌, ◌≤◌, Bool, true, false, ◌||◌, if◌then◌else◌, nat_lt, min, List, [], ◌∷◌, ◌++◌, map, length, codes, Option, Some, None, All, IfSome, decimal, get_or, refl, ap, sym, subst, ◌∙◌, arith, append_assoc, append-nil, length-append, inl, inr}
-use Rattle.std.specs.Prelude.{◌⊎◌, ⊤}
+use Rattle.std.proofs.Common.{◌≡◌, ℕ, zero, suc, ◌≤◌, Bool, true, false, ◌||◌, if◌then◌else◌, nat_lt, min, List, [], ◌∷◌, ◌++◌, map, length, codes, Option, Some, None, All, IfSome, decimal, refl, ap, sym, subst, ◌∙◌, arith, append_assoc}
 use Rattle.std.specs.Str.{is_utf8}
 use Rattle.std.proofs.lemmas.List.{map-append}
 use Rattle.std.proofs.lemmas.Option.{none-some}
@@ -11,7 +10,6 @@ use Rattle.mir_ty.specs.declared.adt.Variant.{Variant}
 use Rattle.mir_ty.specs.declared.def.ImplDef.{ImplDef}
 use Rattle.mir_ty.specs.declared.def.Sig.{Sig}
 use Rattle.mir_ty.specs.declared.def.TraitDef.{TraitDef}
-use Rattle.mir_ty.specs.declared.ty.TyId.{TyId}
 use Rattle.mir_ty.specs.ItemTable.{ItemTable, no_items, with_adt, with_trait}
 use Rattle.mir_ty.specs.Named.{adt_name}
 use Rattle.mir_text.specs.Compared.{AdtSeen, VariantSeen, SigSeen, Written, adt_seen, variant_seen, trait_seen, sig_seen, closure_seen}
@@ -22,13 +20,13 @@ use Rattle.mir_text.specs.Lists.{line, in_braces, in_parentheses}
 use Rattle.mir_text.specs.Reading.Words.{Found, bind}
 use Rattle.mir_text.specs.Types.{trait_name}
 use Rattle.mir_text.proofs.Reading.Basics.{Every}
-use Rattle.listing_answers.proofs.Aligned.{HaveFree, heads_free, word_free, words_free, SomeOf, first_of_all}
-use Rattle.listing_answers.proofs.Free.{feedless, AllFree, both_free, name_free, row_free, braces_free}
+use Rattle.listing_answers.proofs.Aligned.{HaveFree, heads_free, word_free, words_free, first_of_all}
+use Rattle.listing_answers.proofs.Free.{AllFree, both_free, name_free, row_free, braces_free}
 use Rattle.listing_answers.proofs.HeadLines.{adt_line_named, trait_line_named}
 use Rattle.listing_answers.proofs.Heads.{after_adts, after_traits, after_impls, adts_stay, traits_stay}
 use Rattle.listing_answers.proofs.InFront.{EachFrom, IsOne, StandInFront, in_front}
 use Rattle.listing_answers.proofs.Named.{Extends, adt_names, trait_names, length_map}
-use Rattle.listing_answers.proofs.Valid.{IsNamed, EnumNamed, gives_adt, BeginsWithSelf, MethodNamed, TraitNamed, gives_trait, closure_fits, ImplValid, gives_impl}
+use Rattle.listing_answers.proofs.Valid.{IsNamed, EnumNamed, gives_adt, MethodNamed, TraitNamed, gives_trait, closure_fits, ImplValid, gives_impl}
 use Rattle.listing_code.specs.CodeStands.{AreNames}
 use Rattle.listing_items.specs.ItemReading.{adt_read}
 use Rattle.listing_items.specs.ItemsFound.{written_variant, own_fields, written_shape, written_adt}
@@ -36,7 +34,7 @@ use Rattle.listing_items.proofs.Sound.{adts_sound}
 use Rattle.listing_lines.specs.LineReading.{impl_read, closure_read}
 use Rattle.listing_lines.proofs.Sound.{closures_sound, impls_sound}
 use Rattle.listing_reader.specs.GraphReading.{none_seen, items_under, fewer, fewer_of, again, heads_after, AreSettled}
-use Rattle.listing_reader.specs.HeadReading.{adt_head, trait_head, adt_of, trait_of, one_adt_head, one_trait_head, heads_within}
+use Rattle.listing_reader.specs.HeadReading.{adt_of, trait_of, one_adt_head, one_trait_head, heads_within}
 use Rattle.listing_reader.proofs.Settling.{adt_more, trait_more}
 use Rattle.listing_sections.specs.SectionReading.{ItemsSeen, on_within, one_adt, one_trait, one_impl, one_closure}
 use Rattle.listing_sections.specs.SectionsRead.{items_seen}

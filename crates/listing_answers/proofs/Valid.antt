@@ -1,32 +1,29 @@
 -- What is found of a line has names that can stand in it, and numbers that fit.
-use Rattle.std.proofs.Common.{◌≡◌, ℕ, zero, suc, ◌<◌, Bool, true, false, if◌then◌else◌, nat_eq, List, [], ◌∷◌, ◌++◌, All, length, codes, Option, Some, None, slice_get, refl, ap, sym, subst, ◌∙◌, arith, eqb-true}
+use Rattle.std.proofs.Common.{◌≡◌, ℕ, ◌<◌, Bool, true, false, if◌then◌else◌, nat_eq, List, [], ◌∷◌, All, length, codes, Some, None, slice_get, refl, subst, eqb-true}
 use Rattle.std.specs.Str.{is_utf8}
 use Rattle.std.proofs.lemmas.Bool.{false≢true}
 use Rattle.std.proofs.lemmas.List.Elements.{All-cons, All-nil}
-use Rattle.std.proofs.lemmas.Option.{same_Some, none-some, slice_get_within}
+use Rattle.std.proofs.lemmas.Option.{none-some, slice_get_within}
 use Rattle.cfg_graph.specs.WellFormed.NameFaults.{is_name, same_name, stands_in_names}
 use Rattle.cfg_graph.specs.declared.graph.Kind.{Kind}
-use Rattle.mir_ty.specs.declared.adt.Adt.{Adt}
 use Rattle.mir_ty.specs.declared.def.ImplDef.{ImplDef}
-use Rattle.mir_ty.specs.declared.def.TraitDef.{TraitDef}
 use Rattle.mir_ty.specs.ItemTable.{ItemTable}
 use Rattle.mir_text.specs.Compared.{AdtSeen, VariantSeen, SigSeen}
 use Rattle.mir_text.specs.Fields.{Fits}
 use Rattle.mir_text.specs.Reading.Lines.{ended}
-use Rattle.mir_text.specs.Reading.Rows.{many, many_within, comma}
-use Rattle.mir_text.specs.Reading.Words.{Found, bind, chosen, as_, strip, span}
+use Rattle.mir_text.specs.Reading.Rows.{many, comma}
+use Rattle.mir_text.specs.Reading.Words.{Found, bind, as_, strip, span}
 use Rattle.listing_code.proofs.Fitting.{Gives, binds, chooses, somes, ases, manies, commas}
-use Rattle.listing_items.specs.ItemReading as reading
 use Rattle.listing_items.specs.ItemReading.{blank_name, blank_behind, variant_from, variant_read, with_more, some_variants, closed_braces, variants_behind, variants_read, marked, struct_from, struct_read, enum_from, enum_read, adt_name_read, marks_read, adt_read}
 use Rattle.listing_lines.specs.LineReading as lines
 use Rattle.listing_lines.specs.LineReading.{due_number, name_read, params_from, local_head, kind_read, rank_from, closure_head, last_number, captures_from, blank_number, known_adt_read, known_trait_read, for_adt, impl_head}
-use Rattle.listing_lines.proofs.Sound.{name_sound, ended_sound, as_sound}
+use Rattle.listing_lines.proofs.Sound.{name_sound}
 use Rattle.listing_parts.specs.Numbers.{adt_no, trait_no}
 use Rattle.listing_traits.specs.TraitReading as traits
 use Rattle.listing_traits.specs.TraitReading.{self_text, self_read, params_read, method_from, method_read, some_methods, methods_behind, methods_read, trait_from, own_head, own_head_from, trait_read, result_from}
 use Rattle.listing_types.specs.TypeReading.{plain_number, type_read, types_read, more_types}
 use Rattle.listing_types.proofs.PlainNumbers.{plain_sound}
-use Rattle.listing_types.proofs.Splits.{split, same_found}
+use Rattle.listing_types.proofs.Splits.{split}
 
 -- a name in UTF-8
 abbrev pub IsNamed : List ℕ → Type 0

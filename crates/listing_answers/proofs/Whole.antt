@@ -1,47 +1,40 @@
 -- The graph that was read: its lines, and what a text is by how far it was read.
 use Rattle.std.proofs.Common.{◌≡◌, ℕ, zero, suc, ◌+◌, ◌-◌, ◌<◌, ◌≤◌, Bool, true, false, List, [], ◌∷◌, ◌++◌, map, take, length, codes, Option, Some, None, All, slice_get, refl, ap, sym, subst, ◌∙◌, arith, append_assoc, append-nil, length-append, inl, inr}
-use Rattle.std.specs.Prelude.{◌⊎◌, ⊤}
 use Rattle.std.proofs.lemmas.Bool.{false≢true}
 use Rattle.std.proofs.lemmas.Option.{same_Some, none-some}
 use Rattle.std.proofs.Math.Seq.{take-append_seam, take-append-add}
 use Rattle.cfg_graph.specs.declared.graph.Block.{Block}
 use Rattle.cfg_graph.specs.declared.graph.Body.{Body}
 use Rattle.cfg_graph.specs.declared.graph.Graph.{Graph}
-use Rattle.cfg_graph.specs.declared.statement.Stmt.{Stmt}
-use Rattle.mir_ty.specs.declared.adt.Adt.{Adt}
 use Rattle.mir_ty.specs.declared.def.ClosureDef.{ClosureDef}
 use Rattle.mir_ty.specs.declared.def.Sig.{Sig}
 use Rattle.mir_ty.specs.declared.def.TraitDef.{TraitDef}
-use Rattle.mir_ty.specs.declared.ty.TyId.{TyId}
 use Rattle.mir_ty.specs.AreItems.{AreItems, AreTypes, IsAdt, IsSig}
 use Rattle.mir_ty.specs.ItemTable.{ItemTable, item_count}
 use Rattle.mir_ty.specs.Named.{body_name, sig_name}
 use Rattle.mir_text.specs.Compared.{numbered, adt_seen, trait_seen, closure_seen}
-use Rattle.mir_text.specs.Lines.{Line, HeadLine, EndLine, line_text, lines_of, lines_each, line_of_adt, line_of_trait, line_of_impl, line_of_closure, line_of_stmt, line_of_term, line_of_local, lines_of_block, lines_of_body}
+use Rattle.mir_text.specs.Lines.{Line, HeadLine, EndLine, lines_of, lines_each, line_of_adt, line_of_trait, line_of_impl, line_of_closure, line_of_stmt, line_of_term, line_of_local, lines_of_block, lines_of_body}
 use Rattle.mir_text.specs.Lists.{line}
-use Rattle.mir_text.specs.Listing.{listing}
 use Rattle.mir_text.specs.Reading.Words.{strip}
-use Rattle.mir_text.proofs.InLines.{listing-lines}
 use Rattle.mir_text.proofs.Reading.Basics.{Every}
 use Rattle.listing_answers.specs.Answers.{blocks_lines, bodies_lines, lines_count}
 use Rattle.listing_answers.specs.Beginning.{LineStands, texts, HasBeginning, Begins, IsListingOf, IsFirstWrong}
 use Rattle.listing_answers.specs.Wrong.{wrong_line}
-use Rattle.listing_answers.proofs.CodeThrough.{block_full, blocks_full, told_full}
+use Rattle.listing_answers.proofs.CodeThrough.{block_full, blocks_full}
 use Rattle.listing_answers.proofs.Fronts.{Fronts, FrontOf, then_front, one_in_front}
 use Rattle.listing_answers.proofs.GraphLines.{adts_front, traits_front, impls_front, closures_front, bodies_front}
 use Rattle.listing_answers.proofs.Heads.{Front, spare, after_adts, after_traits, after_impls, rounds_extend}
 use Rattle.listing_answers.proofs.InFront.{EachFrom}
-use Rattle.listing_answers.proofs.Longest.{adt_lines, trait_lines, impl_lines, closure_lines, body_lines_of, from_bodies, from_closures, from_impls, from_traits, from_adts, lines_are, seen_count, tolds, tolds_full, is_whole, left, Bounded, bounded}
+use Rattle.listing_answers.proofs.Longest.{adt_lines, trait_lines, impl_lines, closure_lines, body_lines_of, from_impls, from_adts, lines_are, seen_count, tolds, tolds_full, is_whole, left, Bounded, bounded}
 use Rattle.listing_answers.proofs.Named.{Extends, length_map}
 use Rattle.listing_answers.proofs.Passing.{count_seen}
 use Rattle.listing_answers.proofs.Sections.{texts-append, every_append, every_joined}
-use Rattle.listing_answers.proofs.Told.{ItemsFront, items_front, are_names, settled_extends, all_from_every}
+use Rattle.listing_answers.proofs.Told.{items_front, are_names, settled_extends, all_from_every}
 use Rattle.listing_answers.proofs.Until.{missing}
-use Rattle.listing_parts.proofs.LineByLine.{strip_sound, strip_whole}
-use Rattle.listing_reader.specs.GraphReading.{items_under, AreSettled, IsTold, IsRead}
-use Rattle.listing_sections.specs.BodiesRead.{bodies_told, body_told, AreSigned}
-use Rattle.listing_sections.specs.BodyReading.{BodyTold, bodies_read}
-use Rattle.listing_sections.specs.SectionsRead.{items_seen}
+use Rattle.listing_parts.proofs.LineByLine.{strip_sound}
+use Rattle.listing_reader.specs.GraphReading.{items_under, IsRead}
+use Rattle.listing_sections.specs.BodiesRead.{bodies_told, AreSigned}
+use Rattle.listing_sections.specs.BodyReading.{bodies_read}
 use Rattle.listing_types.specs.Table.{under, text_under}
 use Rattle.listing_types.proofs.Texts.{every_from_all}
 

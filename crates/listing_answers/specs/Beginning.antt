@@ -1,5 +1,5 @@
 -- When a text begins as a listing, and which line of it is the first wrong one.
-use Rattle.std.specs.Prelude.{◌≡◌, ℕ, zero, suc, ◌+◌, ◌<◌, ◌≤◌, true, List, [], ◌∷◌, ◌++◌, ⊤, All, IfSome, flat_map, length, take}
+use Rattle.std.specs.Prelude.{◌≡◌, ℕ, zero, suc, ◌+◌, ◌<◌, ◌≤◌, true, List, ◌++◌, ⊤, All, IfSome, flat_map, length, take}
 use Rattle.std.specs.Str.{is_utf8}
 use Rattle.mir_ty.specs.AreItems.{AreItems}
 use Rattle.mir_ty.specs.ItemTable.{ItemTable}
