@@ -1,5 +1,5 @@
 -- Heads that are read again are fewer.
-use Rattle.std.proofs.Common.{◌≡◌, ℕ, zero, suc, ◌+◌, ◌≤◌, ◌<◌, Bool, true, false, ◌||◌, if◌then◌else◌, nat_lt, min, List, [], ◌∷◌, length, Option, Some, None, refl, ap, sym, subst, ◌∙◌, arith, length-append, ltb-true, inl, inr}
+use Rattle.std.proofs.Common.{◌≡◌, ℕ, zero, suc, ◌+◌, ◌≤◌, ◌<◌, Bool, true, false, ◌||◌, if◌then◌else◌, nat_lt, min, List, [], ◌∷◌, length, Option, Some, None, refl, ap, sym, ◌∙◌, arith, length-append, ltb-true, inl, inr}
 use Rattle.std.specs.Prelude.{◌⊎◌}
 use Rattle.std.proofs.lemmas.Option.{same_Some, none-some}
 use Rattle.mir_ty.specs.ItemTable.{ItemTable, no_items, with_adt, with_trait}

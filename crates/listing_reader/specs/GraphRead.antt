@@ -1,7 +1,5 @@
 -- What the reader of items answers, as definitions see it.
-use Rattle.std.specs.Prelude.{◌≡◌, ℕ, List, [], Result, IfOk}
-use Rattle.std.specs.Borrow.{Bor}
-use Rattle.mir_base.specs.declared.memory.NoMemory.{NoMemory}
+use Rattle.std.specs.Prelude.{◌≡◌, ℕ, List, []}
 use Rattle.mir_ty.specs.ItemTable.{ItemTable}
 use Rattle.listing_sections.specs.SectionsRead.{items_seen, Drafted}
 use Rattle.listing_reader.specs.GraphReading.{items_under}

@@ -1,11 +1,11 @@
 -- The heads of a listing: the names behind the words of the lines of structs, enums and traits, up to so many of each.
-use Rattle.std.specs.Prelude.{ℕ, false, true, if◌then◌else◌, nat_eq, ◌&&◌, ◌==◌, zero, suc, List, [], ◌∷◌, length, codes, Option, Some, None}
+use Rattle.std.specs.Prelude.{ℕ, false, true, if◌then◌else◌, nat_eq, List, [], ◌∷◌, codes, Some, None}
 use Rattle.mir_ty.specs.declared.adt.Adt.{Adt}
 use Rattle.mir_ty.specs.declared.def.TraitDef.{TraitDef}
 use Rattle.mir_ty.specs.ItemTable.{ItemTable, no_items, with_adt, with_trait}
 use Rattle.mir_text.specs.Reading.Words.{Found, bind, or_else, strip}
 use Rattle.listing_items.specs.ItemReading.{blank_name}
-use Rattle.listing_sections.specs.SectionReading.{ItemsSeen, on_within, items_read}
+use Rattle.listing_sections.specs.SectionReading.{on_within}
 
 -- the text behind the first line feed
 abbrev pub behind_feed : List ℕ → List ℕ

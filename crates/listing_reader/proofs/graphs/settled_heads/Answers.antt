@@ -1,5 +1,5 @@
 -- Heads that are not all read are read again, and are fewer then.
-use Rattle.std.proofs.Common.{rules, ◌≡◌, ℕ, Option, Some}
+use Rattle.std.proofs.Common.{rules, ◌≡◌, ℕ, Some}
 use Rattle.listing_reader.specs.GraphReading.{fewer, items_under}
 use Rattle.listing_reader.specs.HeadReading.{heads_within}
 use Rattle.listing_reader.proofs.Settling.{next_heads, are_less}
