@@ -101,8 +101,12 @@ fn with_found(alloc: Global, table: NameTable, name: Option<&str>) -> Result<Nam
     }
 }
 
-/// The names of all items of a sort, in their order.
-fn names_of(alloc: Global, sort: NameSort, pieces: &[Piece]) -> Result<NameTable, RuleError>
+/// The names of all items of a sort among the parts of a text, in their order.
+///
+/// # Errors
+///
+/// [`RuleError::Memory`] alone, where memory is wanted.
+pub fn names_of(alloc: Global, sort: NameSort, pieces: &[Piece]) -> Result<NameTable, RuleError>
     ensures names { IfOk result (λ names. names ≡ filter_map (sought_by sort) (item_syns (items_of (parts_in pieces.now)))) }
     ensures short { IfErr result (λ e. e ≡ RuleError.Memory) }
 {

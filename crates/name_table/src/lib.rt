@@ -13,3 +13,4 @@ mod known_names;
 mod order;
 
 pub use collected::collect;
+pub use known_names::{NameSort, names_of};

@@ -16,6 +16,9 @@ use Rattle.type_rows.specs.declared.tables.Tables.{Tables}
 abbrev pub adt_words : ItemTable → List Word
 adt_words items = map (λ (adt : Adt). adt.name) items.adts
 
+abbrev pub trait_words : ItemTable → List Word
+trait_words items = map (λ (def : TraitDef). def.name) items.traits
+
 abbrev pub body_words : ItemTable → List Word
 body_words items = map (λ (sig : Sig). sig.name) items.bodies
 
@@ -28,6 +31,7 @@ all_kinds_of kinds = map (map kind_seen) kinds
 -- the tables are those of the items
 pub record IsReady (items : ItemTable) (tables : Tables) : Type 0 where
   pub adts : tables.adt_names ≡ adt_words items
+  pub traits : tables.trait_names ≡ trait_words items
   pub bodies : tables.body_names ≡ body_words items
   pub members : tables.members ≡ all_names items.adts
   pub methods : tables.methods ≡ map method_words items.traits

@@ -13,8 +13,9 @@ pub struct Tables {
     pub traits: NameTable,
     /// How the parts of each variant of each struct and enum are written.
     pub kinds: List<List<FieldKind>>,
-    /// The names of structs and enums, and of bodies, as the items have them.
+    /// The names of structs and enums, of traits, and of bodies, as the items have them.
     pub adt_names: NameTable,
+    pub trait_names: NameTable,
     pub body_names: NameTable,
     /// The names of variants and fields.
     pub members: List<AdtNames>,

@@ -26,6 +26,7 @@ fn no_tables(alloc: Global) -> Tables
         traits: NameTable::new(alloc),
         kinds: List::new(alloc),
         adt_names: NameTable::new(alloc),
+        trait_names: NameTable::new(alloc),
         body_names: NameTable::new(alloc),
         members: List::new(alloc),
         methods: List::new(alloc),

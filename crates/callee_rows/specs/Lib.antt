@@ -1,0 +1,4 @@
+pub mod Callees
+pub mod Closures
+pub mod Numbers
+pub mod Rests

@@ -1,0 +1,230 @@
+//! How a call ends behind its arguments.
+ghost use Rattle.std.specs.Prelude.{◌≡◌, ◌<◌, ◌-◌, ◌==◌, ◌∷◌, true, IfErr, IfOk, OnOk};
+ghost use Rattle.mir_base.specs.declared.int_kind.IntKind.{IntKind};
+ghost use Rattle.mir_base.specs.declared.rule.Rule.{Rule};
+ghost use Rattle.mir_base.specs.declared.rule.RuleError.{RuleError};
+ghost use Rattle.call_rows.specs.Lists.{below_all, last_nodes};
+ghost use Rattle.call_rows.specs.Rests.{call_rest, counted_rest};
+ghost use Rattle.callee_rows.specs.Numbers.{numbers_from};
+ghost use Rattle.callee_rows.specs.Rests.{begun_rest, ending_rest};
+ghost use Rattle.type_rows.specs.Forms.{one_form};
+ghost use Rattle.type_rows.specs.Stand.{Gives, Keeps, Stays, stack, state};
+ghost use Rattle.typed_tree.specs.Tree as tree;
+ghost use Rattle.typing_rules.specs.Places as places;
+ghost use Rattle.typing_rules.specs.Rows as rows;
+
+use crate::begun::{Begun, Ending};
+use call_rows::{Many, box_end, call_end as body_end, take_nodes};
+use item_heads::{broken, obeys, pushed};
+use mir_base::{List, NodeId, Pos, Rule, RuleError};
+use mir_ty::TyId;
+use std::alloc::Global;
+use struct_rows::wrap_make;
+use type_rows::{Checker, Leaf, One};
+
+/// So many numbers from 0 on.
+#[tactic(auto, using(crate::proofs::Numbers::one_more))]
+fn numbers(alloc: Global, count: usize) -> Result<List<Option<u32>>, RuleError>
+    ensures numbers { IfOk result (λ numbers. numbers ≡ numbers_from 0 count) }
+    ensures short { IfErr result (λ e. e ≡ RuleError.Memory) }
+{
+    let mut numbers = List::new(alloc);
+    for number in 0..count {
+        if number > u32::MAX as usize {
+            return Err(RuleError::Memory);
+        }
+        pushed(&mut numbers, Some(number as u32))?;
+    }
+    Ok(numbers)
+}
+
+/// A value of a struct or a variant, without a use, whose parts are the last nodes, so many, in the order of its fields.
+fn wrap_parts(
+    checker: &mut Checker,
+    id: NodeId,
+    at: Pos,
+    ty: TyId,
+    adt: u32,
+    variant: u32,
+    count: usize,
+) -> Result<(), RuleError>
+    ensures made { OnOk result (stack checker.new ≡
+        places.a_node_of id.0 at ty (rows.make adt variant (last_nodes count (stack checker.old))) ∷ below_all count (stack checker.old)) }
+    ensures state { OnOk result (state checker.new ≡ state checker.old) }
+    ensures place { OnOk result (Stays checker.old checker.new) }
+    ensures short { IfErr result (λ e. e ≡ RuleError.Memory) }
+{
+    let numbers = numbers(checker.alloc, count)?;
+    wrap_make(checker, id, at, ty, adt, variant, numbers.as_slice())?;
+    Ok(())
+}
+
+fn fitted_make(
+    checker: &mut Checker,
+    id: NodeId,
+    at: Pos,
+    ty: TyId,
+    adt: u32,
+    variant: u32,
+    count: usize,
+    want: Option<TyId>,
+) -> Result<(), RuleError>
+    ensures gives { Gives (rows.fitted want (places.a_node_of id.0 at ty (rows.make adt variant (last_nodes count (stack checker.old)))) (state checker.old)) result checker.new }
+    ensures kept { Keeps (below_all count (stack checker.old)) checker.old result checker.new }
+{
+    wrap_parts(checker, id, at, ty, adt, variant, count)?;
+    checker.fitted(want)
+}
+
+/// A value of a struct or a variant, whose parts are the last nodes, so many, in the order of its fields.
+fn make_end(
+    checker: &mut Checker,
+    id: NodeId,
+    at: Pos,
+    ty: TyId,
+    adt: u32,
+    variant: u32,
+    count: usize,
+    is_count: bool,
+    want: Option<TyId>,
+) -> Result<(), RuleError>
+    ensures gives { Gives (call_rest id.0 at ty (rows.make adt variant (last_nodes count (stack checker.old))) is_count true want (state checker.old)) result checker.new }
+    ensures kept { Keeps (below_all count (stack checker.old)) checker.old result checker.new }
+{
+    fitted_make(checker, id, at, ty, adt, variant, count, want)?;
+    obeys(Rule::T04, at, is_count)
+}
+
+/// The first of the last nodes, so many, becomes the last one.
+fn first_alone(checker: &mut Checker, count: usize) -> Result<(), RuleError>
+    requires { 0 < count }
+    ensures left { OnOk result (stack checker.new ≡ below_all (count - 1) (stack checker.old)) }
+    ensures state { OnOk result (state checker.new ≡ state checker.old) }
+    ensures place { OnOk result (Stays checker.old checker.new) }
+    ensures short { IfErr result (λ e. e ≡ RuleError.Memory) }
+{
+    let _others = take_nodes(checker, count - 1)?;
+    Ok(())
+}
+
+/// A node around the first of the last nodes, so many; `()` where there is none.
+#[tactic(auto, using(crate::proofs::Numbers::with_first, crate::proofs::Numbers::below_first))]
+fn fitted_given(
+    checker: &mut Checker,
+    id: NodeId,
+    at: Pos,
+    one: One,
+    count: usize,
+    want: Option<TyId>,
+) -> Result<(), RuleError>
+    ensures gives { Gives (rows.fitted want (places.a_node_of id.0 at places.unit (rows.with_one (last_nodes count (stack checker.old)) (one_form one))) (state checker.old)) result checker.new }
+    ensures kept { Keeps (below_all count (stack checker.old)) checker.old result checker.new }
+{
+    if count == 0 {
+        return checker.fitted_leaf(id, at, TyId(0), Leaf::UnitValue, want);
+    }
+    first_alone(checker, count)?;
+    checker.fitted_one(id, at, TyId(0), one, want)
+}
+
+/// A built-in with one parameter.
+fn one_end(
+    checker: &mut Checker,
+    id: NodeId,
+    at: Pos,
+    one: One,
+    count: usize,
+    want: Option<TyId>,
+) -> Result<(), RuleError>
+    ensures gives { Gives (counted_rest id.0 at places.unit (rows.with_one (last_nodes count (stack checker.old)) (one_form one)) Rule.T04 (count == 1) want (state checker.old)) result checker.new }
+    ensures kept { Keeps (below_all count (stack checker.old)) checker.old result checker.new }
+{
+    fitted_given(checker, id, at, one, count, want)?;
+    obeys(Rule::T04, at, count == 1)
+}
+
+/// `ask()`.
+fn ask_end(
+    checker: &mut Checker,
+    id: NodeId,
+    at: Pos,
+    count: usize,
+    want: Option<TyId>,
+) -> Result<(), RuleError>
+    ensures gives { Gives (counted_rest id.0 at (places.int IntKind.I32) tree.Ask Rule.T04 (count == 0) want (state checker.old)) result checker.new }
+    ensures kept { Keeps (below_all count (stack checker.old)) checker.old result checker.new }
+{
+    let _given = take_nodes(checker, count)?;
+    checker.fitted_leaf(id, at, TyId(3), Leaf::Ask, want)?;
+    obeys(Rule::T04, at, count == 0)
+}
+
+/// `Box::new(e)`.
+#[tactic(auto, using(crate::proofs::Numbers::below_first))]
+fn new_box_end(
+    checker: &mut Checker,
+    id: NodeId,
+    at: Pos,
+    content: Option<TyId>,
+    count: usize,
+    want: Option<TyId>,
+) -> Result<(), RuleError>
+    ensures gives { Gives (rows.box_by at id.0 count want content (rows.first_node (last_nodes count (stack checker.old))) (state checker.old)) result checker.new }
+    ensures kept { Keeps (below_all count (stack checker.old)) checker.old result checker.new }
+{
+    if count == 0 {
+        return Err(broken(Rule::T04, at));
+    }
+    first_alone(checker, count)?;
+    box_end(checker, id, at, count, content, want)
+}
+
+fn ended(
+    checker: &mut Checker,
+    id: NodeId,
+    at: Pos,
+    ending: Ending,
+    is_count: bool,
+    count: usize,
+    want: Option<TyId>,
+) -> Result<(), RuleError>
+    ensures gives { Gives (ending_rest id.0 at want ending is_count count (last_nodes count (stack checker.old)) (state checker.old)) result checker.new }
+    ensures kept { Keeps (below_all count (stack checker.old)) checker.old result checker.new }
+{
+    match ending {
+        Ending::Function {
+            body,
+            answer,
+            is_drop,
+        } => {
+            let many = Many::Call(body);
+            body_end(
+                checker, id, at, answer, many, count, is_count, !is_drop, want,
+            )
+        }
+        Ending::Make { adt, variant, ty } => {
+            make_end(checker, id, at, ty, adt, variant, count, is_count, want)
+        }
+        Ending::Print => one_end(checker, id, at, One::Print, count, want),
+        Ending::Ask => ask_end(checker, id, at, count, want),
+        Ending::DropValue => one_end(checker, id, at, One::DropValue, count, want),
+        Ending::Forget => one_end(checker, id, at, One::Forget, count, want),
+        Ending::NewBox(content) => new_box_end(checker, id, at, content, count, want),
+        Ending::Refused => Err(broken(Rule::T13, at)),
+    }
+}
+
+/// How a call ends behind its arguments, which are the last nodes, so many.
+pub fn call_end(
+    checker: &mut Checker,
+    at: Pos,
+    begun: &Begun,
+    count: usize,
+    want: Option<TyId>,
+) -> Result<(), RuleError>
+    ensures gives { (last : tree.Node) → Gives (begun_rest at want begun.now last count (last_nodes count (stack checker.old)) (state checker.old)) result checker.new }
+    ensures kept { Keeps (below_all count (stack checker.old)) checker.old result checker.new }
+{
+    let is_count = count == begun.params.len();
+    ended(checker, begun.id, at, begun.ending, is_count, count, want)
+}

@@ -1,0 +1,4 @@
+pub mod DropBodies
+pub mod KindForms
+pub mod KindWalk
+pub mod Starting

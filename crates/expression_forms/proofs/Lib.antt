@@ -1,0 +1,4 @@
+pub mod Shapes
+pub mod PlaceForms
+pub mod Referring
+pub mod Numbers

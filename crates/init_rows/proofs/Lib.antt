@@ -1,0 +1,3 @@
+pub mod InitForms
+pub mod Tabled
+pub mod Turns

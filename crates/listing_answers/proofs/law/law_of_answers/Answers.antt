@@ -1,0 +1,11 @@
+-- One first wrong line, and none in the listing of a well formed graph.
+use Rattle.listing_answers.proofs.Listed.{well_formed_is_listed, well_formed_is_not_wrong}
+use Rattle.listing_answers.proofs.Unique.{one_first_wrong}
+use Rattle.listing_answers.proofs.law.law_of_answers.Goals as goal
+
+pub returns : goal.returns
+returns c = record {
+  one_line = one_first_wrong;
+  listed = well_formed_is_listed;
+  never_wrong = well_formed_is_not_wrong;
+}

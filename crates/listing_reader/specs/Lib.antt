@@ -1,0 +1,4 @@
+pub mod GraphRead
+pub mod GraphReading
+pub mod HeadReading
+pub mod HeadsRead

@@ -1,0 +1,4 @@
+pub mod CalledMethods
+pub mod Heads
+pub mod Names
+pub mod Steps

@@ -1,0 +1,5 @@
+pub mod Calls
+pub mod Fields
+pub mod Going
+pub mod Methods
+pub mod Rests
