@@ -2,26 +2,17 @@
 use Rattle.std.specs.Prelude.{ℕ, Bool, ◌||◌, not, List, [], ◌∷◌, ◌++◌, if◌then◌else◌}
 use Rattle.mir_base.specs.declared.place_in_text.Pos.{Pos}
 use Rattle.mir_base.specs.declared.rule.Rule.{Rule}
-use Rattle.mir_ty.specs.ItemTable.{ItemTable}
 use Rattle.mir_ty.specs.declared.ty.Ty.{Ty}
 use Rattle.mir_ty.specs.declared.ty.TyId.{TyId}
-use Rattle.src_ast.specs.Syntax.{Receiver, Syn, Word}
+use Rattle.src_ast.specs.Syntax.{Receiver, Syn}
 use Rattle.src_ast.specs.View.{self_name}
-use Rattle.typed_tree.specs.Tree as tree
 use Rattle.typed_tree.specs.Tree.{ParamTree}
 use Rattle.typing_rules.specs.Bodies.{all_rules, is_name_or_wildcard, name_param, param_expected, receiver_ty, self_ty}
 use Rattle.typing_rules.specs.Check.{Check, ◌>>=◌, ◌>>◌, pure, obeys, the_items, interned}
 use Rattle.typing_rules.specs.Patterns.{pattern}
-use Rattle.typing_rules.specs.Places.{a_node_of, used}
-use Rattle.typing_rules.specs.Rows.{taking}
 use Rattle.typing_rules.specs.Scope.{Env, Entry}
 use Rattle.typing_rules.specs.Written.{written, written_param}
 use Rattle.well_typed.specs.Types.{is_reference}
-
--- a parameter that is one name, with this number
-abbrev pub named_tree : ItemTable → ℕ → Pos → Word → TyId → ParamTree
-named_tree items id at name ty =
-    record { pattern = used (taking items ty) (a_node_of id at ty (tree.Binding name)); ty = ty }
 
 -- ---- `self`
 

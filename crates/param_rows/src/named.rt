@@ -1,13 +1,15 @@
 //! Parameters that are one name, `self` among them (The Rust Reference, "Functions", "Methods").
-ghost use Rattle.std.specs.Prelude.{◌≡◌, ◌∷◌, reverse, IfErr, IfOk, OnOk};
+ghost use Rattle.std.specs.Prelude.{◌≡◌, ◌∷◌, reverse, IfErr, OnOk};
 ghost use Rattle.mir_base.specs.declared.rule.RuleError.{RuleError};
 ghost use Rattle.src_ast.specs.PartForms.{receiver_seen};
 ghost use Rattle.src_ast.specs.View.{self_name};
-ghost use Rattle.type_rows.specs.Stand.{GivesValue, Same, env, state};
-ghost use Rattle.typed_tree.specs.View.{param_tree};
+ghost use Rattle.type_rows.specs.Stand.{GivesValue, Keeps, Same, Stays, env, stack, state};
+ghost use Rattle.typed_tree.specs.Tree as tree;
 ghost use Rattle.typing_rules.specs.Bodies as bodies;
-ghost use Rattle.param_rows.specs.Answers.{GivesParam};
-ghost use Rattle.param_rows.specs.Rests.{named_tree, receiver_rest, self_param_of, self_rest};
+ghost use Rattle.typing_rules.specs.Places.{a_node_of, used};
+ghost use Rattle.typing_rules.specs.Rows as rows;
+ghost use Rattle.param_rows.specs.Answers.{GivesNamed, GivesParam};
+ghost use Rattle.param_rows.specs.Rests.{receiver_rest, self_param_of, self_rest};
 
 use item_heads::broken;
 use mir_base::{Key, Name, NoMemory, NodeId, Pos, Rule, RuleError};
@@ -16,46 +18,48 @@ use name_rows::adt_at_head;
 use src_ast::Receiver;
 use type_env::{Meaning, Variable, Variables, taking};
 use type_rows::Checker;
-use typed_tree::{Form, Node, Param};
+use typed_tree::Form;
 
-#[tactic(auto, using(type_rows::proofs::Nodes::shape))]
-fn named(
-    checker: &Checker,
+/// The pattern of a parameter that is one name.
+fn put_name(
+    checker: &mut Checker,
     id: NodeId,
     at: Pos,
     name: &str,
     ty: TyId,
-) -> Result<Param, RuleError>
-    ensures made { IfOk result (λ p. param_tree p ≡ named_tree checker.now.walk.items id.0 at name.now ty) }
+) -> Result<(), RuleError>
+    ensures made { OnOk result (stack checker.new ≡
+        used (rows.taking checker.old.walk.items ty) (a_node_of id.0 at ty (tree.Binding name.now)) ∷ stack checker.old) }
+    ensures state { OnOk result (state checker.new ≡ state checker.old) }
+    ensures place { OnOk result (Stays checker.old checker.new) }
     ensures short { IfErr result (λ e. e ≡ RuleError.Memory) }
 {
     let by = taking(&checker.walk.items, ty);
     let Ok(name) = Name::from_str(checker.alloc, name) else {
         return Err(RuleError::Memory);
     };
-    let pattern = Node {
-        id,
-        at,
-        ty,
-        by: Some(by),
-        form: Form::Binding(name),
-    };
-    Ok(Param { pattern, ty })
+    checker.put(id, at, ty, Form::Binding(name))?;
+    checker.use_last(by)
 }
 
-/// A parameter that is one name, whose entry has the number of its node.
+/// A parameter that is one name: its pattern is the last node, and its entry has the number of that node, which is
+/// answered.
+///
+/// # Errors
+///
+/// [`RuleError::Memory`] alone, where memory is wanted.
 pub fn name_param(
     checker: &mut Checker,
     at: Pos,
     name: &str,
     ty: TyId,
-) -> Result<Param, RuleError>
-    ensures gives { GivesValue (λ p. (param_tree p, bodies.name_entry name.now ty (state checker.old).next_node))
-        (bodies.name_param at name.now ty (state checker.old)) result checker.new }
-    ensures same { Same checker.old checker.new }
+) -> Result<NodeId, RuleError>
+    ensures gives { GivesNamed (bodies.name_param at name.now ty (state checker.old)) name.now ty result checker.new }
+    ensures kept { Keeps (stack checker.old) checker.old result checker.new }
 {
     let id = checker.number()?;
-    named(checker, id, at, name, ty)
+    put_name(checker, id, at, name, ty)?;
+    Ok(id)
 }
 
 /// `self` is entered under its key.
@@ -88,13 +92,13 @@ fn self_named(
     bound: &mut Variables,
     at: Pos,
     ty: TyId,
-) -> Result<Param, RuleError>
+) -> Result<TyId, RuleError>
     ensures gives { GivesParam (self_rest at ty (reverse bound.old) (state checker.old)) result bound.new checker.new }
-    ensures same { OnOk result (Same checker.old checker.new) }
+    ensures kept { Keeps (stack checker.old) checker.old result checker.new }
 {
-    let id = checker.number()?;
+    let id = name_param(checker, at, "self", ty)?;
     enter_self(checker, bound, id, ty)?;
-    named(checker, id, at, "self", ty)
+    Ok(ty)
 }
 
 fn self_ty(checker: &mut Checker, receiver: Receiver, own: TyId) -> Result<TyId, RuleError>
@@ -126,15 +130,19 @@ fn receiver_ty(checker: &mut Checker, at: Pos, receiver: Receiver) -> Result<TyI
     }
 }
 
-/// `self`, `&self` or `&mut self`.
+/// `self`, `&self` or `&mut self`: its pattern is the last node, its type is answered, and its binding is noted.
+///
+/// # Errors
+///
+/// T01 at the place of the parameter where no `impl` is around; [`RuleError::Memory`] where memory is wanted.
 pub fn self_param(
     checker: &mut Checker,
     bound: &mut Variables,
     at: Pos,
     receiver: Receiver,
-) -> Result<Param, RuleError>
+) -> Result<TyId, RuleError>
     ensures gives { GivesParam (self_param_of (env checker.old) at (receiver_seen receiver) (reverse bound.old) (state checker.old)) result bound.new checker.new }
-    ensures same { OnOk result (Same checker.old checker.new) }
+    ensures kept { Keeps (stack checker.old) checker.old result checker.new }
 {
     let ty = receiver_ty(checker, at, receiver)?;
     self_named(checker, bound, at, ty)

@@ -1,30 +1,36 @@
 //! The parameters of a function, a method or a closure.
-ghost use Rattle.std.specs.Prelude.{◌≡◌, reverse, OnOk};
+ghost use Rattle.std.specs.Prelude.{◌≡◌, reverse};
 ghost use Rattle.src_ast.specs.Seen.{nodes_of, syn_of};
-ghost use Rattle.type_rows.specs.Stand.{Same, env, state};
+ghost use Rattle.type_rows.specs.Stand.{Keeps, env, stack, state};
 ghost use Rattle.typing_rules.specs.Bodies as bodies;
-ghost use Rattle.param_rows.specs.Answers.{GivesParam, GivesParams};
+ghost use Rattle.param_rows.specs.Answers.{GivesParam, GivesParams, KeepsBelow};
 ghost use Rattle.param_rows.specs.Rests.{type_by};
 
 use crate::named::self_param;
 use crate::patterns::typed_param;
 use item_heads::{broken, pushed};
 use mir_base::{List, Rule, RuleError};
+use mir_ty::TyId;
 use src_ast::{Nodes, ParamForm, param_form};
 use src_tree::Node;
 use type_env::Variables;
 use type_rows::Checker;
-use typed_tree::Param;
 
-/// A parameter; `may_refer` where its type may be a reference, as that of a function may. Its bindings are noted.
+/// A parameter: its pattern is the last node, its type is answered, and its bindings are noted behind those in `bound`.
+/// `may_refer` is for the parameters of functions and methods, whose types may be references.
+///
+/// # Errors
+///
+/// The first rule that it breaks, T08 where a reference has a pattern that is neither a name nor `_`, with its place;
+/// [`RuleError::Memory`] where memory is wanted.
 pub fn param(
     checker: &mut Checker,
     bound: &mut Variables,
     may_refer: bool,
     node: &Node,
-) -> Result<Param, RuleError>
+) -> Result<TyId, RuleError>
     ensures gives { GivesParam (bodies.param (env checker.old) (type_by (env checker.old) may_refer) (syn_of node.now) (reverse bound.old) (state checker.old)) result bound.new checker.new }
-    ensures same { OnOk result (Same checker.old checker.new) }
+    ensures kept { Keeps (stack checker.old) checker.old result checker.new }
 {
     let at = node.at;
     match param_form(node) {
@@ -36,22 +42,27 @@ pub fn param(
     }
 }
 
-/// Parameters in their order.
+/// Parameters in their order: their patterns are the last nodes, their types are answered, and their bindings are noted
+/// behind those in `bound`.
+///
+/// # Errors
+///
+/// As [`param`], at the first parameter that breaks a rule.
 pub fn params_of(
     checker: &mut Checker,
     bound: &mut Variables,
     may_refer: bool,
     params: Nodes,
-) -> Result<List<Param>, RuleError>
+) -> Result<List<TyId>, RuleError>
     ensures gives { GivesParams (bodies.params_of (env checker.old) (type_by (env checker.old) may_refer) (nodes_of params.entry) (reverse bound.old) (state checker.old)) result bound.new checker.new }
-    ensures same { OnOk result (Same checker.old checker.new) }
+    ensures kept { KeepsBelow (stack checker.old) checker.old result checker.new }
 {
-    let mut made = List::new(checker.alloc);
+    let mut tys = List::new(checker.alloc);
     let mut rest = params;
     while let Some(split) = rest.split_first() {
-        let param = param(checker, bound, may_refer, split.first)?;
-        pushed(&mut made, param)?;
+        let ty = param(checker, bound, may_refer, split.first)?;
+        pushed(&mut tys, ty)?;
         rest = split.rest;
     }
-    Ok(made)
+    Ok(tys)
 }

@@ -1,7 +1,7 @@
 //! Parameters that are patterns (The Rust Reference, "Function parameters").
 ghost use Rattle.std.specs.Prelude.{◌≡◌, ◌||◌, not, reverse, OnOk};
 ghost use Rattle.src_ast.specs.Seen.{syn_of};
-ghost use Rattle.type_rows.specs.Stand.{GivesValue, Same, env, state};
+ghost use Rattle.type_rows.specs.Stand.{GivesValue, Keeps, Same, env, stack, state};
 ghost use Rattle.typing_rules.specs.Bodies as bodies;
 ghost use Rattle.well_typed.specs.Types as types;
 ghost use Rattle.param_rows.specs.Answers.{GivesParam};
@@ -16,7 +16,6 @@ use src_ast::{PatternForm, pattern_form};
 use src_tree::Node;
 use type_env::{Variables, is_reference};
 use type_rows::Checker;
-use typed_tree::Param;
 use written_rows::{written, written_param};
 
 /// Whether a pattern is one name or `_`, in parentheses or not.
@@ -44,17 +43,16 @@ fn part_param(
     bound: &mut Variables,
     ty: TyId,
     pattern: &Node,
-) -> Result<Param, RuleError>
+) -> Result<TyId, RuleError>
     ensures gives { GivesParam (part_rest (env checker.old) ty (syn_of pattern.now) (reverse bound.old) (state checker.old)) result bound.new checker.new }
-    ensures same { OnOk result (Same checker.old checker.new) }
+    ensures kept { Keeps (stack checker.old) checker.old result checker.new }
 {
     let e = Expected {
         is_fixed: false,
         takes_all: true,
     };
     check_pattern(checker, bound, e, ty, pattern)?;
-    let pattern = checker.pop()?;
-    Ok(Param { pattern, ty })
+    Ok(ty)
 }
 
 fn pattern_param(
@@ -63,9 +61,9 @@ fn pattern_param(
     at: Pos,
     ty: TyId,
     pattern: &Node,
-) -> Result<Param, RuleError>
+) -> Result<TyId, RuleError>
     ensures gives { GivesParam (pattern_rest (env checker.old) at ty (syn_of pattern.now) (reverse bound.old) (state checker.old)) result bound.new checker.new }
-    ensures same { OnOk result (Same checker.old checker.new) }
+    ensures kept { Keeps (stack checker.old) checker.old result checker.new }
 {
     let may = may_have(&checker.walk.items, ty, pattern);
     obeys(Rule::T08, at, may)?;
@@ -92,9 +90,9 @@ pub fn typed_param(
     may_refer: bool,
     pattern: &Node,
     ty: &Node,
-) -> Result<Param, RuleError>
+) -> Result<TyId, RuleError>
     ensures gives { GivesParam (typed_param_of (env checker.old) at may_refer (syn_of pattern.now) (syn_of ty.now) (reverse bound.old) (state checker.old)) result bound.new checker.new }
-    ensures same { OnOk result (Same checker.old checker.new) }
+    ensures kept { Keeps (stack checker.old) checker.old result checker.new }
 {
     let ty = param_ty(checker, may_refer, ty)?;
     pattern_param(checker, bound, at, ty, pattern)
