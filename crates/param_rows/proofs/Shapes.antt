@@ -1,5 +1,5 @@
 -- Nodes by the forms that are borrowed from them: what a definition says of a node is what it says of its form.
-use Rattle.std.proofs.Common.{◌≡◌, Bool, List, Option, Some, None, refl, ap, sym, ◌∙◌}
+use Rattle.std.proofs.Common.{◌≡◌, Bool, List, refl, ap, sym, ◌∙◌}
 use Rattle.mir_base.specs.declared.place_in_text.Pos.{Pos}
 use Rattle.src_tree.specs.declared.node.Node.{Node}
 use Rattle.src_ast.specs.PartForms.{param_of}

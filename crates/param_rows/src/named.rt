@@ -48,12 +48,7 @@ fn put_name(
 /// # Errors
 ///
 /// [`RuleError::Memory`] alone, where memory is wanted.
-pub fn name_param(
-    checker: &mut Checker,
-    at: Pos,
-    name: &str,
-    ty: TyId,
-) -> Result<NodeId, RuleError>
+pub fn name_param(checker: &mut Checker, at: Pos, name: &str, ty: TyId) -> Result<NodeId, RuleError>
     ensures gives { GivesNamed (bodies.name_param at name.now ty (state checker.old)) name.now ty result checker.new }
     ensures kept { Keeps (stack checker.old) checker.old result checker.new }
 {
