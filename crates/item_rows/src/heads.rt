@@ -3,7 +3,7 @@
 ghost use Rattle.std.specs.Prelude.{◌≡◌, ◌&&◌};
 ghost use Rattle.typing_rules.specs.Program as rules;
 ghost use Rattle.well_typed.specs.Types.{are_same as are_same_by, is_same};
-ghost use Rattle.item_rows.specs.Heads.{sig_seen};
+ghost use Rattle.std.specs.Option.{option_copied};
 
 use mir_ty::{Items, Sig, TyId};
 use type_env::{is_reference, is_unit, reference_of};
@@ -68,7 +68,7 @@ fn has_same_types(items: &Items, method: &Sig, sig: &Sig) -> bool
 
 /// Whether a method has the head that its trait asks for.
 pub fn is_same_head(items: &Items, method: Option<&Sig>, sig: Option<&Sig>) -> bool
-    ensures { result ≡ rules.is_same_head items.now (sig_seen method.entry) (sig_seen sig.entry) }
+    ensures { result ≡ rules.is_same_head items.now (option_copied method.entry) (option_copied sig.entry) }
 {
     match (method, sig) {
         (Some(method), Some(sig)) => has_same_types(items, method, sig),
@@ -87,7 +87,7 @@ fn is_one_unique(items: &Items, params: &[TyId]) -> bool
 
 /// Whether a head is that of `fn drop(&mut self)`.
 pub fn is_drop_sig(items: &Items, sig: Option<&Sig>) -> bool
-    ensures { result ≡ rules.is_drop_sig items.now (sig_seen sig.entry) }
+    ensures { result ≡ rules.is_drop_sig items.now (option_copied sig.entry) }
 {
     match sig {
         Some(sig) => is_one_unique(items, sig.params.as_slice()) && is_unit(items, sig.result),
