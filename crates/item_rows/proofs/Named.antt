@@ -1,5 +1,5 @@
 -- Names of traits and of their methods, by tables.
-use Rattle.std.proofs.Common.{◌≡◌, ◌≤◌, rules, ℕ, ◌+◌, Bool, true, false, cond, not, nat_lt, if◌then◌else◌, List, [], ◌∷◌, map, length, Option, Some, None, slice_get, refl, ap, sym, ◌∙◌, arith}
+use Rattle.std.proofs.Common.{◌≡◌, ◌≤◌, ℕ, ◌+◌, Bool, true, false, cond, not, nat_lt, if◌then◌else◌, List, [], ◌∷◌, map, length, Option, Some, None, slice_get, refl, ap, sym, ◌∙◌, arith}
 use Rattle.std.proofs.lemmas.List.{length-map}
 use Rattle.std.proofs.lemmas.List.Folds.{find_at}
 use Rattle.std.specs.Cmp.Lexicographic.{nat_list_eq_equiv}
