@@ -9,6 +9,8 @@ mod listings;
 #[cfg(test)]
 mod reading;
 #[cfg(test)]
+mod read_listings;
+#[cfg(test)]
 mod syntax;
 #[cfg(test)]
 mod tokens;
