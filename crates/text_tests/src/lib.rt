@@ -7,9 +7,9 @@ mod bits;
 #[cfg(test)]
 mod listings;
 #[cfg(test)]
-mod reading;
-#[cfg(test)]
 mod read_listings;
+#[cfg(test)]
+mod reading;
 #[cfg(test)]
 mod syntax;
 #[cfg(test)]

@@ -61,6 +61,7 @@ static CHANGED: &[(usize, &str, Answer)] = &[
     (13, "_1 = make E 0 (const 7_i32)\n", Answer::Wrong(13)),
     (13, "_1 = make D 0 (const 7_u32)\n", Answer::Fault(3, 13)),
     (13, "\n", Answer::Wrong(13)),
+    (13, "", Answer::Whole),
     (14, "drop _1 then 7 unwind resume\n", Answer::Fault(1, 14)),
     (14, "drop _9 then 1 unwind resume\n", Answer::Fault(2, 14)),
     (14, "drop _9 then 7 unwind resume\n", Answer::Fault(1, 14)),
@@ -75,8 +76,13 @@ static CHANGED: &[(usize, &str, Answer)] = &[
 const EACH: &str = "mirdrop 1
 struct D (i32) drop 0
 struct P (i32, bool) copy
+struct Unit ()
 enum Größe { A (), 名 (D, u64) }
+enum Never { } copy
+enum Way { On (), Off () } drop 6
+trait Empty { }
 trait T { m (&dyn T, i32) (), k (&mut dyn T) bool }
+impl Empty for D
 impl T for P 2 3
 closure 0 (D) 4
 body 0 D::drop 1
@@ -182,6 +188,30 @@ local 1 closure#0
 block 0 plain rank 0
 _0 = const ()
 return
+body 5 reckoned 0
+local 0 i64
+local 1 bool
+block 0 plain rank 4
+_1 = ne const 1_i64 const -2_i64
+_1 = lt const 3_i64 const 0_i64
+_1 = le copy _1 const false
+_1 = gt copy _0 copy _0
+_1 = ge copy _0 copy _0
+_0 = sub const 1_i64 const 2_i64 then 1 unwind resume
+block 1 plain rank 3
+_0 = mul copy _0 copy _0 then 2 unwind resume
+block 2 plain rank 2
+_0 = div copy _0 copy _0 then 3 unwind resume
+block 3 plain rank 1
+_0 = rem copy _0 copy _0 then 4 unwind resume
+block 4 plain rank 0
+panic match unwind abort
+body 6 Way::drop 1
+local 0 ()
+local 1 &mut Way
+block 0 plain rank 0
+_0 = const ()
+return
 end
 ";
 
@@ -205,9 +235,25 @@ static TEXTS: &[(&str, Answer)] = &[
         "mirdrop 1\ntrait T { m (&dyn U) () }\ntrait U { }\nend\n",
         Answer::Wrong(2),
     ),
+    (
+        "mirdrop 1\nstruct A (i32)\nenum A { }\nend\n",
+        Answer::Fault(7, 3),
+    ),
+    (
+        "mirdrop 1\nstruct A ()\ntrait T { }\nimpl T for A\nimpl T for A\nend\n",
+        Answer::Fault(7, 5),
+    ),
+    (
+        "mirdrop 1\nbody 0 main 0\nlocal 0 ()\nlocal 1 i32\nblock 0 plain rank 1\npanic match unwind 1\nblock 1 cleanup rank 0\ndrop _1 then 1 unwind resume\nend\n",
+        Answer::Fault(4, 8),
+    ),
+    (
+        "mirdrop 1\nbody 0 main 0\nlocal 0 ()\nlocal 1 i32\nblock 0 plain rank 2\npanic match unwind 1\nblock 1 cleanup rank 1\ndrop _1 then 2 unwind resume\nblock 2 cleanup rank 0\nresume\nend\n",
+        Answer::Fault(5, 8),
+    ),
 ];
 
-fn answer(alloc: Global, text: &[u8]) -> Answer {
+fn answer_of(alloc: Global, text: &[u8]) -> Answer {
     match read_listing(alloc, text) {
         Ok(_graph) => Answer::Whole,
         Err(ListingError::BadListing { line }) => Answer::Wrong(line),
@@ -254,7 +300,7 @@ fn lines_of_each_form(rt: HostRuntime) -> Result<(), Fail> {
 fn lines_that_are_changed(rt: HostRuntime) -> Result<(), Fail> {
     for row in CHANGED {
         let text = changed(rt.alloc(), row.0, row.1)?;
-        assert!(rt; answer(rt.alloc(), &text) == row.2);
+        assert!(rt; answer_of(rt.alloc(), &text) == row.2);
     }
     Ok(())
 }
@@ -262,17 +308,19 @@ fn lines_that_are_changed(rt: HostRuntime) -> Result<(), Fail> {
 #[test]
 fn texts(rt: HostRuntime) -> Result<(), Fail> {
     for row in TEXTS {
-        assert!(rt; answer(rt.alloc(), row.0.as_bytes()) == row.1);
+        assert!(rt; answer_of(rt.alloc(), row.0.as_bytes()) == row.1);
     }
     Ok(())
 }
 
 #[test]
 fn texts_that_end_too_early(rt: HostRuntime) -> Result<(), Fail> {
-    let text = changed(rt.alloc(), 0, "")?;
+    let text = EACH.as_bytes();
     let mut line = 1;
     for (n, byte) in text.iter().enumerate() {
-        assert!(rt; answer(rt.alloc(), &text[..n]) == Answer::Wrong(line));
+        if n % 7 == 0 || *byte == b'\n' {
+            assert!(rt; answer_of(rt.alloc(), &text[..n]) == Answer::Wrong(line));
+        }
         if *byte == b'\n' {
             line += 1;
         }
