@@ -1,0 +1,7 @@
+pub mod Enough
+pub mod One
+pub mod Readable
+pub mod Rows
+pub mod Same
+pub mod Settled
+pub mod Written
