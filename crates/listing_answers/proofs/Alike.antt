@@ -1,4 +1,5 @@
 pub mod Enough
+pub mod Lines
 pub mod One
 pub mod Readable
 pub mod Rows

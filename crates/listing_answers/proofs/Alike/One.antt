@@ -18,19 +18,16 @@ use Rattle.mir_text.specs.Items.{adt_line, trait_line, impl_line, closure_line, 
 use Rattle.mir_text.specs.Lists.{line}
 use Rattle.mir_text.specs.Listing.{whole_body_text, listing}
 use Rattle.mir_text.specs.Types.{type_text}
-use Rattle.mir_text.specs.Reading.Words.{place_in}
 use Rattle.mir_text.proofs.Reading.Basics.{Found, strip, behind3, behind4}
 use Rattle.mir_text.proofs.Reading.Rows.{EveryFrom, many, flat_counted, none_before}
 use Rattle.mir_text.proofs.Reading.Bodies.{BodyRead, body_read_seen, body_read, bodies_read}
 use Rattle.mir_text.proofs.Reading.Items.{adt_read, adts_read, trait_read, traits_read, impl_read, impls_read, closure_read, closures_read}
 use Rattle.mir_text.proofs.Reading.Listed.{every_from_by, own_holds, are_named, good_adts, good_traits, good_impls, good_closures, good_bodies, adt_no, trait_no, adts_told, traits_told, sig_holds}
 use Rattle.mir_text.proofs.Reading.Law.{one_id}
-use Rattle.mir_text.proofs.Reading.Parts.{every_from_all}
 use Rattle.mir_ty.specs.declared.adt.Adt.{Adt}
 use Rattle.mir_ty.specs.declared.def.ClosureDef.{ClosureDef}
-use Rattle.mir_ty.specs.declared.def.ImplDef.{ImplDef}
 use Rattle.mir_ty.specs.declared.def.TraitDef.{TraitDef}
-use Rattle.mir_ty.specs.Named.{adt_name, body_name, name_of_adt}
+use Rattle.mir_ty.specs.Named.{adt_name, name_of_adt}
 use Rattle.mir_text.specs.Types.{trait_name, name_of_trait}
 use Rattle.cfg_graph.specs.WellFormed.Faults.{IsWellFormed}
 use Rattle.cfg_graph.specs.WellFormed.LineFaults.{body_tests}

@@ -1,8 +1,7 @@
 -- A graph that was read, whose names stand in a listing and tell what they name.
-use Rattle.std.proofs.Common.{◌≡◌, ℕ, suc, ◌^◌, ◌<◌, ◌≤◌, true, false, ◌+◌, List, [], ◌∷◌, map, length, Some, Option, All, IfSome, nat_lt, slice_get, refl, ap, sym, subst, arith, ltb-true, lt-ltb}
+use Rattle.std.proofs.Common.{◌≡◌, ℕ, ◌^◌, ◌<◌, ◌≤◌, true, ◌+◌, List, [], ◌∷◌, length, Some, Option, All, IfSome, nat_lt, slice_get, sym, subst, arith, lt-ltb}
 use Rattle.std.specs.Prelude.{⊤}
 use Rattle.std.specs.List.{list_all}
-use Rattle.std.proofs.lemmas.Option.{slice_get_within}
 use Rattle.mir_ty.specs.declared.adt.Adt.{Adt}
 use Rattle.mir_ty.specs.declared.adt.Variant.{Variant}
 use Rattle.mir_ty.specs.declared.def.ClosureDef.{ClosureDef}

@@ -4,7 +4,6 @@ use Rattle.mir_ty.specs.declared.adt.Adt.{Adt}
 use Rattle.mir_ty.specs.declared.def.ClosureDef.{ClosureDef}
 use Rattle.mir_ty.specs.declared.def.Sig.{Sig}
 use Rattle.mir_ty.specs.declared.def.TraitDef.{TraitDef}
-use Rattle.mir_ty.specs.declared.ty.TyId.{TyId}
 use Rattle.mir_ty.specs.ItemTable.{ItemTable}
 use Rattle.mir_ty.specs.Named.{body_name}
 use Rattle.mir_ty.specs.Parts.{fields_of}
@@ -17,7 +16,7 @@ use Rattle.mir_text.specs.Items.{copy_text, drop_text, shape_text, adt_line, tra
 use Rattle.mir_text.specs.Lists.{in_parentheses, in_braces, line}
 use Rattle.mir_text.specs.Listing.{local_line, block_line, block_text, whole_body_text}
 use Rattle.mir_text.specs.Parts.{stmt_text, term_text}
-use Rattle.mir_text.proofs.Reading.Bodies.{BodyRead, body_read_seen}
+use Rattle.mir_text.proofs.Reading.Bodies.{body_read_seen}
 use Rattle.listing_answers.proofs.Alike.Enough.{enough, text_same}
 
 flat_same : {X : Type 0} (f g : X → List ℕ) → ((x : X) → f x ≡ g x) → (xs : List X) → flat_map f xs ≡ flat_map g xs

@@ -34,7 +34,7 @@ use Rattle.mir_text.proofs.Reading.Parts.{every_from_all}
 use Rattle.mir_text.proofs.Reading.Items.{GoodVariant, GoodAdt, GoodSig, GoodTrait, GoodClosure}
 use Rattle.mir_text.proofs.Reading.Listed.{all_at, found_at, ty_numbers, are_named, good_adts, good_traits, good_closures, adt_no, trait_no, adts_told, traits_told, sig_holds, good_body}
 use Rattle.mir_text.proofs.Reading.Law.{one_id}
-use Rattle.mir_text.proofs.Reading.Alike.{Side, TyAlike, ListsAlike, FormsAlike, forms_alike, lists_alike, one_type}
+use Rattle.mir_text.proofs.Reading.Alike.{Side, TyAlike, ListsAlike, FormsAlike, forms_alike, one_type}
 use Rattle.mir_text.proofs.Reading.Tested.{bool_iff}
 use Rattle.mir_text.proofs.Reading.Held.{types_alike}
 use Rattle.mir_text.proofs.Reading.Typed.{SigAlike, OptSig, OptVariant, ItemsAlike}

@@ -44,7 +44,7 @@ use Rattle.mir_text.specs.Compared.{AdtSeen, SigSeen, BodySeen, VariantSeen, var
 use Rattle.mir_text.specs.Fields.{GraphFits}
 use Rattle.mir_text.proofs.Reading.Basics.{Every}
 use Rattle.mir_text.proofs.Reading.Listed.{all_at, found_at, adt_holds, trait_holds, impl_holds, closure_holds, own_holds, local_holds, stmt_holds, term_holds, term_exists, good_body}
-use Rattle.mir_text.proofs.Reading.Alike.{TyAlike, ListsAlike, Alike, FormsAlike, shared, unique, lists_alike}
+use Rattle.mir_text.proofs.Reading.Alike.{TyAlike, ListsAlike, Alike, FormsAlike, shared, unique}
 use Rattle.mir_text.proofs.Reading.Tested.{OptTy, OptId, unit_alike, adt_alike, closure_alike, slice_alike}
 use Rattle.mir_text.proofs.Reading.Held.{misplaced_alike, none_misplaced, adt_holds_too, closure_holds_too}
 use Rattle.mir_text.proofs.Reading.Typed.{SigAlike, OptSig, ItemsAlike, stmt_alike, term_alike, stmt_row_alike}
