@@ -1,11 +1,13 @@
--- What the law of answers says: there is one first wrong line, and none in the listing of a well formed graph.
+-- What the law of answers says: there is one first wrong line, and none in the listing of a well formed graph; and one
+-- graph is read of that.
 use Rattle.std.specs.Prelude.{◌≡◌, ℕ, true, List, All}
 use Rattle.std.specs.Str.{is_utf8}
 use Rattle.cfg_graph.specs.declared.graph.Graph.{Graph}
-use Rattle.cfg_graph.specs.WellFormed.Faults.{IsCounted}
+use Rattle.cfg_graph.specs.WellFormed.Faults.{IsCounted, IsWellFormed}
 use Rattle.mir_ty.specs.ItemTable.{ItemTable}
-use Rattle.mir_text.specs.Compared.{IsListed}
+use Rattle.mir_text.specs.Compared.{IsListed, seen}
 use Rattle.mir_text.specs.Listing.{listing}
+use Rattle.listing_answers.specs.Answers.{WasRead}
 use Rattle.listing_answers.specs.Beginning.{IsListingOf, IsFirstWrong}
 
 abbrev pub OneFirstWrong : Type 0
@@ -29,3 +31,9 @@ abbrev pub WellFormedIsNotWrong : Type 0
 WellFormedIsNotWrong =
     (graph : Graph) (n : ℕ) → IsListed graph → IsCounted graph → AreInUtf8 graph.items →
     IsFirstWrong (listing graph) n → ⊥
+
+-- a graph that was read is equal as compared to a well formed one of the same listing, and well formed too
+abbrev pub OneGraphIsRead : Type 0
+OneGraphIsRead =
+    (text : List ℕ) (graph read : Graph) → IsListed graph → text ≡ listing graph → WasRead text read →
+    (seen graph ≡ seen read) × IsWellFormed read
