@@ -10,7 +10,9 @@ ghost use Rattle.type_rows.specs.Stand.{Gives, Keeps, env, stack, state};
 use crate::expressions::typed;
 use call_rows::tuple_end;
 use item_heads::pushed;
-use list_rows::{count_of, element_wanted, elements_end, one_more, part_ty, parts_wanted, wanted_at};
+use list_rows::{
+    count_of, element_wanted, elements_end, one_more, part_ty, parts_wanted, wanted_at,
+};
 use mir_base::{List, Pos, RuleError};
 use mir_ty::TyId;
 use src_ast::Nodes;
@@ -18,11 +20,7 @@ use type_rows::{Checker, Leaf};
 
 /// Parts, each of the type that is required of it, if one is; answers their types.
 #[cycle(typed)]
-fn typed_parts(
-    checker: &mut Checker,
-    wants: &[TyId],
-    parts: Nodes,
-) -> Result<List<TyId>, RuleError>
+fn typed_parts(checker: &mut Checker, wants: &[TyId], parts: Nodes) -> Result<List<TyId>, RuleError>
     ensures gives { GivesParts (rules.typed_parts (env checker.old) (map Some wants.now) (nodes_of parts.entry) (state checker.old)) result checker.new }
     ensures kept { KeepsBelowParts (stack checker.old) checker.old result checker.new }
     ensures counted { IfOk result (λ types. length types ≡ count_of_ (nodes_of parts.entry)) }

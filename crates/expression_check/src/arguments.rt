@@ -88,11 +88,7 @@ fn argument(checker: &mut Checker, node: &Node, param: TyId) -> Result<(), RuleE
 
 /// An argument for a parameter, or one for which there is none.
 #[cycle(typed)]
-fn argument_if(
-    checker: &mut Checker,
-    node: &Node,
-    param: Option<TyId>,
-) -> Result<(), RuleError>
+fn argument_if(checker: &mut Checker, node: &Node, param: Option<TyId>) -> Result<(), RuleError>
     ensures gives { Gives (argument_at (env checker.old) param (syn_of node.now) (state checker.old)) result checker.new }
     ensures kept { Keeps (stack checker.old) checker.old result checker.new }
 {
@@ -104,11 +100,7 @@ fn argument_if(
 
 /// Arguments for parameters of these types; answers how many there are.
 #[cycle(typed)]
-pub fn typed_args(
-    checker: &mut Checker,
-    params: &[TyId],
-    args: Nodes,
-) -> Result<usize, RuleError>
+pub fn typed_args(checker: &mut Checker, params: &[TyId], args: Nodes) -> Result<usize, RuleError>
     ensures gives { GivesNodes (rules.typed_args (env checker.old) params.now (nodes_of args.entry) (state checker.old)) result checker.new }
     ensures kept { KeepsBelow (stack checker.old) checker.old result checker.new }
     ensures counted { IfOk result (λ count. count ≡ count_of (nodes_of args.entry)) }

@@ -157,11 +157,7 @@ fn one_if(count: usize, is_made: bool) -> Result<usize, RuleError>
     ensures counted { IfOk result (λ more. more ≡ more_if is_made count) }
     ensures short { IfErr result (λ e. e ≡ RuleError.Memory) }
 {
-    if is_made {
-        one_more(count)
-    } else {
-        Ok(count)
-    }
+    if is_made { one_more(count) } else { Ok(count) }
 }
 
 /// The tail of a block behind its statements.

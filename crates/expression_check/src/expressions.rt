@@ -58,11 +58,7 @@ pub fn base_of(checker: &mut Checker, node: &Node) -> Result<(), RuleError>
 /// The initialiser of a pattern with parts: a place is taken apart where it stands.
 #[cycle(typed)]
 #[tactic(auto, using(crate::proofs::Lets::parts_of_place, crate::proofs::Lets::parts_of_value))]
-pub fn for_parts(
-    checker: &mut Checker,
-    node: &Node,
-    want: Option<TyId>,
-) -> Result<(), RuleError>
+pub fn for_parts(checker: &mut Checker, node: &Node, want: Option<TyId>) -> Result<(), RuleError>
     ensures gives { Gives (rules.for_parts (env checker.old) want (syn_of node.now) (state checker.old)) result checker.new }
     ensures kept { Keeps (stack checker.old) checker.old result checker.new }
 {

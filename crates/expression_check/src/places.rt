@@ -18,12 +18,7 @@ use type_rows::Checker;
 
 /// `a[i]`.
 #[cycle(typed)]
-pub fn element(
-    checker: &mut Checker,
-    at: Pos,
-    base: &Node,
-    index: &Node,
-) -> Result<(), RuleError>
+pub fn element(checker: &mut Checker, at: Pos, base: &Node, index: &Node) -> Result<(), RuleError>
     ensures gives { Gives (rows.element at (rules.base_of (env checker.old) (syn_of base.now)) (rules.typed (env checker.old) (syn_of index.now)) (state checker.old)) result checker.new }
     ensures kept { Keeps (stack checker.old) checker.old result checker.new }
 {

@@ -399,8 +399,11 @@ matches::typed_arms-returns-in_err-arm_of_node-clause-gives t c =
 
 pub matches::inside_scope-leave-requires : goal.matches::inside_scope-leave-requires
 matches::inside_scope-leave-requires t c =
-    omega (arith, c.count-outer.ensures,
-    grown_length c.args.checker.now c.typed.new.checker (scoped_grows c.args.checker.now c.enter_bound.new.checker c.typed.new.checker (reverse c.args.bound.now) c.in_ok-enter_bound.ensures.entered c.in_ok-enter_bound.ensures.others c.in_ok-typed.ensures.kept.1))
+    omega (
+      arith,
+      c.count-outer.ensures,
+      grown_length c.args.checker.now c.typed.new.checker (scoped_grows c.args.checker.now c.enter_bound.new.checker c.typed.new.checker (reverse c.args.bound.now) c.in_ok-enter_bound.ensures.entered c.in_ok-enter_bound.ensures.others c.in_ok-typed.ensures.kept.1),
+    )
 
 pub matches::inside_scope-returns-clause-kept : goal.matches::inside_scope-returns-clause-kept
 matches::inside_scope-returns-clause-kept t c =
@@ -409,8 +412,11 @@ matches::inside_scope-returns-clause-kept t c =
 
 pub matches::inside_guard-leave-requires : goal.matches::inside_guard-leave-requires
 matches::inside_guard-leave-requires t c =
-    omega (arith, c.count-outer.ensures,
-    grown_length c.args.checker.now c.typed.new.checker (scoped_grows c.args.checker.now c.enter_guard.new.checker c.typed.new.checker (in_guard (reverse c.args.bound.now)) c.in_ok-enter_guard.ensures.entered c.in_ok-enter_guard.ensures.others c.in_ok-typed.ensures.kept.1))
+    omega (
+      arith,
+      c.count-outer.ensures,
+      grown_length c.args.checker.now c.typed.new.checker (scoped_grows c.args.checker.now c.enter_guard.new.checker c.typed.new.checker (in_guard (reverse c.args.bound.now)) c.in_ok-enter_guard.ensures.entered c.in_ok-enter_guard.ensures.others c.in_ok-typed.ensures.kept.1),
+    )
 
 pub matches::inside_guard-returns-clause-kept : goal.matches::inside_guard-returns-clause-kept
 matches::inside_guard-returns-clause-kept t c =
@@ -527,6 +533,7 @@ blocks::let_statement-returns-clause-kept t c =
     let done = c.let_end.new.checker in
     let same : env third ≡ env before = c.in_ok-has_value.ensures.kept.1.0 ∙ (c.in_ok-declared.ensures.same.1.0 ∙ c.in_ok-id.ensures.same.1.0) in
     let new = brings (env third) (env done) c.in_ok-id.id.0 c.args.at c.is_one_name-is_one.result c.in_ok-declared.declared (value_if c.in_ok-has_value.has_value (stack third)) (syn_of c.args.pattern.now)
-    (top (stack done)) c.in_ok-ends.ends (state third) (state done) c.in_ok-ends.ensures.gives in
-    (c.in_ok-ends.ensures.kept.0 ∙ (c.in_ok-has_value.ensures.kept.0 ∙ (c.in_ok-declared.ensures.same.0 ∙ c.in_ok-id.ensures.same.0)),
-    ((new.0, new.1 ∙ ap (with_variables new.0) same), c.in_ok-ends.ensures.kept.1 ∙ (c.in_ok-has_value.ensures.kept.1.1 ∙ (c.in_ok-declared.ensures.same.1.1 ∙ c.in_ok-id.ensures.same.1.1))))
+    (top (stack done)) c.in_ok-ends.ends (state third) (state done) c.in_ok-ends.ensures.gives in (
+      c.in_ok-ends.ensures.kept.0 ∙ (c.in_ok-has_value.ensures.kept.0 ∙ (c.in_ok-declared.ensures.same.0 ∙ c.in_ok-id.ensures.same.0)),
+      ((new.0, new.1 ∙ ap (with_variables new.0) same), c.in_ok-ends.ensures.kept.1 ∙ (c.in_ok-has_value.ensures.kept.1.1 ∙ (c.in_ok-declared.ensures.same.1.1 ∙ c.in_ok-id.ensures.same.1.1))),
+    )
