@@ -1,3 +1,4 @@
+pub mod Apart
 pub mod Enough
 pub mod Lines
 pub mod One

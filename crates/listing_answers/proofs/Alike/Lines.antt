@@ -27,7 +27,8 @@ use Rattle.mir_text.proofs.Reading.Basics.{Every}
 use Rattle.mir_text.proofs.Reading.Types.{adt_name_stands}
 use Rattle.listing_answers.specs.Answers.{WasRead, HasNoGraph}
 use Rattle.listing_answers.specs.Beginning.{LineStands}
-use Rattle.listing_answers.specs.Laws.{OneGraphIsRead}
+use Rattle.listing_answers.specs.Laws.{OneGraphIsRead, OneGraphWasRead}
+use Rattle.listing_answers.proofs.Alike.Apart.{apart_seen}
 use Rattle.listing_answers.proofs.Alike.One.{one_seen, well_formed_too}
 use Rattle.listing_answers.proofs.Alike.Readable.{StmtNames, TermNames, BlockNames, Readable}
 use Rattle.listing_answers.proofs.Fit.{graph_fits}
@@ -137,6 +138,10 @@ one_graph_is_read text graph read listed is was =
     let r = readable text read was in
     let same : listing graph ≡ listing read = sym is ∙ was.listed.same ∙ sym (listing-lines read) in
     (one_seen graph read listed r same, well_formed_too graph read listed r same)
+
+pub one_graph_was_read : OneGraphWasRead
+one_graph_was_read text left right l r apart =
+    apart_seen left right (readable text left l) (readable text right r) apart (listing-lines left ∙ sym l.listed.same ∙ r.listed.same ∙ sym (listing-lines right))
 
 -- so a text of which a graph with a fault was read is the listing of no well formed one
 pub has_no_graph : (text : List ℕ) (read : Graph) (fault : GraphFault) → WasRead text read → first_fault read ≡ Some fault → HasNoGraph text

@@ -49,25 +49,25 @@ none_flat read text never xs r h =
 
 -- the rows of a listing, each before what is behind it
 module _ (graph : Graph) where
-  abbrev the_end : List ℕ
+  abbrev pub the_end : List ℕ
   the_end = line (codes "end")
 
-  abbrev at_bodies : List ℕ
+  abbrev pub at_bodies : List ℕ
   at_bodies = counted (whole_body_text graph.items) 0 graph.bodies ++ the_end
 
-  abbrev at_closures : List ℕ
+  abbrev pub at_closures : List ℕ
   at_closures = counted (closure_line graph.items) 0 graph.items.closures ++ at_bodies
 
-  abbrev at_impls : List ℕ
+  abbrev pub at_impls : List ℕ
   at_impls = flat_map (impl_line graph.items) graph.items.impls ++ at_closures
 
-  abbrev at_traits : List ℕ
+  abbrev pub at_traits : List ℕ
   at_traits = flat_map (trait_line graph.items) graph.items.traits ++ at_impls
 
-  abbrev at_adts : List ℕ
+  abbrev pub at_adts : List ℕ
   at_adts = flat_map (adt_line graph.items) graph.items.adts ++ at_traits
 
-  in_rows : listing graph ≡ line (codes "mirdrop 1") ++ at_adts
+  pub in_rows : listing graph ≡ line (codes "mirdrop 1") ++ at_adts
   in_rows =
       behind3 (line (codes "mirdrop 1")) (items_text graph.items) (counted (whole_body_text graph.items) 0 graph.bodies) the_end
       ∙ ap (λ (w : List ℕ). line (codes "mirdrop 1") ++ w)
@@ -171,21 +171,21 @@ whole_bodies graph listed =
     (λ n body is. subst (λ m. body_seen graph.items m body ≡ whole (body_read_seen graph.items m body)) (let e : n ≡ 0 + n = omega arith in e)
     (sig_is graph n body (sig_holds graph listed n body is))))
 
-rows_alike : {Z : Type 0} (read other : List ℕ → Found Z) (t u : List ℕ) (xs ys : List Z) (s v : List ℕ) → read ≡ other → t ≡ u
+pub rows_alike : {Z : Type 0} (read other : List ℕ → Found Z) (t u : List ℕ) (xs ys : List Z) (s v : List ℕ) → read ≡ other → t ≡ u
     → many read t ≡ (xs, s) → many other u ≡ (ys, v) → (xs ≡ ys) × (s ≡ v)
 rows_alike {Z} read other t u xs ys s v same e a b =
     let q : Path (List Z × List ℕ) (xs, s) (ys, v) = sym a ∙ (λ i. many (same i) (e i)) ∙ b in
     (ap (λ (p : List Z × List ℕ). p.0) q, ap (λ (p : List Z × List ℕ). p.1) q)
 
 -- the signature that locals tell
-signed_at : (items : ItemTable) (sigs : List Sig) (bodies : List Body) → AreSigned items sigs bodies → (n : ℕ) (body : Body) → slice_get bodies n ≡ Some body → (sig : Sig) × (slice_get sigs n ≡ Some sig) × IsSigOf items body sig
+pub signed_at : (items : ItemTable) (sigs : List Sig) (bodies : List Body) → AreSigned items sigs bodies → (n : ℕ) (body : Body) → slice_get bodies n ≡ Some body → (sig : Sig) × (slice_get sigs n ≡ Some sig) × IsSigOf items body sig
 signed_at items [] [] signed n body is = absurd (none-some body is)
 signed_at items [] (b ∷ bodies) signed n body is = absurd signed
 signed_at items (sig ∷ sigs) [] signed n body is = absurd signed
 signed_at items (sig ∷ sigs) (b ∷ bodies) signed zero body is = (sig, refl, subst (λ (b : Body). IsSigOf items b sig) (same_Some b body is) signed.0)
 signed_at items (sig ∷ sigs) (b ∷ bodies) signed (suc n) body is = signed_at items sigs bodies signed.1 n body is
 
-behind_first : (x : TyId) (xs : List TyId) → drop 1 (x ∷ xs) ≡ xs
+pub behind_first : (x : TyId) (xs : List TyId) → drop 1 (x ∷ xs) ≡ xs
 behind_first x [] = refl
 behind_first x (y ∷ ys) = refl
 
@@ -197,7 +197,7 @@ sig_told items params (first ∷ others) sig some own answer =
     take-map (type_text items) params others ∙ ap (λ (ids : List TyId). map (type_text items) (take params ids)) (sym (behind_first first others)) ∙ ap (map (type_text items)) (sym own) in
     λ i. Some (sig.name, same i, type_text items (sym answer i))
 
-adt_names_same : (left right : ItemTable) → map (adt_seen left) left.adts ≡ map (adt_seen right) right.adts → (n : ℕ) → adt_name left n ≡ adt_name right n
+pub adt_names_same : (left right : ItemTable) → map (adt_seen left) left.adts ≡ map (adt_seen right) right.adts → (n : ℕ) → adt_name left n ≡ adt_name right n
 adt_names_same left right h n = by (slice_get left.adts n) (slice_get right.adts n) (both_at (adt_seen left) (adt_seen right) left.adts right.adts h n)
   where
     by : (x y : Option Adt) → Both (adt_seen left) (adt_seen right) x y → name_of_adt x ≡ name_of_adt y
@@ -206,7 +206,7 @@ adt_names_same left right h n = by (slice_get left.adts n) (slice_get right.adts
     by None (Some y) h = absurd h
     by (Some x) None h = absurd h
 
-trait_names_same : (left right : ItemTable) → map (trait_seen left) left.traits ≡ map (trait_seen right) right.traits → (n : ℕ) → trait_name left n ≡ trait_name right n
+pub trait_names_same : (left right : ItemTable) → map (trait_seen left) left.traits ≡ map (trait_seen right) right.traits → (n : ℕ) → trait_name left n ≡ trait_name right n
 trait_names_same left right h n = by (slice_get left.traits n) (slice_get right.traits n) (both_at (trait_seen left) (trait_seen right) left.traits right.traits h n)
   where
     by : (x y : Option TraitDef) → Both (trait_seen left) (trait_seen right) x y → name_of_trait x ≡ name_of_trait y
@@ -215,6 +215,48 @@ trait_names_same left right h n = by (slice_get left.traits n) (slice_get right.
     by None (Some y) h = absurd h
     by (Some x) None h = absurd h
 
+-- the rows of a graph that was read
+module _ (right : Graph) (r : Readable right) (more : List ClosureDef) (much : 2 ^ 32 ≤ length more) where
+  abbrev T : ItemTable
+  T = right.items
+
+  abbrev E : ItemTable
+  E = enough T more
+
+  pub adts_right : many adt_read (at_adts right) ≡ (map (adt_seen T) T.adts, at_traits right)
+  adts_right =
+      ap (λ (w : List ℕ). many adt_read (w ++ at_traits right)) (adts_written T more T.adts)
+      ∙ adts_read E (names right r more much) T.adts (readable_adts right r more much) (at_traits right) (no_adt right)
+      ∙ ap (λ (xs : List AdtSeen). (xs, at_traits right)) (sym (adts_look T more T.adts))
+
+  pub traits_right : many trait_read (at_traits right) ≡ (map (trait_seen T) T.traits, at_impls right)
+  traits_right =
+      ap (λ (w : List ℕ). many trait_read (w ++ at_impls right)) (traits_written T more T.traits)
+      ∙ traits_read E (names right r more much) T.traits (readable_traits right r more much) (at_impls right) (no_trait right)
+      ∙ ap (λ (xs : List (List ℕ × List SigSeen)). (xs, at_impls right)) (sym (traits_look T more T.traits))
+
+  pub closures_right : many closure_read (at_closures right) ≡ (map (closure_seen T) T.closures, at_bodies right)
+  closures_right =
+      ap (λ (w : List ℕ). many closure_read (w ++ at_bodies right)) (closures_written T more T.closures)
+      ∙ closures_read E (names right r more much) T.closures (readable_closures right r more much) (at_bodies right) (no_closure right)
+      ∙ ap (λ (xs : List (List Written × ℕ)). (xs, at_bodies right)) (sym (closures_look T more T.closures))
+
+  -- where names tell numbers
+  module _ (adt_no trait_no : List ℕ → ℕ)
+      (adts_tell : (n : ℕ) → nat_lt n (length T.adts) ≡ true → (list_all stands_in_names (adt_name T n) ≡ true) × (adt_no (adt_name T n) ≡ n))
+      (traits_tell : (n : ℕ) → nat_lt n (length T.traits) ≡ true → (list_all stands_in_names (trait_name T n) ≡ true) × (trait_no (trait_name T n) ≡ n)) where
+    pub impls_right : many (impl_read adt_no trait_no) (at_impls right) ≡ (T.impls, at_closures right)
+    impls_right =
+        impls_read adt_no trait_no E T.impls (readable_impls right r more much adt_no trait_no adts_tell traits_tell) (at_closures right)
+        (no_impl right adt_no trait_no)
+
+    pub bodies_right : many (body_read adt_no trait_no) (at_bodies right) ≡ (numbered (body_read_seen T) 0 right.bodies, the_end right)
+    bodies_right =
+        ap (λ (w : List ℕ). many (body_read adt_no trait_no) (w ++ the_end right)) (bodies_written T more right.bodies)
+        ∙ bodies_read adt_no trait_no E (names right r more much) adts_tell traits_tell right.bodies
+        (readable_bodies right r more much adt_no trait_no adts_tell traits_tell) (the_end right) refl refl refl
+        ∙ ap (λ (xs : List BodyRead). (xs, the_end right)) (sym (bodies_look T more right.bodies))
+
 module _ (left right : Graph) (l : IsListed left) (r : Readable right) (one : listing left ≡ listing right) (more : List ClosureDef) (much : 2 ^ 32 ≤ length more) where
   abbrev L : ItemTable
   L = left.items
@@ -222,33 +264,18 @@ module _ (left right : Graph) (l : IsListed left) (r : Readable right) (one : li
   abbrev R : ItemTable
   R = right.items
 
-  abbrev E : ItemTable
-  E = enough R more
-
   -- structs, enums and traits
-  adts_right : many adt_read (at_adts right) ≡ (map (adt_seen R) R.adts, at_traits right)
-  adts_right =
-      ap (λ (w : List ℕ). many adt_read (w ++ at_traits right)) (adts_written R more R.adts)
-      ∙ adts_read E (names right r more much) R.adts (readable_adts right r more much) (at_traits right) (no_adt right)
-      ∙ ap (λ (xs : List AdtSeen). (xs, at_traits right)) (sym (adts_look R more R.adts))
-
-  traits_right : many trait_read (at_traits right) ≡ (map (trait_seen R) R.traits, at_impls right)
-  traits_right =
-      ap (λ (w : List ℕ). many trait_read (w ++ at_impls right)) (traits_written R more R.traits)
-      ∙ traits_read E (names right r more much) R.traits (readable_traits right r more much) (at_impls right) (no_trait right)
-      ∙ ap (λ (xs : List (List ℕ × List SigSeen)). (xs, at_impls right)) (sym (traits_look R more R.traits))
-
   top : at_adts left ≡ at_adts right
   top = same_Some (at_adts left) (at_adts right) (ap (strip (line (codes "mirdrop 1"))) (sym (in_rows left) ∙ one ∙ in_rows right))
 
   adts_too : (map (adt_seen L) L.adts ≡ map (adt_seen R) R.adts) × (at_traits left ≡ at_traits right)
   adts_too =
-      rows_alike adt_read adt_read (at_adts left) (at_adts right) (map (adt_seen L) L.adts) (map (adt_seen R) R.adts) (at_traits left) (at_traits right) refl top (adts_are left l) adts_right
+      rows_alike adt_read adt_read (at_adts left) (at_adts right) (map (adt_seen L) L.adts) (map (adt_seen R) R.adts) (at_traits left) (at_traits right) refl top (adts_are left l) (adts_right right r more much)
 
   traits_too : (map (trait_seen L) L.traits ≡ map (trait_seen R) R.traits) × (at_impls left ≡ at_impls right)
   traits_too =
       rows_alike trait_read trait_read (at_traits left) (at_traits right) (map (trait_seen L) L.traits) (map (trait_seen R) R.traits) (at_impls left) (at_impls right) refl adts_too.1
-      (traits_are left l) traits_right
+      (traits_are left l) (traits_right right r more much)
 
   adt_count : length L.adts ≡ length R.adts
   adt_count = same_length (adt_seen L) (adt_seen R) L.adts R.adts adts_too.0
@@ -272,38 +299,20 @@ module _ (left right : Graph) (l : IsListed left) (r : Readable right) (one : li
       subst (λ (name : List ℕ). (list_all stands_in_names name ≡ true) × (own_trait left l name ≡ n)) (trait_named_so n) (traits_told left l n (ap (nat_lt n) trait_count ∙ h))
 
   -- impls, closures and bodies
-  impls_right : many (impl_read (own_adt left l) (own_trait left l)) (at_impls right) ≡ (R.impls, at_closures right)
-  impls_right =
-      impls_read (own_adt left l) (own_trait left l) E R.impls (readable_impls right r more much (own_adt left l) (own_trait left l) adts_tell traits_tell) (at_closures right)
-      (no_impl right (own_adt left l) (own_trait left l))
-
-  closures_right : many closure_read (at_closures right) ≡ (map (closure_seen R) R.closures, at_bodies right)
-  closures_right =
-      ap (λ (w : List ℕ). many closure_read (w ++ at_bodies right)) (closures_written R more R.closures)
-      ∙ closures_read E (names right r more much) R.closures (readable_closures right r more much) (at_bodies right) (no_closure right)
-      ∙ ap (λ (xs : List (List Written × ℕ)). (xs, at_bodies right)) (sym (closures_look R more R.closures))
-
-  bodies_right : many (body_read (own_adt left l) (own_trait left l)) (at_bodies right) ≡ (numbered (body_read_seen R) 0 right.bodies, the_end right)
-  bodies_right =
-      ap (λ (w : List ℕ). many (body_read (own_adt left l) (own_trait left l)) (w ++ the_end right)) (bodies_written R more right.bodies)
-      ∙ bodies_read (own_adt left l) (own_trait left l) E (names right r more much) adts_tell traits_tell right.bodies
-      (readable_bodies right r more much (own_adt left l) (own_trait left l) adts_tell traits_tell) (the_end right) refl refl refl
-      ∙ ap (λ (xs : List BodyRead). (xs, the_end right)) (sym (bodies_look R more right.bodies))
-
   impls_too : (L.impls ≡ R.impls) × (at_closures left ≡ at_closures right)
   impls_too =
       rows_alike (impl_read (own_adt left l) (own_trait left l)) (impl_read (own_adt left l) (own_trait left l)) (at_impls left) (at_impls right) L.impls R.impls
-      (at_closures left) (at_closures right) refl traits_too.1 (impls_are left l) impls_right
+      (at_closures left) (at_closures right) refl traits_too.1 (impls_are left l) (impls_right right r more much (own_adt left l) (own_trait left l) adts_tell traits_tell)
 
   closures_too : (map (closure_seen L) L.closures ≡ map (closure_seen R) R.closures) × (at_bodies left ≡ at_bodies right)
   closures_too =
       rows_alike closure_read closure_read (at_closures left) (at_closures right) (map (closure_seen L) L.closures) (map (closure_seen R) R.closures) (at_bodies left) (at_bodies right)
-      refl impls_too.1 (closures_are left l) closures_right
+      refl impls_too.1 (closures_are left l) (closures_right right r more much)
 
   bodies_too : numbered (body_read_seen L) 0 left.bodies ≡ numbered (body_read_seen R) 0 right.bodies
   bodies_too =
       (rows_alike (body_read (own_adt left l) (own_trait left l)) (body_read (own_adt left l) (own_trait left l)) (at_bodies left) (at_bodies right)
-      (numbered (body_read_seen L) 0 left.bodies) (numbered (body_read_seen R) 0 right.bodies) (the_end left) (the_end right) refl closures_too.1 (bodies_are left l) bodies_right).0
+      (numbered (body_read_seen L) 0 left.bodies) (numbered (body_read_seen R) 0 right.bodies) (the_end left) (the_end right) refl closures_too.1 (bodies_are left l) (bodies_right right r more much (own_adt left l) (own_trait left l) adts_tell traits_tell)).0
 
   -- each body that was read has a local, since the other one has
   some_locals : (n : ℕ) (body : Body) → slice_get right.bodies n ≡ Some body → 0 < length body.locals
@@ -347,7 +356,7 @@ module _ (left right : Graph) (l : IsListed left) (r : Readable right) (one : li
         locals = r.locals;
       }) r.fits all_seen
 
-enough_there : 2 ^ 32 ≤ length (closures_of (2 ^ 32))
+pub enough_there : 2 ^ 32 ≤ length (closures_of (2 ^ 32))
 enough_there = let count = count_of (2 ^ 32) in omega (arith, count)
 
 pub one_seen : (left right : Graph) → IsListed left → Readable right → listing left ≡ listing right → seen left ≡ seen right
