@@ -52,7 +52,7 @@ use Rattle.listing_types.proofs.Complete.{found_at}
 use Rattle.listing_types.proofs.Splits.{split, same_found}
 use Rattle.listing_types.proofs.Texts.{every_from_all}
 
-named_within : {X : Type 0} (xs : List X) (n : ℕ) (name : Option X → List ℕ) → name None ≡ [] → is_name (name (slice_get xs n)) ≡ true → n < length xs
+pub named_within : {X : Type 0} (xs : List X) (n : ℕ) (name : Option X → List ℕ) → name None ≡ [] → is_name (name (slice_get xs n)) ≡ true → n < length xs
 named_within xs n name none is = by (slice_get xs n) refl is
   where
     by : (o : Option _) → slice_get xs n ≡ o → is_name (name o) ≡ true → n < length xs

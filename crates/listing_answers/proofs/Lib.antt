@@ -1,4 +1,5 @@
 pub mod Aligned
+pub mod Alike
 pub mod CodeThrough
 pub mod Counting
 pub mod Fit

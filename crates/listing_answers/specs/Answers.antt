@@ -1,5 +1,6 @@
 -- The line of a fault, and what the reader of listings answers.
-use Rattle.std.specs.Prelude.{◌≡◌, ℕ, ◌+◌, ◌==◌, List, [], ◌∷◌, if◌then◌else◌, length, take, Option, Some, None, Result, Ok, Err, slice_get, ⊤}
+use Rattle.std.specs.Prelude.{◌≡◌, ℕ, ◌+◌, ◌==◌, List, [], ◌∷◌, if◌then◌else◌, length, take, Option, Some, None, Result, Ok, Err, slice_get, ⊤, All}
+use Rattle.mir_ty.specs.AreItems.{AreTypes}
 use Rattle.mir_ty.specs.ItemTable.{item_count}
 use Rattle.cfg_graph.specs.declared.graph.Block.{Block}
 use Rattle.cfg_graph.specs.declared.graph.Body.{Body}
@@ -11,6 +12,7 @@ use Rattle.mir_text.specs.Listing.{listing, IsShortGraph}
 use Rattle.listing_answers.specs.declared.error.ListingError.{ListingError}
 use Rattle.listing_answers.specs.Beginning.{IsListingOf, IsFirstWrong}
 use Rattle.listing_sections.specs.BodiesRead.{AreSigned}
+use Rattle.listing_types.specs.Table.{AreRead}
 
 -- how many lines blocks have: each its own, its statements and its terminator
 abbrev pub blocks_lines : List Block → ℕ
@@ -47,14 +49,25 @@ line_of_fault graph fault =
     else 2 + item_count graph.items + bodies_lines (take fault.body graph.bodies) +
     line_in (slice_get graph.bodies fault.body) fault
 
--- a text that is the listing of a graph with this first fault, at this line; the signatures of bodies are no part of a
--- listing, and those that their locals tell
+-- a text that is the listing of a graph that was read: each type of its table names heads that are there, and stands
+-- behind the types in it; the signatures of bodies are no part of a listing, and those that their locals tell
+pub record WasRead (text : List ℕ) (graph : Graph) : Type 0 where
+  pub listed : IsListingOf text graph
+  pub types : AreRead graph.items graph.items.types
+  pub locals : All (λ body. AreTypes graph.items.types body.locals) graph.bodies
+  pub signed : AreSigned graph.items graph.items.bodies graph.bodies
+
+-- the listing of no well formed graph
+abbrev pub HasNoGraph : List ℕ → Type 0
+HasNoGraph text = (graph : Graph) → IsListed graph → text ≡ listing graph → ⊥
+
+-- a text that is the listing of a graph with this first fault, at this line, and of no well formed one
 pub record HasFault (text : List ℕ) (fault : GraphFault) (number : ℕ) : Type 0 where
   pub graph : Graph
-  pub listed : IsListingOf text graph
-  pub signed : AreSigned graph.items graph.items.bodies graph.bodies
+  pub read : WasRead text graph
   pub first : first_fault graph ≡ Some fault
   pub at : number ≡ line_of_fault graph fault
+  pub none : HasNoGraph text
 
 -- a text that is the listing of a well formed graph, whose lists are as short as the calls on graphs ask
 pub record IsText (text : List ℕ) (graph : Graph) : Type 0 where

@@ -7,6 +7,8 @@ mod bits;
 #[cfg(test)]
 mod listings;
 #[cfg(test)]
+mod read_listings;
+#[cfg(test)]
 mod reading;
 #[cfg(test)]
 mod syntax;

@@ -5,7 +5,7 @@ use Rattle.type_env.specs.Coerced.{HasImpls}
 use Rattle.type_env.specs.Members.{all_names}
 use Rattle.type_env.specs.Walked.{HasOnlyTypes}
 use Rattle.type_rows.specs.Stand.{env_in}
-use Rattle.type_rows.specs.Tables.{IsReady, adt_words, body_words, method_words}
+use Rattle.type_rows.specs.Tables.{IsReady, adt_words, body_words, method_words, trait_words}
 use Rattle.type_rows.specs.declared.surroundings.Surroundings.{Surroundings}
 use Rattle.type_rows.specs.declared.tables.Tables.{Tables}
 use Rattle.typing_rules.specs.Bodies.{all_rules}
@@ -23,6 +23,7 @@ pub ready_later : (old new : ItemTable) (t : Tables) → HasOnlyTypes old new �
 ready_later old new t same ready =
     record {
       adts = ready.adts ∙ ap (λ xs. adt_words (record old { adts = xs })) (sym same.0);
+      traits = ready.traits ∙ ap (λ xs. trait_words (record old { traits = xs })) (sym same.1);
       bodies = ready.bodies ∙ ap (λ xs. body_words (record old { bodies = xs })) (sym same.3);
       members = ready.members ∙ ap all_names (sym same.0);
       methods = ready.methods ∙ ap (map method_words) (sym same.1);

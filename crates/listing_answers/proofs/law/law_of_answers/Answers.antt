@@ -1,4 +1,5 @@
--- One first wrong line, and none in the listing of a well formed graph.
+-- One first wrong line, and none in the listing of a well formed graph; and one graph that is read of that.
+use Rattle.listing_answers.proofs.Alike.Lines.{one_graph_is_read, one_graph_was_read}
 use Rattle.listing_answers.proofs.Listed.{well_formed_is_listed, well_formed_is_not_wrong}
 use Rattle.listing_answers.proofs.Unique.{one_first_wrong}
 use Rattle.listing_answers.proofs.law.law_of_answers.Goals as goal
@@ -8,4 +9,6 @@ returns c = record {
   one_line = one_first_wrong;
   listed = well_formed_is_listed;
   never_wrong = well_formed_is_not_wrong;
+  one_graph = one_graph_is_read;
+  one_read = one_graph_was_read;
 }

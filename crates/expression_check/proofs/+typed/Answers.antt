@@ -1,0 +1,539 @@
+use Rattle.std.proofs.Common.{◌≡◌, ℕ, ◌||◌, List, [], ◌∷◌, length, length-append, map, reverse, false, Option, None, Some, Result, Ok, slice_get, arith, refl, ap, sym, subst, ◌∙◌}
+use Rattle.std.specs.Prelude.{option_map}
+use Rattle.std.specs.Borrow.{Bor}
+use Rattle.call_rows.specs.Lists.{last_nodes}
+use Rattle.callee_rows.specs.Callees.{callee_seen}
+use Rattle.callee_rows.specs.Rests.{begun_rest, callee_rest, closure_rest}
+use Rattle.member_rows.specs.Calls.{Arguments}
+use Rattle.member_rows.specs.Rests.{method_rest, receiver_rest}
+use Rattle.binding_rows.specs.Rests.{value_if}
+use Rattle.expression_check.proofs.Lets.{brings, let_done, let_refused}
+use Rattle.expression_check.proofs.Arms.{if_let_looked, if_let_refused, matched, none_yet, one_arm, refused_arm, while_let_looked}
+use Rattle.typing_rules.specs.Rows.{loop_around, scrutinised}
+use Rattle.expression_check.specs.Matches.{arm_of_syn}
+use Rattle.pattern_rows.specs.Expected.{expected_of}
+use Rattle.expression_check.proofs.CallSteps.{behind_args, closure_called, method_called, refused_args}
+use Rattle.typing_rules.specs.Named.{method_named}
+use Rattle.expression_check.proofs.Statements.{below_statement, block_left, grown_length, grows_on, one_statement, scope_left, scoped_grows}
+use Rattle.expression_check.proofs.Stores.{borrowed, stored}
+use Rattle.expression_check.proofs.Jumps.{broken_out}
+use Rattle.expression_check.specs.Bases.{plain_base}
+use Rattle.branch_rows.specs.Jumps.{target_of, unlabelled}
+use Rattle.operator_rows.specs.Rests.{store_rest}
+use Rattle.mir_ty.specs.declared.ty.TyId.{TyId}
+use Rattle.type_env.specs.Scope.{word_in}
+use Rattle.typed_tree.specs.Tree as tree
+use Rattle.well_typed.specs.Places.{ty_of}
+use Rattle.expression_forms.specs.Forms.{value_as}
+use Rattle.expression_forms.specs.Sizes.{sizes}
+use Rattle.item_heads.specs.Answers.{Refuses}
+use Rattle.list_rows.proofs.Lists.{below_next, below_part, one_argument, one_element, one_part, refused_argument, refused_part}
+use Rattle.list_rows.specs.Lists.{argument_at}
+use Rattle.src_ast.specs.Expressions.{expression_of}
+use Rattle.src_ast.specs.Seen.{maybe_of, nodes_of, syn_of, word_of}
+use Rattle.src_ast.specs.Syntax.{BreakOf, IfElse, IfLetElse, LetOf}
+use Rattle.src_ast.specs.declared.expression.ExpressionForm.{ExpressionForm}
+use Rattle.src_tree.specs.declared.node.Node.{Node}
+use Rattle.type_rows.specs.Stand.{Gives, env, stack, state, top, below}
+use Rattle.typing_rules.specs.Patterns.{count_of}
+use Rattle.typing_rules.specs.Scope.{Env, in_guard, jumps_to, with_variables, within_loop}
+use Rattle.typing_rules.specs.Check.{Check, State, Broken}
+use Rattle.typing_rules.specs.Typed as rules_of
+use Rattle.expression_check.proofs.+typed.Goals as goal
+
+-- ---- lists
+
+pub aggregates::typed_elements-loop-split-preserved : goal.aggregates::typed_elements-loop-split-preserved
+aggregates::typed_elements-loop-split-preserved t c =
+    let before = c.loop-split.checker in
+    let after = c.typed.new.checker in
+    let e = env c.args.checker.now in
+    let here : rules_of.typed e (syn_of c.in-Some.split.first.now) c.args.want (state before) ≡ Ok (top (stack after), state after) =
+    ap (λ (f : Env). rules_of.typed f (syn_of c.in-Some.split.first.now) c.args.want (state before)) (sym c.loop-split.invariant.place.0) ∙ c.in_ok-typed.ensures.gives in
+    record {
+      gives =
+          one_element e _ c.loop-split.count c.in_ok-count.count (stack before) (stack after) c.args.want _ _ _ (state before) (state after)
+          c.loop-split.invariant.gives c.in-Some.ensures here c.in_ok-typed.ensures.kept.0 c.in_ok-count.ensures.counted;
+      below = below_next c.loop-split.count c.in_ok-count.count (stack before) (stack after) _ c.loop-split.invariant.below c.in_ok-typed.ensures.kept.0 c.in_ok-count.ensures.counted;
+      place = (c.in_ok-typed.ensures.kept.1.0 ∙ c.loop-split.invariant.place.0, c.in_ok-typed.ensures.kept.1.1 ∙ c.loop-split.invariant.place.1);
+      counted = omega (arith, ap count_of c.in-Some.ensures, c.in_ok-count.ensures.counted);
+      smaller = omega (arith, ap sizes c.in-Some.ensures);
+    }
+
+pub aggregates::typed_parts-returns-in_err-typed-clause-gives : goal.aggregates::typed_parts-returns-in_err-typed-clause-gives
+aggregates::typed_parts-returns-in_err-typed-clause-gives t c =
+    let before = c.loop-split.checker in
+    let e = env c.args.checker.now in
+    let here : Refuses (rules_of.typed e (syn_of c.in-Some.split.first.now) c.wanted_at-want.result (state before)) c.in_err-typed.field-0.0 =
+    subst (λ (f : Env). Refuses (rules_of.typed f (syn_of c.in-Some.split.first.now) c.wanted_at-want.result (state before)) c.in_err-typed.field-0.0) c.loop-split.invariant.place.0 c.in_err-typed.ensures.gives in
+    let refused : Refuses (rules_of.typed_parts e (map Some c.args.wants.now) (nodes_of c.args.parts) (state c.args.checker.now)) c.in_err-typed.field-0.0 =
+    refused_part e _ c.loop-split.types (stack before) c.args.wants.now c.wanted_at-want.result _ _ _ (state before) c.in_err-typed.field-0.0
+    c.loop-split.invariant.gives c.in-Some.ensures (c.wanted_at-want.ensures ∙ ap (λ (n : ℕ). slice_get c.args.wants.now n) c.len.ensures) here in
+    grind (arith, refused)
+
+pub aggregates::typed_parts-loop-split-preserved : goal.aggregates::typed_parts-loop-split-preserved
+aggregates::typed_parts-loop-split-preserved t c =
+    let before = c.loop-split.checker in
+    let after = c.typed.new.checker in
+    let e = env c.args.checker.now in
+    let here : rules_of.typed e (syn_of c.in-Some.split.first.now) c.wanted_at-want.result (state before) ≡ Ok (top (stack after), state after) =
+    ap (λ (f : Env). rules_of.typed f (syn_of c.in-Some.split.first.now) c.wanted_at-want.result (state before)) (sym c.loop-split.invariant.place.0) ∙ c.in_ok-typed.ensures.gives in
+    record {
+      gives =
+          one_part e _ c.loop-split.types c.pushed.new.list c.part_ty.result (stack before) (stack after) c.args.wants.now c.wanted_at-want.result _ _ _ (state before) (state after)
+          c.loop-split.invariant.gives c.in-Some.ensures (c.wanted_at-want.ensures ∙ ap (λ (n : ℕ). slice_get c.args.wants.now n) c.len.ensures) here c.in_ok-typed.ensures.kept.0 c.part_ty.ensures c.in_ok-pushed.ensures.pushed;
+      below = below_part c.loop-split.types c.pushed.new.list c.part_ty.result (stack before) (stack after) _ c.loop-split.invariant.below c.in_ok-typed.ensures.kept.0 c.in_ok-pushed.ensures.pushed;
+      place = (c.in_ok-typed.ensures.kept.1.0 ∙ c.loop-split.invariant.place.0, c.in_ok-typed.ensures.kept.1.1 ∙ c.loop-split.invariant.place.1);
+      counted = omega (arith, ap count_of c.in-Some.ensures, ap length c.in_ok-pushed.ensures.pushed, length-append c.loop-split.types (c.part_ty.result ∷ []));
+      smaller = omega (arith, ap sizes c.in-Some.ensures);
+    }
+
+pub arguments::typed_args-returns-in_err-argument_if-clause-gives : goal.arguments::typed_args-returns-in_err-argument_if-clause-gives
+arguments::typed_args-returns-in_err-argument_if-clause-gives t c =
+    let before = c.loop-split.checker in
+    let e = env c.args.checker.now in
+    let here : Refuses (argument_at e c.wanted_at.result (syn_of c.in-Some.split.first.now) (state before)) c.in_err-argument_if.field-0.0 =
+    subst (λ (f : Env). Refuses (argument_at f c.wanted_at.result (syn_of c.in-Some.split.first.now) (state before)) c.in_err-argument_if.field-0.0) c.loop-split.invariant.place.0 c.in_err-argument_if.ensures.gives in
+    let refused : Refuses (rules_of.typed_args e c.args.params.now (nodes_of c.args.args) (state c.args.checker.now)) c.in_err-argument_if.field-0.0 =
+    refused_argument e _ c.loop-split.count (stack before) c.args.params.now c.wanted_at.result _ _ _ (state before) c.in_err-argument_if.field-0.0
+    c.loop-split.invariant.gives c.in-Some.ensures c.wanted_at.ensures here in
+    grind (arith, refused)
+
+pub arguments::typed_args-loop-split-preserved : goal.arguments::typed_args-loop-split-preserved
+arguments::typed_args-loop-split-preserved t c =
+    let before = c.loop-split.checker in
+    let after = c.argument_if.new.checker in
+    let e = env c.args.checker.now in
+    let here : argument_at e c.wanted_at.result (syn_of c.in-Some.split.first.now) (state before) ≡ Ok (top (stack after), state after) =
+    ap (λ (f : Env). argument_at f c.wanted_at.result (syn_of c.in-Some.split.first.now) (state before)) (sym c.loop-split.invariant.place.0) ∙ c.in_ok-argument_if.ensures.gives in
+    record {
+      gives =
+          one_argument e _ c.loop-split.count c.in_ok-count.count (stack before) (stack after) c.args.params.now c.wanted_at.result _ _ _ (state before) (state after)
+          c.loop-split.invariant.gives c.in-Some.ensures c.wanted_at.ensures here c.in_ok-argument_if.ensures.kept.0 c.in_ok-count.ensures.counted;
+      below = below_next c.loop-split.count c.in_ok-count.count (stack before) (stack after) _ c.loop-split.invariant.below c.in_ok-argument_if.ensures.kept.0 c.in_ok-count.ensures.counted;
+      place = (c.in_ok-argument_if.ensures.kept.1.0 ∙ c.loop-split.invariant.place.0, c.in_ok-argument_if.ensures.kept.1.1 ∙ c.loop-split.invariant.place.1);
+      counted = omega (arith, ap count_of c.in-Some.ensures, c.in_ok-count.ensures.counted);
+      smaller = omega (arith, ap sizes c.in-Some.ensures);
+    }
+
+-- ---- blocks
+
+pub blocks::block-leave-requires : goal.blocks::block-leave-requires
+blocks::block-leave-requires t c =
+    omega (arith, c.count-outer.ensures, grown_length c.args.checker.now c.block_inside.new.checker c.in_ok-block_inside.ensures.kept.1)
+
+pub blocks::block-returns-clause-kept : goal.blocks::block-returns-clause-kept
+blocks::block-returns-clause-kept t c =
+    block_left c.args.checker.now c.block_inside.new.checker c.leave.new.checker c.count-outer.result c.leave.ensures.others c.count-outer.ensures c.leave.ensures.left
+    c.in_ok-block_inside.ensures.kept.0 c.in_ok-block_inside.ensures.kept.1
+
+pub blocks::typed_all-loop-split-preserved : goal.blocks::typed_all-loop-split-preserved
+blocks::typed_all-loop-split-preserved t c =
+    let before = c.loop-split.checker in
+    let after = c.statement.new.checker in
+    let one = c.in_ok-one.one in
+    record {
+      gives =
+          one_statement (env before) (env after) _ c.loop-split.count c.in_ok-count.count one.is_made one.ends c.loop-split.ends (c.loop-split.ends || one.ends) (stack before) (stack after) _ _ _ (state before) (state after)
+          c.loop-split.invariant.gives c.in-Some.ensures c.in_ok-one.ensures.gives c.in_ok-one.ensures.kept.0 c.in_ok-count.ensures.counted refl;
+      below = below_statement c.loop-split.count c.in_ok-count.count one.is_made (stack before) (stack after) _ c.loop-split.invariant.below c.in_ok-one.ensures.kept.0 c.in_ok-count.ensures.counted;
+      place = grows_on c.args.checker.now before after c.loop-split.invariant.place c.in_ok-one.ensures.kept.1;
+      smaller = omega (arith, ap sizes c.in-Some.ensures);
+    }
+
+-- ---- forms
+
+pub branches::if_of-returns-in-Some-clause-gives : goal.branches::if_of-returns-in-Some-clause-gives
+branches::if_of-returns-in-Some-clause-gives t c =
+    subst (λ (o : Option (Bor Node)). Gives (rules_of.value (env c.args.checker.now) c.args.at (IfElse (syn_of c.args.condition.now) (syn_of c.args.body.now) (maybe_of o)) c.args.want (state c.args.checker.now)) c.if_else.result c.if_else.new.checker)
+    (sym c.in-Some.is) c.if_else.ensures.gives
+
+pub branches::if_of-returns-in-None-clause-gives : goal.branches::if_of-returns-in-None-clause-gives
+branches::if_of-returns-in-None-clause-gives t c =
+    subst (λ (o : Option (Bor Node)). Gives (rules_of.value (env c.args.checker.now) c.args.at (IfElse (syn_of c.args.condition.now) (syn_of c.args.body.now) (maybe_of o)) c.args.want (state c.args.checker.now)) c.if_alone.result c.if_alone.new.checker)
+    (sym c.in-None.is) c.if_alone.ensures.gives
+
+pub expressions::value-returns-in-Math-clause-gives : goal.expressions::value-returns-in-Math-clause-gives
+expressions::value-returns-in-Math-clause-gives t c =
+    subst (λ (f : ExpressionForm). Gives (value_as (env c.args.checker.now) c.args.at (expression_of f) c.args.want (state c.args.checker.now)) c.arithmetic.result c.arithmetic.new.checker)
+    (sym c.in-Math.is) c.arithmetic.ensures.gives
+
+pub expressions::value-returns-in-Compare-clause-gives : goal.expressions::value-returns-in-Compare-clause-gives
+expressions::value-returns-in-Compare-clause-gives t c =
+    subst (λ (f : ExpressionForm). Gives (value_as (env c.args.checker.now) c.args.at (expression_of f) c.args.want (state c.args.checker.now)) c.comparison.result c.comparison.new.checker)
+    (sym c.in-Compare.is) c.comparison.ensures.gives
+
+pub expressions::value-returns-in-Block-clause-gives : goal.expressions::value-returns-in-Block-clause-gives
+expressions::value-returns-in-Block-clause-gives t c =
+    subst (λ (f : ExpressionForm). Gives (value_as (env c.args.checker.now) c.args.at (expression_of f) c.args.want (state c.args.checker.now)) c.block.result c.block.new.checker)
+    (sym c.in-Block.is) c.block.ensures.gives
+
+pub loops::break_of-returns-in_ok-typed-in-Some-clause-gives : goal.loops::break_of-returns-in_ok-typed-in-Some-clause-gives
+loops::break_of-returns-in_ok-typed-in-Some-clause-gives t c =
+    let before = c.args.checker.now in
+    let after = c.typed.new.checker in
+    let e = env before in
+    let same : env c.number.new.self ≡ e = c.in_ok-id.ensures.same.1.0 in
+    let is : option_map target_of c.jump_target-target.result ≡ option_map unlabelled (jumps_to e.loops (word_in c.args.label)) =
+    c.jump_target-target.ensures ∙ ap (λ (f : Env). option_map unlabelled (jumps_to f.loops (word_in c.args.label))) same in
+    let here : rules_of.typed e (syn_of c.in-Some.value.now) c.carried.result (state c.number.new.self) ≡ Ok (top (stack after), state after) =
+    ap (λ (f : Env). rules_of.typed f (syn_of c.in-Some.value.now) c.carried.result (state c.number.new.self)) (sym same) ∙ c.in_ok-typed-in-Some.ensures.gives in
+    subst (λ (o : Option (Bor Node)). Gives (rules_of.value e c.args.at (BreakOf (word_of c.args.label) (maybe_of o)) c.args.want (state before)) c.break_end.result c.break_end.new.checker)
+    (sym c.in-Some.is)
+    (subst (λ (o : Result (tree.Node × State) Broken). Gives o c.break_end.result c.break_end.new.checker)
+    (sym (broken_out e c.args.at c.args.label (syn_of c.in-Some.value.now) c.args.want c.carried.result c.in_ok-id.id.0 (top (stack after)) (option_map target_of c.jump_target-target.result)
+    (state before) (state c.number.new.self) (state after) c.in_ok-id.ensures.number is c.carried.ensures here))
+    c.break_end.ensures.gives)
+
+pub operators::store-returns-clause-gives : goal.operators::store-returns-clause-gives
+operators::store-returns-clause-gives t c =
+    let before = c.args.checker.now in
+    let middle = c.plain_base.new.checker in
+    let after = c.typed.new.checker in
+    let e = env before in
+    let first : env c.number.new.self ≡ e = c.in_ok-id.ensures.same.1.0 in
+    let second : env middle ≡ e = c.in_ok-plain_base.ensures.kept.1.0 ∙ first in
+    let third : env after ≡ e = c.in_ok-typed.ensures.kept.1.0 ∙ second in
+    let place : plain_base e (syn_of c.args.place.now) (state c.number.new.self) ≡ Ok (top (stack middle), state middle) =
+    ap (λ (f : Env). plain_base f (syn_of c.args.place.now) (state c.number.new.self)) (sym first) ∙ c.in_ok-plain_base.ensures.gives in
+    let value : rules_of.typed e (syn_of c.args.value.now) (Some (ty_of (top (stack middle)))) (state middle) ≡ Ok (top (stack after), state after) =
+    ap (λ (f : Env). rules_of.typed f (syn_of c.args.value.now) (Some (ty_of (top (stack middle)))) (state middle)) (sym second)
+    ∙ ap (λ (ty : TyId). rules_of.typed (env middle) (syn_of c.args.value.now) (Some ty) (state middle)) (sym c.last_ty-ty.ensures) ∙ c.in_ok-typed.ensures.gives in
+    let under : below (stack after) ≡ stack middle = c.in_ok-typed.ensures.kept.0 in
+    subst (λ (o : Result (tree.Node × State) Broken). Gives o c.store_end.result c.store_end.new.checker)
+    (sym (stored e (env after) c.args.at (rules_of.base_of e (syn_of c.args.place.now)) (rules_of.typed e (syn_of c.args.value.now)) c.args.want c.in_ok-id.id.0 (top (stack middle)) (top (stack after))
+    (state before) (state c.number.new.self) (state middle) (state after) c.in_ok-id.ensures.number place value third
+    ∙ ap (λ (ns : List tree.Node). store_rest (env after) c.in_ok-id.id.0 c.args.at c.args.want (top ns) (top (stack after)) (state after)) (sym under)))
+    c.store_end.ensures.gives
+
+-- ---- references
+
+pub arguments::borrow-returns-clause-gives : goal.arguments::borrow-returns-clause-gives
+arguments::borrow-returns-clause-gives t c =
+    let before = c.args.checker.now in
+    let after = c.plain_base.new.checker in
+    let e = env before in
+    let same : env c.number.new.self ≡ e = c.in_ok-id.ensures.same.1.0 in
+    let base : plain_base e (syn_of c.args.base.now) (state c.number.new.self) ≡ Ok (top (stack after), state after) =
+    ap (λ (f : Env). plain_base f (syn_of c.args.base.now) (state c.number.new.self)) (sym same) ∙ c.in_ok-plain_base.ensures.gives in
+    subst (λ (o : Result (tree.Node × State) Broken). Gives o c.borrow_end.result c.borrow_end.new.checker)
+    (sym (borrowed c.args.at c.args.unique (rules_of.base_of e (syn_of c.args.base.now)) c.args.is_unique c.args.to c.in_ok-id.id.0 (top (stack after))
+    (state before) (state c.number.new.self) (state after) c.in_ok-id.ensures.number base))
+    c.borrow_end.ensures.gives
+
+-- ---- calls
+
+pub calls::call_of-returns-clause-gives : goal.calls::call_of-returns-clause-gives
+calls::call_of-returns-clause-gives t c =
+    λ value.
+    let before = c.args.checker.now in
+    let middle = c.begin.new.checker in
+    let after = c.typed_args.new.checker in
+    let begun = c.in_ok-begun.begun in
+    let count = count_of (nodes_of c.args.args) in
+    let arguments : Arguments = λ params. rules_of.typed_args (env before) params (nodes_of c.args.args) in
+    let check : ℕ → Arguments → Check tree.Node = λ n a. rules_of.called_by c.args.at n value a (callee_seen before.walk.items c.args.callee) c.args.want in
+    let here : arguments begun.params (state middle) ≡ Ok (last_nodes c.in_ok-count.count (stack after), state after) =
+    ap (λ (f : Env). rules_of.typed_args f begun.params (nodes_of c.args.args) (state middle)) (sym c.in_ok-begun.ensures.same.1.0)
+    ∙ ap (λ (ps : List TyId). rules_of.typed_args (env middle) ps (nodes_of c.args.args) (state middle)) (sym c.as_slice.ensures) ∙ c.in_ok-count.ensures.gives in
+    subst (λ (o : Result (tree.Node × State) Broken). Gives o c.call_end.result c.call_end.new.checker)
+    (sym (behind_args check arguments begun.params (begun_rest c.args.at c.args.want begun) (top (stack middle)) count c.in_ok-count.count (last_nodes c.in_ok-count.count (stack after))
+    (state before) (state middle) (state after) (c.in_ok-begun.ensures.gives value count arguments) here c.in_ok-count.ensures.counted))
+    (c.call_end.ensures.gives (top (stack middle)))
+
+pub calls::closure_behind-returns-clause-gives : goal.calls::closure_behind-returns-clause-gives
+calls::closure_behind-returns-clause-gives t c =
+    let before = c.args.checker.now in
+    let after = c.typed_args.new.checker in
+    let callee = c.in_ok-callee.callee in
+    let count = count_of (nodes_of c.args.args) in
+    let arguments : Arguments = λ params. rules_of.typed_args (env before) params (nodes_of c.args.args) in
+    let here : arguments callee.params (state before) ≡ Ok (last_nodes c.in_ok-count.count (stack after), state after) =
+    ap (λ (ps : List TyId). rules_of.typed_args (env before) ps (nodes_of c.args.args) (state before)) (sym c.as_slice.ensures) ∙ c.in_ok-count.ensures.gives in
+    subst (λ (o : Result (tree.Node × State) Broken). Gives o c.closure_end.result c.closure_end.new.checker)
+    (sym (behind_args (closure_rest c.args.id.0 c.args.at c.args.want (top (stack before))) arguments callee.params (callee_rest c.args.id.0 c.args.at c.args.want callee) (top (stack before)) count c.in_ok-count.count (last_nodes c.in_ok-count.count (stack after))
+    (state before) (state before) (state after) (c.in_ok-callee.ensures.gives c.args.id.0 c.args.at c.args.want count arguments) here c.in_ok-count.ensures.counted
+    ∙ ap (λ (ns : List tree.Node). callee_rest c.args.id.0 c.args.at c.args.want callee (top ns) c.in_ok-count.count (last_nodes c.in_ok-count.count (stack after)) (state after)) (sym c.in_ok-count.ensures.kept.0)))
+    c.closure_end.ensures.gives
+
+pub calls::closure_call-returns-clause-gives : goal.calls::closure_call-returns-clause-gives
+calls::closure_call-returns-clause-gives t c =
+    let before = c.args.checker.now in
+    let middle = c.number.new.self in
+    let after = c.typed.new.checker in
+    let same : env middle ≡ env before = c.in_ok-id.ensures.same.1.0 in
+    let arguments : Env → Arguments = λ e. λ params. rules_of.typed_args e params (nodes_of c.args.args) in
+    let value : rules_of.typed (env before) (syn_of c.args.callee.now) None (state middle) ≡ Ok (top (stack after), state after) =
+    ap (λ (f : Env). rules_of.typed f (syn_of c.args.callee.now) None (state middle)) (sym same) ∙ c.in_ok-typed.ensures.gives in
+    subst (λ (o : Result (tree.Node × State) Broken). Gives o c.closure_behind.result c.closure_behind.new.checker)
+    (sym (closure_called c.args.at (count_of (nodes_of c.args.args)) (rules_of.typed (env before) (syn_of c.args.callee.now) None) (arguments (env before)) c.args.want c.in_ok-id.id.0 (top (stack after))
+    (state before) (state middle) (state after) c.in_ok-id.ensures.number value
+    ∙ ap (λ (f : Env). closure_rest c.in_ok-id.id.0 c.args.at c.args.want (top (stack after)) (count_of (nodes_of c.args.args)) (arguments f) (state after)) (sym (c.in_ok-typed.ensures.kept.1.0 ∙ same))))
+    c.closure_behind.ensures.gives
+
+pub calls::method_behind-returns-clause-gives : goal.calls::method_behind-returns-clause-gives
+calls::method_behind-returns-clause-gives t c =
+    let before = c.args.checker.now in
+    let middle = c.method_receiver.new.checker in
+    let after = c.typed_args.new.checker in
+    let receiver = c.in_ok-receiver.receiver in
+    let count = count_of (nodes_of c.args.args) in
+    let arguments : Arguments = λ params. rules_of.typed_args (env before) params (nodes_of c.args.args) in
+    let here : arguments receiver.params (state middle) ≡ Ok (last_nodes c.in_ok-count.count (stack after), state after) =
+    ap (λ (f : Env). rules_of.typed_args f receiver.params (nodes_of c.args.args) (state middle)) (sym c.in_ok-receiver.ensures.kept.1.0)
+    ∙ ap (λ (ps : List TyId). rules_of.typed_args (env middle) ps (nodes_of c.args.args) (state middle)) (sym c.as_slice.ensures) ∙ c.in_ok-count.ensures.gives in
+    subst (λ (o : Result (tree.Node × State) Broken). Gives o c.method_end.result c.method_end.new.checker)
+    (sym (behind_args (method_rest (env before) c.args.id.0 c.args.at (method_named c.args.name.now) c.args.want (top (stack before))) arguments receiver.params (receiver_rest c.args.id.0 c.args.at c.args.want receiver) (top (stack middle)) count c.in_ok-count.count (last_nodes c.in_ok-count.count (stack after))
+    (state before) (state middle) (state after) (c.in_ok-receiver.ensures.gives c.args.id.0 c.args.want count arguments) here c.in_ok-count.ensures.counted
+    ∙ ap (λ (ns : List tree.Node). receiver_rest c.args.id.0 c.args.at c.args.want receiver (top ns) c.in_ok-count.count (last_nodes c.in_ok-count.count (stack after)) (state after)) (sym c.in_ok-count.ensures.kept.0)))
+    c.method_end.ensures.gives
+
+pub calls::method_call-returns-clause-gives : goal.calls::method_call-returns-clause-gives
+calls::method_call-returns-clause-gives t c =
+    let before = c.args.checker.now in
+    let middle = c.number.new.self in
+    let after = c.base_of.new.checker in
+    let e = env before in
+    let same : env middle ≡ e = c.in_ok-id.ensures.same.1.0 in
+    let arguments : Env → Arguments = λ f. λ params. rules_of.typed_args f params (nodes_of c.args.args) in
+    let base : rules_of.base_of e (syn_of c.args.receiver.now) (state middle) ≡ Ok (top (stack after), state after) =
+    ap (λ (f : Env). rules_of.base_of f (syn_of c.args.receiver.now) (state middle)) (sym same) ∙ c.in_ok-base_of.ensures.gives in
+    subst (λ (o : Result (tree.Node × State) Broken). Gives o c.method_behind.result c.method_behind.new.checker)
+    (sym (method_called e (env after) c.args.at (method_named c.args.name.now) (count_of (nodes_of c.args.args)) (rules_of.base_of e (syn_of c.args.receiver.now)) (arguments e) c.args.want c.in_ok-id.id.0 (top (stack after))
+    (state before) (state middle) (state after) c.in_ok-id.ensures.number base (c.in_ok-base_of.ensures.kept.1.0 ∙ same)
+    ∙ ap (λ (f : Env). method_rest (env after) c.in_ok-id.id.0 c.args.at (method_named c.args.name.now) c.args.want (top (stack after)) (count_of (nodes_of c.args.args)) (arguments f) (state after)) (sym (c.in_ok-base_of.ensures.kept.1.0 ∙ same))))
+    c.method_behind.ensures.gives
+
+pub calls::call_of-returns-in_err-begun-clause-gives : goal.calls::call_of-returns-in_err-begun-clause-gives
+calls::call_of-returns-in_err-begun-clause-gives t c =
+    λ value.
+    let before = c.args.checker.now in
+    let arguments : Arguments = λ params. rules_of.typed_args (env before) params (nodes_of c.args.args) in
+    let refused : Refuses (rules_of.called_by c.args.at (count_of (nodes_of c.args.args)) value arguments (callee_seen before.walk.items c.args.callee) c.args.want (state before)) c.in_err-begun.field-0.0 =
+    c.in_err-begun.ensures.gives value (count_of (nodes_of c.args.args)) arguments in
+    grind (arith, refused)
+
+pub calls::closure_behind-returns-in_err-callee-clause-gives : goal.calls::closure_behind-returns-in_err-callee-clause-gives
+calls::closure_behind-returns-in_err-callee-clause-gives t c =
+    let before = c.args.checker.now in
+    let arguments : Arguments = λ params. rules_of.typed_args (env before) params (nodes_of c.args.args) in
+    let refused : Refuses (closure_rest c.args.id.0 c.args.at c.args.want (top (stack before)) (count_of (nodes_of c.args.args)) arguments (state before)) c.in_err-callee.field-0.0 =
+    c.in_err-callee.ensures.gives c.args.id.0 c.args.at c.args.want (count_of (nodes_of c.args.args)) arguments in
+    grind (arith, refused)
+
+pub calls::closure_behind-returns-in_err-count-clause-gives : goal.calls::closure_behind-returns-in_err-count-clause-gives
+calls::closure_behind-returns-in_err-count-clause-gives t c =
+    let before = c.args.checker.now in
+    let callee = c.in_ok-callee.callee in
+    let count = count_of (nodes_of c.args.args) in
+    let arguments : Arguments = λ params. rules_of.typed_args (env before) params (nodes_of c.args.args) in
+    let here : Refuses (arguments callee.params (state before)) c.in_err-count.field-0.0 =
+    subst (λ (ps : List TyId). Refuses (rules_of.typed_args (env before) ps (nodes_of c.args.args) (state before)) c.in_err-count.field-0.0) c.as_slice.ensures c.in_err-count.ensures.gives in
+    let refused : Refuses (closure_rest c.args.id.0 c.args.at c.args.want (top (stack before)) count arguments (state before)) c.in_err-count.field-0.0 =
+    refused_args (closure_rest c.args.id.0 c.args.at c.args.want (top (stack before))) arguments callee.params (callee_rest c.args.id.0 c.args.at c.args.want callee) (top (stack before)) count
+    (state before) (state before) c.in_err-count.field-0.0 (c.in_ok-callee.ensures.gives c.args.id.0 c.args.at c.args.want count arguments) here in
+    grind (arith, refused)
+
+pub calls::method_behind-returns-in_err-receiver-clause-gives : goal.calls::method_behind-returns-in_err-receiver-clause-gives
+calls::method_behind-returns-in_err-receiver-clause-gives t c =
+    let before = c.args.checker.now in
+    let arguments : Arguments = λ params. rules_of.typed_args (env before) params (nodes_of c.args.args) in
+    let refused : Refuses (method_rest (env before) c.args.id.0 c.args.at (method_named c.args.name.now) c.args.want (top (stack before)) (count_of (nodes_of c.args.args)) arguments (state before)) c.in_err-receiver.field-0.0 =
+    c.in_err-receiver.ensures.gives c.args.id.0 c.args.want (count_of (nodes_of c.args.args)) arguments in
+    grind (arith, refused)
+
+pub calls::found_call-returns-in_default : goal.calls::found_call-returns-in_default
+calls::found_call-returns-in_default t c =
+    record {
+      gives = c.call_of.ensures.gives (rules_of.typed (env c.args.checker.now) (syn_of c.args.callee.now) None);
+      kept = c.call_of.ensures.kept;
+    }
+
+pub expressions::value-returns-in-Call-clause-gives : goal.expressions::value-returns-in-Call-clause-gives
+expressions::value-returns-in-Call-clause-gives t c =
+    subst (λ (f : ExpressionForm). Gives (value_as (env c.args.checker.now) c.args.at (expression_of f) c.args.want (state c.args.checker.now)) c.call.result c.call.new.checker)
+    (sym c.in-Call.is) c.call.ensures.gives
+
+pub expressions::value-returns-in-MethodCall-clause-gives : goal.expressions::value-returns-in-MethodCall-clause-gives
+expressions::value-returns-in-MethodCall-clause-gives t c =
+    subst (λ (f : ExpressionForm). Gives (value_as (env c.args.checker.now) c.args.at (expression_of f) c.args.want (state c.args.checker.now)) c.method_call.result c.method_call.new.checker)
+    (sym c.in-MethodCall.is) c.method_call.ensures.gives
+
+-- ---- patterns
+
+pub matches::typed_arms-loop-split-preserved : goal.matches::typed_arms-loop-split-preserved
+matches::typed_arms-loop-split-preserved t c =
+    let before = c.loop-split.checker in
+    let after = c.arm_of_node.new.checker in
+    let e = env c.args.checker.now in
+    let here : arm_of_syn e (expected_of c.args.e) c.args.ty c.args.want (syn_of c.in-Some.split.first.now) (state before) ≡ Ok (top (stack after), state after) =
+    ap (λ (f : Env). arm_of_syn f (expected_of c.args.e) c.args.ty c.args.want (syn_of c.in-Some.split.first.now) (state before)) (sym c.loop-split.invariant.place.0) ∙ c.in_ok-arm_of_node.ensures.gives in
+    record {
+      gives =
+          one_arm e (expected_of c.args.e) c.args.ty c.args.want _ c.loop-split.count c.in_ok-count.count (stack before) (stack after) _ _ _ (state before) (state after)
+          c.loop-split.invariant.gives c.in-Some.ensures here c.in_ok-arm_of_node.ensures.kept.0 c.in_ok-count.ensures.counted;
+      below = below_next c.loop-split.count c.in_ok-count.count (stack before) (stack after) _ c.loop-split.invariant.below c.in_ok-arm_of_node.ensures.kept.0 c.in_ok-count.ensures.counted;
+      place = (c.in_ok-arm_of_node.ensures.kept.1.0 ∙ c.loop-split.invariant.place.0, c.in_ok-arm_of_node.ensures.kept.1.1 ∙ c.loop-split.invariant.place.1);
+      smaller = omega (arith, ap sizes c.in-Some.ensures);
+    }
+
+pub matches::typed_arms-loop-split-init : goal.matches::typed_arms-loop-split-init
+matches::typed_arms-loop-split-init t c =
+    let before = c.args.checker.now in
+    record {
+      gives = none_yet (stack before) (rules_of.typed_arms (env before) (expected_of c.args.e) c.args.ty c.args.want (nodes_of c.args.arms) (state before));
+      below = refl;
+      place = (refl, refl);
+      smaller = omega arith;
+    }
+
+pub matches::typed_arms-returns-in_err-arm_of_node-clause-gives : goal.matches::typed_arms-returns-in_err-arm_of_node-clause-gives
+matches::typed_arms-returns-in_err-arm_of_node-clause-gives t c =
+    let before = c.loop-split.checker in
+    let e = env c.args.checker.now in
+    let here : Refuses (arm_of_syn e (expected_of c.args.e) c.args.ty c.args.want (syn_of c.in-Some.split.first.now) (state before)) c.in_err-arm_of_node.field-0.0 =
+    subst (λ (f : Env). Refuses (arm_of_syn f (expected_of c.args.e) c.args.ty c.args.want (syn_of c.in-Some.split.first.now) (state before)) c.in_err-arm_of_node.field-0.0) c.loop-split.invariant.place.0 c.in_err-arm_of_node.ensures.gives in
+    let refused : Refuses (rules_of.typed_arms e (expected_of c.args.e) c.args.ty c.args.want (nodes_of c.args.arms) (state c.args.checker.now)) c.in_err-arm_of_node.field-0.0 =
+    refused_arm e (expected_of c.args.e) c.args.ty c.args.want _ c.loop-split.count (stack before) _ _ _ (state before) c.in_err-arm_of_node.field-0.0 c.loop-split.invariant.gives c.in-Some.ensures here in
+    grind (arith, refused)
+
+pub matches::inside_scope-leave-requires : goal.matches::inside_scope-leave-requires
+matches::inside_scope-leave-requires t c =
+    omega (
+      arith,
+      c.count-outer.ensures,
+      grown_length c.args.checker.now c.typed.new.checker (scoped_grows c.args.checker.now c.enter_bound.new.checker c.typed.new.checker (reverse c.args.bound.now) c.in_ok-enter_bound.ensures.entered c.in_ok-enter_bound.ensures.others c.in_ok-typed.ensures.kept.1),
+    )
+
+pub matches::inside_scope-returns-clause-kept : goal.matches::inside_scope-returns-clause-kept
+matches::inside_scope-returns-clause-kept t c =
+    scope_left c.args.checker.now c.enter_bound.new.checker c.typed.new.checker c.leave.new.checker c.count-outer.result (reverse c.args.bound.now) c.in_ok-enter_bound.ensures.entered c.in_ok-enter_bound.ensures.others
+    c.in_ok-typed.ensures.kept.0 c.in_ok-typed.ensures.kept.1 c.leave.ensures.others c.count-outer.ensures c.leave.ensures.left
+
+pub matches::inside_guard-leave-requires : goal.matches::inside_guard-leave-requires
+matches::inside_guard-leave-requires t c =
+    omega (
+      arith,
+      c.count-outer.ensures,
+      grown_length c.args.checker.now c.typed.new.checker (scoped_grows c.args.checker.now c.enter_guard.new.checker c.typed.new.checker (in_guard (reverse c.args.bound.now)) c.in_ok-enter_guard.ensures.entered c.in_ok-enter_guard.ensures.others c.in_ok-typed.ensures.kept.1),
+    )
+
+pub matches::inside_guard-returns-clause-kept : goal.matches::inside_guard-returns-clause-kept
+matches::inside_guard-returns-clause-kept t c =
+    scope_left c.args.checker.now c.enter_guard.new.checker c.typed.new.checker c.leave.new.checker c.count-outer.result (in_guard (reverse c.args.bound.now)) c.in_ok-enter_guard.ensures.entered c.in_ok-enter_guard.ensures.others
+    c.in_ok-typed.ensures.kept.0 c.in_ok-typed.ensures.kept.1 c.leave.ensures.others c.count-outer.ensures c.leave.ensures.left
+
+pub matches::match_row-returns-clause-gives : goal.matches::match_row-returns-clause-gives
+matches::match_row-returns-clause-gives t c =
+    let before = c.args.checker.now in
+    let middle = c.number.new.self in
+    let after = c.scrutinee_of.new.checker in
+    let e = env before in
+    let same : env middle ≡ e = c.in_ok-id.ensures.same.1.0 in
+    let looked : scrutinised (rules_of.base_of e (syn_of c.args.scrutinee.now)) (state middle) ≡ Ok (top (stack after), state after) =
+    ap (λ (f : Env). scrutinised (rules_of.base_of f (syn_of c.args.scrutinee.now)) (state middle)) (sym same) ∙ c.in_ok-scrutinee_of.ensures.gives in
+    subst (λ (o : Result (tree.Node × State) Broken). Gives o c.arms_behind.result c.arms_behind.new.checker)
+    (sym (matched e (env after) c.args.at (rules_of.base_of e (syn_of c.args.scrutinee.now)) (nodes_of c.args.arms) c.args.want c.in_ok-id.id.0 (top (stack after))
+    (state before) (state middle) (state after) c.in_ok-id.ensures.number looked (c.in_ok-scrutinee_of.ensures.kept.1.0 ∙ same)))
+    c.arms_behind.ensures.gives
+
+pub matches::if_let-returns-clause-gives : goal.matches::if_let-returns-clause-gives
+matches::if_let-returns-clause-gives t c =
+    let before = c.args.checker.now in
+    let middle = c.number.new.self in
+    let after = c.scrutinee_of.new.checker in
+    let e = env before in
+    let same : env middle ≡ e = c.in_ok-id.ensures.same.1.0 in
+    let looked : scrutinised (rules_of.base_of e (syn_of c.args.scrutinee.now)) (state middle) ≡ Ok (top (stack after), state after) =
+    ap (λ (f : Env). scrutinised (rules_of.base_of f (syn_of c.args.scrutinee.now)) (state middle)) (sym same) ∙ c.in_ok-scrutinee_of.ensures.gives in
+    subst (λ (o : Result (tree.Node × State) Broken). Gives o c.if_let_behind.result c.if_let_behind.new.checker)
+    (sym (if_let_looked e (env after) c.args.at (syn_of c.args.pattern.now) (syn_of c.args.scrutinee.now) (syn_of c.args.body.now) (maybe_of c.args.otherwise) c.args.want c.in_ok-id.id.0 (top (stack after))
+    (state before) (state middle) (state after) c.in_ok-id.ensures.number looked (c.in_ok-scrutinee_of.ensures.kept.1.0 ∙ same)))
+    c.if_let_behind.ensures.gives
+
+pub matches::if_let-returns-in_err-scrutinee_of-clause-gives : goal.matches::if_let-returns-in_err-scrutinee_of-clause-gives
+matches::if_let-returns-in_err-scrutinee_of-clause-gives t c =
+    let before = c.args.checker.now in
+    let middle = c.number.new.self in
+    let e = env before in
+    let here : Refuses (scrutinised (rules_of.base_of e (syn_of c.args.scrutinee.now)) (state middle)) c.in_err-scrutinee_of.field-0.0 =
+    subst (λ (f : Env). Refuses (scrutinised (rules_of.base_of f (syn_of c.args.scrutinee.now)) (state middle)) c.in_err-scrutinee_of.field-0.0) c.in_ok-id.ensures.same.1.0 c.in_err-scrutinee_of.ensures.gives in
+    let refused : Refuses (rules_of.value e c.args.at (IfLetElse (syn_of c.args.pattern.now) (syn_of c.args.scrutinee.now) (syn_of c.args.body.now) (maybe_of c.args.otherwise)) c.args.want (state before)) c.in_err-scrutinee_of.field-0.0 =
+    if_let_refused e c.args.at (syn_of c.args.pattern.now) (syn_of c.args.scrutinee.now) (syn_of c.args.body.now) (maybe_of c.args.otherwise) c.args.want c.in_ok-id.id.0 (state before) (state middle) c.in_err-scrutinee_of.field-0.0 c.in_ok-id.ensures.number here in
+    grind (arith, refused)
+
+pub matches::while_let-returns-clause-gives : goal.matches::while_let-returns-clause-gives
+matches::while_let-returns-clause-gives t c =
+    let before = c.args.checker.now in
+    let middle = c.number.new.self in
+    let looked = c.base_inside_loop.new.checker in
+    let after = c.scrutinised.new.checker in
+    let e = env before in
+    let same : env middle ≡ e = c.in_ok-id.ensures.same.1.0 in
+    let base : rules_of.base_of (within_loop (loop_around (word_in c.args.label) c.in_ok-id.id.0 false None) e) (syn_of c.args.scrutinee.now) (state middle) ≡ Ok (top (stack looked), state looked) =
+    ap (λ (f : Env). rules_of.base_of (within_loop (loop_around (word_in c.args.label) c.in_ok-id.id.0 false None) f) (syn_of c.args.scrutinee.now) (state middle)) (sym same) ∙ c.in_ok-base_inside_loop.ensures.gives in
+    subst (λ (o : Result (tree.Node × State) Broken). Gives o c.while_let_behind.result c.while_let_behind.new.checker)
+    (sym (while_let_looked e (env after) c.args.at c.args.label (syn_of c.args.pattern.now) (syn_of c.args.scrutinee.now) (syn_of c.args.body.now) c.args.want c.in_ok-id.id.0 (top (stack looked)) (top (stack after))
+    (state before) (state middle) (state looked) (state after) c.in_ok-id.ensures.number base c.in_ok-scrutinised.ensures.gives (c.in_ok-scrutinised.ensures.kept.1.0 ∙ c.in_ok-base_inside_loop.ensures.kept.1.0 ∙ same)))
+    c.while_let_behind.ensures.gives
+
+pub expressions::value-returns-in-WhileLet-clause-gives : goal.expressions::value-returns-in-WhileLet-clause-gives
+expressions::value-returns-in-WhileLet-clause-gives t c =
+    subst (λ (f : ExpressionForm). Gives (value_as (env c.args.checker.now) c.args.at (expression_of f) c.args.want (state c.args.checker.now)) c.while_let.result c.while_let.new.checker)
+    (sym c.in-WhileLet.is) c.while_let.ensures.gives
+
+-- ---- `let`
+
+pub blocks::let_statement-returns-clause-gives : goal.blocks::let_statement-returns-clause-gives
+blocks::let_statement-returns-clause-gives t c =
+    let before = c.args.checker.now in
+    let first = c.number.new.self in
+    let second = c.written_if.new.checker in
+    let third = c.initialised.new.checker in
+    let e = env before in
+    let p = syn_of c.args.pattern.now in
+    let has = c.in_ok-has_value.has_value in
+    let first_same : env first ≡ e = c.in_ok-id.ensures.same.1.0 in
+    let second_same : env second ≡ e = c.in_ok-declared.ensures.same.1.0 ∙ first_same in
+    let third_same : env third ≡ e = c.in_ok-has_value.ensures.kept.1.0 ∙ second_same in
+    let written : rules_of.declared e (maybe_of c.args.ty) (state first) ≡ Ok (c.in_ok-declared.declared, state second) =
+    ap (λ (f : Env). rules_of.declared f (maybe_of c.args.ty) (state first)) (sym first_same) ∙ c.in_ok-declared.ensures.gives in
+    let init : rules_of.initialised e c.is_one_name-is_one.result (maybe_of c.args.value) c.in_ok-declared.declared (state second) ≡ Ok (value_if has (stack third), state third) =
+    ap (λ (f : Env). rules_of.initialised f c.is_one_name-is_one.result (maybe_of c.args.value) c.in_ok-declared.declared (state second)) (sym second_same) ∙ c.in_ok-has_value.ensures.gives in
+    let done = c.let_end.new.checker in
+    let_done e (env third) e c.args.at p (maybe_of c.args.ty) (maybe_of c.args.value) c.is_one_name-is_one.result c.in_ok-id.id.0 c.in_ok-declared.declared (value_if has (stack third)) (value_if has (stack third))
+    (top (stack done), c.in_ok-ends.ends, env done) (state before) (state first) (state second) (state third) (state done)
+    c.is_one_name-is_one.ensures c.in_ok-id.ensures.number written init third_same c.in_ok-ends.ensures.gives
+
+pub blocks::let_statement-returns-in_err-ends-clause-gives : goal.blocks::let_statement-returns-in_err-ends-clause-gives
+blocks::let_statement-returns-in_err-ends-clause-gives t c =
+    let before = c.args.checker.now in
+    let first = c.number.new.self in
+    let second = c.written_if.new.checker in
+    let third = c.initialised.new.checker in
+    let e = env before in
+    let p = syn_of c.args.pattern.now in
+    let has = c.in_ok-has_value.has_value in
+    let first_same : env first ≡ e = c.in_ok-id.ensures.same.1.0 in
+    let second_same : env second ≡ e = c.in_ok-declared.ensures.same.1.0 ∙ first_same in
+    let third_same : env third ≡ e = c.in_ok-has_value.ensures.kept.1.0 ∙ second_same in
+    let written : rules_of.declared e (maybe_of c.args.ty) (state first) ≡ Ok (c.in_ok-declared.declared, state second) =
+    ap (λ (f : Env). rules_of.declared f (maybe_of c.args.ty) (state first)) (sym first_same) ∙ c.in_ok-declared.ensures.gives in
+    let init : rules_of.initialised e c.is_one_name-is_one.result (maybe_of c.args.value) c.in_ok-declared.declared (state second) ≡ Ok (value_if has (stack third), state third) =
+    ap (λ (f : Env). rules_of.initialised f c.is_one_name-is_one.result (maybe_of c.args.value) c.in_ok-declared.declared (state second)) (sym second_same) ∙ c.in_ok-has_value.ensures.gives in
+    let refused : Refuses (rules_of.other_statement e c.args.at (LetOf p (maybe_of c.args.ty) (maybe_of c.args.value)) (state before)) c.in_err-ends.field-0.0 =
+    let_refused e (env third) e c.args.at p (maybe_of c.args.ty) (maybe_of c.args.value) c.is_one_name-is_one.result c.in_ok-id.id.0 c.in_ok-declared.declared (value_if has (stack third))
+    (state before) (state first) (state second) (state third) c.in_err-ends.field-0.0 c.is_one_name-is_one.ensures c.in_ok-id.ensures.number written init third_same c.in_err-ends.ensures.gives in
+    grind (arith, refused)
+
+pub blocks::let_statement-returns-clause-kept : goal.blocks::let_statement-returns-clause-kept
+blocks::let_statement-returns-clause-kept t c =
+    let before = c.args.checker.now in
+    let third = c.initialised.new.checker in
+    let done = c.let_end.new.checker in
+    let same : env third ≡ env before = c.in_ok-has_value.ensures.kept.1.0 ∙ (c.in_ok-declared.ensures.same.1.0 ∙ c.in_ok-id.ensures.same.1.0) in
+    let new = brings (env third) (env done) c.in_ok-id.id.0 c.args.at c.is_one_name-is_one.result c.in_ok-declared.declared (value_if c.in_ok-has_value.has_value (stack third)) (syn_of c.args.pattern.now)
+    (top (stack done)) c.in_ok-ends.ends (state third) (state done) c.in_ok-ends.ensures.gives in (
+      c.in_ok-ends.ensures.kept.0 ∙ (c.in_ok-has_value.ensures.kept.0 ∙ (c.in_ok-declared.ensures.same.0 ∙ c.in_ok-id.ensures.same.0)),
+      ((new.0, new.1 ∙ ap (with_variables new.0) same), c.in_ok-ends.ensures.kept.1 ∙ (c.in_ok-has_value.ensures.kept.1.1 ∙ (c.in_ok-declared.ensures.same.1.1 ∙ c.in_ok-id.ensures.same.1.1))),
+    )

@@ -1,0 +1,72 @@
+//! Branches (The Rust Reference, "if expressions").
+ghost use Rattle.std.specs.Prelude.{◌≡◌};
+ghost use Rattle.src_ast.specs.Seen.{maybe_of, syn_of};
+ghost use Rattle.src_ast.specs.Syntax.{IfElse};
+ghost use Rattle.typing_rules.specs.Rows as rows;
+ghost use Rattle.typing_rules.specs.Typed as rules;
+ghost use Rattle.list_rows.specs.Pairs.{KeepsTwo};
+ghost use Rattle.type_rows.specs.Stand.{Gives, GivesValue, Keeps, below, env, stack, state, top};
+
+use crate::expressions::typed;
+use branch_rows::if_else_end;
+use mir_base::{Pos, RuleError};
+use mir_ty::TyId;
+use src_tree::Node;
+use type_rows::{Checker, Two};
+
+/// `if` without `else`.
+#[cycle(typed)]
+fn if_alone(
+    checker: &mut Checker,
+    at: Pos,
+    condition: &Node,
+    body: &Node,
+    want: Option<TyId>,
+) -> Result<(), RuleError>
+    ensures gives { Gives (rows.if_alone at (rules.typed (env checker.old) (syn_of condition.now)) (rules.typed (env checker.old) (syn_of body.now)) want (state checker.old)) result checker.new }
+    ensures kept { Keeps (stack checker.old) checker.old result checker.new }
+{
+    let id = checker.number()?;
+    typed(checker, condition, Some(TyId(1)))?;
+    typed(checker, body, Some(TyId(0)))?;
+    checker.settled_two(id, at, TyId(0), Two::If, want)
+}
+
+/// `if` with `else`.
+#[cycle(typed)]
+fn if_else(
+    checker: &mut Checker,
+    at: Pos,
+    condition: &Node,
+    body: &Node,
+    otherwise: &Node,
+    want: Option<TyId>,
+) -> Result<(), RuleError>
+    ensures gives { Gives (rows.if_else at (rules.typed (env checker.old) (syn_of condition.now)) (rules.typed (env checker.old) (syn_of body.now)) (rules.typed (env checker.old) (syn_of otherwise.now)) want (state checker.old)) result checker.new }
+    ensures kept { Keeps (stack checker.old) checker.old result checker.new }
+{
+    let id = checker.number()?;
+    typed(checker, condition, Some(TyId(1)))?;
+    typed(checker, body, want)?;
+    typed(checker, otherwise, want)?;
+    if_else_end(checker, id, at, want)
+}
+
+/// `if`.
+#[cycle(typed)]
+pub fn if_of(
+    checker: &mut Checker,
+    at: Pos,
+    condition: &Node,
+    body: &Node,
+    otherwise: Option<&Node>,
+    want: Option<TyId>,
+) -> Result<(), RuleError>
+    ensures gives { Gives (rules.value (env checker.old) at (IfElse (syn_of condition.now) (syn_of body.now) (maybe_of otherwise.entry)) want (state checker.old)) result checker.new }
+    ensures kept { Keeps (stack checker.old) checker.old result checker.new }
+{
+    match otherwise {
+        Some(otherwise) => if_else(checker, at, condition, body, otherwise, want),
+        None => if_alone(checker, at, condition, body, want),
+    }
+}

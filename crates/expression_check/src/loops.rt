@@ -1,0 +1,156 @@
+//! Loops and jumps (The Rust Reference, "Loops and other breakable expressions", "return expressions").
+ghost use Rattle.std.specs.Prelude.{◌≡◌};
+ghost use Rattle.src_ast.specs.Seen.{maybe_of, syn_of, word_of};
+ghost use Rattle.src_ast.specs.Syntax.{BreakOf, ContinueOf, LoopOf, ReturnOf, WhileOf};
+ghost use Rattle.type_env.specs.Scope.{word_in};
+ghost use Rattle.typing_rules.specs.Rows as rows;
+ghost use Rattle.typing_rules.specs.Rows.{loop_around};
+ghost use Rattle.typing_rules.specs.Scope.{within_loop};
+ghost use Rattle.typing_rules.specs.Typed as rules;
+ghost use Rattle.type_rows.specs.Stand.{Gives, Keeps, env, stack, state};
+
+use crate::expressions::typed;
+use branch_rows::{
+    break_alone_end, break_end, carried, continue_end, jump_target, loop_end, return_alone_end,
+};
+use mir_base::{NodeId, Pos, RuleError};
+use mir_ty::TyId;
+use scope_rows::{enter_loop, leave_loop};
+use src_tree::Node;
+use type_rows::{Checker, One, Two};
+
+/// An expression inside a loop.
+#[cycle(typed)]
+fn inside_loop(
+    checker: &mut Checker,
+    label: Option<&str>,
+    id: NodeId,
+    breaks_with: Breaks,
+    node: &Node,
+    want: Option<TyId>,
+) -> Result<(), RuleError>
+    ensures gives { Gives (rules.typed (within_loop (loop_around (word_in label.entry) id.0 breaks_with.has_value breaks_with.want) (env checker.old)) (syn_of node.now) want (state checker.old)) result checker.new }
+    ensures kept { Keeps (stack checker.old) checker.old result checker.new }
+{
+    enter_loop(checker, label, id, breaks_with.has_value, breaks_with.want)?;
+    typed(checker, node, want)?;
+    leave_loop(checker);
+    Ok(())
+}
+
+/// What the breaks of a loop carry.
+#[derive(Clone, Copy)]
+pub struct Breaks {
+    pub has_value: bool,
+    pub want: Option<TyId>,
+}
+
+/// `loop`.
+#[cycle(typed)]
+pub fn loop_of(
+    checker: &mut Checker,
+    at: Pos,
+    label: Option<&str>,
+    body: &Node,
+    want: Option<TyId>,
+) -> Result<(), RuleError>
+    ensures gives { Gives (rules.value (env checker.old) at (LoopOf (word_of label.entry) (syn_of body.now)) want (state checker.old)) result checker.new }
+    ensures kept { Keeps (stack checker.old) checker.old result checker.new }
+{
+    let id = checker.number()?;
+    let breaks = Breaks {
+        has_value: true,
+        want,
+    };
+    inside_loop(checker, label, id, breaks, body, Some(TyId(0)))?;
+    loop_end(checker, id, at, want)
+}
+
+/// `while`.
+#[cycle(typed)]
+pub fn while_of(
+    checker: &mut Checker,
+    at: Pos,
+    label: Option<&str>,
+    condition: &Node,
+    body: &Node,
+    want: Option<TyId>,
+) -> Result<(), RuleError>
+    ensures gives { Gives (rules.value (env checker.old) at (WhileOf (word_of label.entry) (syn_of condition.now) (syn_of body.now)) want (state checker.old)) result checker.new }
+    ensures kept { Keeps (stack checker.old) checker.old result checker.new }
+{
+    let id = checker.number()?;
+    let breaks = Breaks {
+        has_value: false,
+        want: None,
+    };
+    inside_loop(checker, label, id, breaks, condition, Some(TyId(1)))?;
+    inside_loop(checker, label, id, breaks, body, Some(TyId(0)))?;
+    checker.settled_two(id, at, TyId(0), Two::While, want)
+}
+
+/// `break`.
+#[cycle(typed)]
+pub fn break_of(
+    checker: &mut Checker,
+    at: Pos,
+    label: Option<&str>,
+    value: Option<&Node>,
+    want: Option<TyId>,
+) -> Result<(), RuleError>
+    ensures gives { Gives (rules.value (env checker.old) at (BreakOf (word_of label.entry) (maybe_of value.entry)) want (state checker.old)) result checker.new }
+    ensures kept { Keeps (stack checker.old) checker.old result checker.new }
+{
+    let id = checker.number()?;
+    let target = jump_target(checker, label);
+    match value {
+        Some(value) => {
+            typed(checker, value, carried(target))?;
+            break_end(checker, id, at, target, want)
+        }
+        None => break_alone_end(checker, id, at, target, want),
+    }
+}
+
+/// `continue`.
+pub fn continue_of(
+    checker: &mut Checker,
+    at: Pos,
+    label: Option<&str>,
+    want: Option<TyId>,
+) -> Result<(), RuleError>
+    ensures gives { Gives (rules.value (env checker.old) at (ContinueOf (word_of label.entry)) want (state checker.old)) result checker.new }
+    ensures kept { Keeps (stack checker.old) checker.old result checker.new }
+{
+    let id = checker.number()?;
+    let target = jump_target(checker, label);
+    continue_end(checker, id, at, target, want)
+}
+
+#[tactic(auto, unfolding(type_rows::specs::Stand::env_in))]
+fn answer(checker: &Checker) -> TyId
+    ensures { result ≡ (env checker.now).answer }
+{
+    checker.around.answer
+}
+
+/// `return`.
+#[cycle(typed)]
+pub fn return_of(
+    checker: &mut Checker,
+    at: Pos,
+    value: Option<&Node>,
+    want: Option<TyId>,
+) -> Result<(), RuleError>
+    ensures gives { Gives (rules.value (env checker.old) at (ReturnOf (maybe_of value.entry)) want (state checker.old)) result checker.new }
+    ensures kept { Keeps (stack checker.old) checker.old result checker.new }
+{
+    let id = checker.number()?;
+    match value {
+        Some(value) => {
+            typed(checker, value, Some(answer(checker)))?;
+            checker.settled_one(id, at, TyId(2), One::Return, want)
+        }
+        None => return_alone_end(checker, id, at, want),
+    }
+}

@@ -1,0 +1,355 @@
+//! `match`, `if let` and `while let`, with the scopes of what their patterns bind (The Rust Reference, "match
+//! expressions", "if let expressions", "Predicate pattern loops").
+ghost use Rattle.std.specs.Prelude.{◌≡◌, None, Some, false, reverse};
+ghost use Rattle.src_ast.specs.Seen.{maybe_of, nodes_of, syn_of, word_of};
+ghost use Rattle.src_ast.specs.Syntax.{IfLetElse, MatchOn, WhileLetOf};
+ghost use Rattle.src_ast.specs.Expressions.{arm_of};
+ghost use Rattle.type_env.specs.Scope.{word_in};
+ghost use Rattle.pattern_rows.specs.Expected.{expected_of};
+ghost use Rattle.typing_rules.specs.Places as places;
+ghost use Rattle.typing_rules.specs.Rows as rows;
+ghost use Rattle.typing_rules.specs.Rows.{loop_around};
+ghost use Rattle.typing_rules.specs.Scope.{in_guard, with_variables, within_loop};
+ghost use Rattle.typing_rules.specs.Typed as rules;
+ghost use Rattle.expression_check.specs.Matches.{arm_check, arm_of_syn, arm_parts, arms_rest, if_let_parts, if_let_rest, while_let_rest};
+ghost use Rattle.list_rows.specs.Lists.{GivesTyped, KeepsBelow};
+ghost use Rattle.type_rows.specs.Stand.{Gives, Keeps, below, env, stack, state, top};
+
+use crate::expressions::{base_of, typed};
+use binding_rows::{
+    arm_end, bindings, enter_bound, enter_guard, expected_of_last, guarded_arm_end, scrutinised,
+};
+use branch_rows::if_let_else_end;
+use call_rows::match_end;
+use item_heads::broken;
+use list_rows::one_more;
+use mir_base::{NodeId, Pos, Rule, RuleError};
+use mir_ty::TyId;
+use pattern_rows::Expected;
+use scope_rows::{count, enter_loop, leave, leave_loop};
+use src_ast::{ArmForm, Nodes, arm_form};
+use src_tree::Node;
+use type_env::Variables;
+use type_rows::{Checker, Three};
+
+/// An expression inside the scope of bindings.
+#[cycle(typed)]
+fn inside_scope(
+    checker: &mut Checker,
+    bound: &Variables,
+    node: &Node,
+    want: Option<TyId>,
+) -> Result<(), RuleError>
+    ensures gives { Gives (rules.typed (with_variables (reverse bound.now) (env checker.old)) (syn_of node.now) want (state checker.old)) result checker.new }
+    ensures kept { Keeps (stack checker.old) checker.old result checker.new }
+{
+    let outer = count(checker);
+    enter_bound(checker, bound)?;
+    typed(checker, node, want)?;
+    leave(checker, outer);
+    Ok(())
+}
+
+/// A guard, inside which bindings stand for the parts that they would bind.
+#[cycle(typed)]
+fn inside_guard(checker: &mut Checker, bound: &Variables, guard: &Node) -> Result<(), RuleError>
+    ensures gives { Gives (rules.typed (with_variables (in_guard (reverse bound.now)) (env checker.old)) (syn_of guard.now) (Some places.bool) (state checker.old)) result checker.new }
+    ensures kept { Keeps (stack checker.old) checker.old result checker.new }
+{
+    let outer = count(checker);
+    enter_guard(checker, bound)?;
+    typed(checker, guard, Some(TyId(1)))?;
+    leave(checker, outer);
+    Ok(())
+}
+
+/// The guard and the body of an arm, whose pattern is the last node.
+#[cycle(typed)]
+fn arm_behind(
+    checker: &mut Checker,
+    id: NodeId,
+    bound: &Variables,
+    guard: Option<&Node>,
+    body: &Node,
+    want: Option<TyId>,
+) -> Result<(), RuleError>
+    ensures gives { Gives (arm_parts (env checker.old) id.0 (top (stack checker.old)) (reverse bound.now) (maybe_of guard.entry) (syn_of body.now) want (state checker.old)) result checker.new }
+    ensures kept { Keeps (below (stack checker.old)) checker.old result checker.new }
+{
+    match guard {
+        Some(guard) => {
+            inside_guard(checker, bound, guard)?;
+            inside_scope(checker, bound, body, want)?;
+            guarded_arm_end(checker, id)
+        }
+        None => {
+            inside_scope(checker, bound, body, want)?;
+            arm_end(checker, id)
+        }
+    }
+}
+
+/// An arm.
+#[cycle(typed)]
+fn arm(
+    checker: &mut Checker,
+    at: Pos,
+    e: Expected,
+    ty: TyId,
+    form: ArmForm,
+    want: Option<TyId>,
+) -> Result<(), RuleError>
+    ensures gives { Gives (arm_check (env checker.old) (expected_of e) ty want at (Some (arm_of form.entry)) (state checker.old)) result checker.new }
+    ensures kept { Keeps (stack checker.old) checker.old result checker.new }
+{
+    let id = checker.number()?;
+    let bound = bindings(checker, e, ty, form.pattern)?;
+    arm_behind(checker, id, &bound, form.guard, form.body, want)
+}
+
+/// A node as an arm.
+#[cycle(typed)]
+#[tactic(auto, using(crate::proofs::Arms::arm_seen))]
+fn arm_of_node(
+    checker: &mut Checker,
+    e: Expected,
+    ty: TyId,
+    node: &Node,
+    want: Option<TyId>,
+) -> Result<(), RuleError>
+    ensures gives { Gives (arm_of_syn (env checker.old) (expected_of e) ty want (syn_of node.now) (state checker.old)) result checker.new }
+    ensures kept { Keeps (stack checker.old) checker.old result checker.new }
+{
+    match arm_form(node) {
+        Some(form) => arm(checker, node.at, e, ty, form, want),
+        None => Err(broken(Rule::T20, node.at)),
+    }
+}
+
+/// Arms for a scrutinee of this type; answers how many there are.
+#[cycle(typed)]
+fn typed_arms(
+    checker: &mut Checker,
+    e: Expected,
+    ty: TyId,
+    want: Option<TyId>,
+    arms: Nodes,
+) -> Result<usize, RuleError>
+    ensures gives { GivesTyped (rules.typed_arms (env checker.old) (expected_of e) ty want (nodes_of arms.entry) (state checker.old)) result checker.new }
+    ensures kept { KeepsBelow (stack checker.old) checker.old result checker.new }
+{
+    let mut count: usize = 0;
+    let mut rest = arms;
+    while let Some(split) = rest.split_first() {
+        arm_of_node(checker, e, ty, split.first, want)?;
+        count = one_more(count)?;
+        rest = split.rest;
+    }
+    Ok(count)
+}
+
+/// The arms of a `match`, whose scrutinee is the last node.
+#[cycle(typed)]
+fn arms_behind(
+    checker: &mut Checker,
+    id: NodeId,
+    at: Pos,
+    arms: Nodes,
+    want: Option<TyId>,
+) -> Result<(), RuleError>
+    ensures gives { Gives (arms_rest (env checker.old) id.0 at (top (stack checker.old)) (nodes_of arms.entry) want (state checker.old)) result checker.new }
+    ensures kept { Keeps (below (stack checker.old)) checker.old result checker.new }
+{
+    let e = expected_of_last(checker, false);
+    let ty = checker.last_ty();
+    let count = typed_arms(checker, e, ty, want, arms)?;
+    match_end(checker, id, at, count, want)
+}
+
+/// What a pattern looks at.
+#[cycle(typed)]
+fn scrutinee_of(checker: &mut Checker, scrutinee: &Node) -> Result<(), RuleError>
+    ensures gives { Gives (rows.scrutinised (rules.base_of (env checker.old) (syn_of scrutinee.now)) (state checker.old)) result checker.new }
+    ensures kept { Keeps (stack checker.old) checker.old result checker.new }
+{
+    base_of(checker, scrutinee)?;
+    scrutinised(checker)
+}
+
+#[cycle(typed)]
+fn match_row(
+    checker: &mut Checker,
+    at: Pos,
+    scrutinee: &Node,
+    arms: Nodes,
+    want: Option<TyId>,
+) -> Result<(), RuleError>
+    ensures gives { Gives (rows.match_row (env checker.old) at (rules.base_of (env checker.old) (syn_of scrutinee.now)) (λ e ty want. rules.typed_arms (env checker.old) e ty want (nodes_of arms.entry)) want (state checker.old)) result checker.new }
+    ensures kept { Keeps (stack checker.old) checker.old result checker.new }
+{
+    let id = checker.number()?;
+    scrutinee_of(checker, scrutinee)?;
+    arms_behind(checker, id, at, arms, want)
+}
+
+/// `match`.
+#[cycle(typed)]
+#[tactic(auto, using(crate::proofs::Arms::some_arms, crate::proofs::Arms::no_arms))]
+pub fn match_on(
+    checker: &mut Checker,
+    at: Pos,
+    scrutinee: &Node,
+    arms: Nodes,
+    want: Option<TyId>,
+) -> Result<(), RuleError>
+    ensures gives { Gives (rules.value (env checker.old) at (MatchOn (syn_of scrutinee.now) (nodes_of arms.entry)) want (state checker.old)) result checker.new }
+    ensures kept { Keeps (stack checker.old) checker.old result checker.new }
+{
+    if arms.is_empty() {
+        return Err(broken(Rule::T20, at));
+    }
+    match_row(checker, at, scrutinee, arms, want)
+}
+
+/// The branches of an `if let`, whose scrutinee and pattern are the last nodes.
+#[cycle(typed)]
+fn if_let_branches(
+    checker: &mut Checker,
+    id: NodeId,
+    at: Pos,
+    bound: &Variables,
+    body: &Node,
+    otherwise: Option<&Node>,
+    want: Option<TyId>,
+) -> Result<(), RuleError>
+    ensures gives { Gives (if_let_parts (env checker.old) id.0 at (top (below (stack checker.old))) (top (stack checker.old)) (reverse bound.now) (syn_of body.now) (maybe_of otherwise.entry) want (state checker.old)) result checker.new }
+    ensures kept { Keeps (below (below (stack checker.old))) checker.old result checker.new }
+{
+    match otherwise {
+        Some(otherwise) => {
+            inside_scope(checker, bound, body, want)?;
+            typed(checker, otherwise, want)?;
+            if_let_else_end(checker, id, at, want)
+        }
+        None => {
+            inside_scope(checker, bound, body, Some(TyId(0)))?;
+            checker.settled_three(id, at, TyId(0), Three::IfLet, want)
+        }
+    }
+}
+
+/// The pattern and the branches of an `if let`, whose scrutinee is the last node.
+#[cycle(typed)]
+fn if_let_behind(
+    checker: &mut Checker,
+    id: NodeId,
+    at: Pos,
+    pattern: &Node,
+    body: &Node,
+    otherwise: Option<&Node>,
+    want: Option<TyId>,
+) -> Result<(), RuleError>
+    ensures gives { Gives (if_let_rest (env checker.old) id.0 at (top (stack checker.old)) (syn_of pattern.now) (syn_of body.now) (maybe_of otherwise.entry) want (state checker.old)) result checker.new }
+    ensures kept { Keeps (below (stack checker.old)) checker.old result checker.new }
+{
+    let e = expected_of_last(checker, false);
+    let ty = checker.last_ty();
+    let bound = bindings(checker, e, ty, pattern)?;
+    if_let_branches(checker, id, at, &bound, body, otherwise, want)
+}
+
+/// `if let`.
+#[cycle(typed)]
+pub fn if_let(
+    checker: &mut Checker,
+    at: Pos,
+    pattern: &Node,
+    scrutinee: &Node,
+    body: &Node,
+    otherwise: Option<&Node>,
+    want: Option<TyId>,
+) -> Result<(), RuleError>
+    ensures gives { Gives (rules.value (env checker.old) at (IfLetElse (syn_of pattern.now) (syn_of scrutinee.now) (syn_of body.now) (maybe_of otherwise.entry)) want (state checker.old)) result checker.new }
+    ensures kept { Keeps (stack checker.old) checker.old result checker.new }
+{
+    let id = checker.number()?;
+    scrutinee_of(checker, scrutinee)?;
+    if_let_behind(checker, id, at, pattern, body, otherwise, want)
+}
+
+/// The body of a `while let`.
+#[cycle(typed)]
+fn body_inside_loop(
+    checker: &mut Checker,
+    label: Option<&str>,
+    id: NodeId,
+    bound: &Variables,
+    body: &Node,
+) -> Result<(), RuleError>
+    ensures gives { Gives (rules.typed (with_variables (reverse bound.now) (within_loop (loop_around (word_in label.entry) id.0 false None) (env checker.old))) (syn_of body.now) (Some places.unit) (state checker.old)) result checker.new }
+    ensures kept { Keeps (stack checker.old) checker.old result checker.new }
+{
+    enter_loop(checker, label, id, false, None)?;
+    inside_scope(checker, bound, body, Some(TyId(0)))?;
+    leave_loop(checker);
+    Ok(())
+}
+
+/// What a `while let` looks at, which counts as inside the loop.
+#[cycle(typed)]
+fn base_inside_loop(
+    checker: &mut Checker,
+    label: Option<&str>,
+    id: NodeId,
+    scrutinee: &Node,
+) -> Result<(), RuleError>
+    ensures gives { Gives (rules.base_of (within_loop (loop_around (word_in label.entry) id.0 false None) (env checker.old)) (syn_of scrutinee.now) (state checker.old)) result checker.new }
+    ensures kept { Keeps (stack checker.old) checker.old result checker.new }
+{
+    enter_loop(checker, label, id, false, None)?;
+    base_of(checker, scrutinee)?;
+    leave_loop(checker);
+    Ok(())
+}
+
+/// The pattern and the body of a `while let`, whose scrutinee is the last node.
+#[cycle(typed)]
+fn while_let_behind(
+    checker: &mut Checker,
+    id: NodeId,
+    at: Pos,
+    label: Option<&str>,
+    pattern: &Node,
+    body: &Node,
+    want: Option<TyId>,
+) -> Result<(), RuleError>
+    ensures gives { Gives (while_let_rest (env checker.old) id.0 at (word_in label.entry) (top (stack checker.old)) (syn_of pattern.now) (syn_of body.now) want (state checker.old)) result checker.new }
+    ensures kept { Keeps (below (stack checker.old)) checker.old result checker.new }
+{
+    let e = expected_of_last(checker, false);
+    let ty = checker.last_ty();
+    let bound = bindings(checker, e, ty, pattern)?;
+    body_inside_loop(checker, label, id, &bound, body)?;
+    checker.settled_three(id, at, TyId(0), Three::WhileLet, want)
+}
+
+/// `while let`.
+#[cycle(typed)]
+#[tactic(auto, using(crate::proofs::Jumps::words_are))]
+pub fn while_let(
+    checker: &mut Checker,
+    at: Pos,
+    label: Option<&str>,
+    pattern: &Node,
+    scrutinee: &Node,
+    body: &Node,
+    want: Option<TyId>,
+) -> Result<(), RuleError>
+    ensures gives { Gives (rules.value (env checker.old) at (WhileLetOf (word_of label.entry) (syn_of pattern.now) (syn_of scrutinee.now) (syn_of body.now)) want (state checker.old)) result checker.new }
+    ensures kept { Keeps (stack checker.old) checker.old result checker.new }
+{
+    let id = checker.number()?;
+    base_inside_loop(checker, label, id, scrutinee)?;
+    scrutinised(checker)?;
+    while_let_behind(checker, id, at, label, pattern, body, want)
+}
