@@ -1,0 +1,2 @@
+pub mod Sequences
+mod Types
