@@ -322,7 +322,7 @@ fn texts_that_end_too_early(rt: HostRuntime) -> Result<(), Fail> {
             assert!(rt; answer_of(rt.alloc(), &text[..n]) == Answer::Wrong(line));
         }
         if *byte == b'\n' {
-            line += 1;
+            line = line.wrapping_add(1);
         }
     }
     Ok(())
