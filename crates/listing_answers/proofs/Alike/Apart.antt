@@ -27,9 +27,10 @@ use Rattle.mir_text.proofs.Reading.Listed.{found_at, same_as_itself}
 use Rattle.mir_text.proofs.Reading.Types.{name_stands, adt_name_stands}
 use Rattle.listing_answers.specs.Laws.{AreApart}
 use Rattle.listing_answers.proofs.Alike.Enough.{closures_of}
-use Rattle.listing_answers.proofs.Alike.One.{the_end, at_bodies, at_closures, at_impls, at_traits, at_adts, in_rows, rows_alike, signed_at, behind_first, adt_names_same, trait_names_same, adts_right, traits_right, closures_right, impls_right, bodies_right, enough_there}
+use Rattle.listing_answers.proofs.Alike.One.{signed_at, behind_first, adt_names_same, trait_names_same, adts_right, traits_right, closures_right, impls_right, bodies_right, enough_there}
+use Rattle.mir_text.proofs.Reading.Law.{the_end, at_bodies, at_closures, at_impls, at_traits, at_adts, in_rows, rows_alike}
 use Rattle.listing_answers.proofs.Alike.Readable.{Readable, names}
-use Rattle.listing_answers.proofs.Alike.Same.{same_length}
+use Rattle.mir_text.proofs.Reading.Same.{same_length}
 use Rattle.listing_sections.specs.BodiesRead.{IsResultOf}
 use Rattle.listing_types.proofs.Splits.{same_is}
 

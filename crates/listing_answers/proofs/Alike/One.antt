@@ -1,29 +1,24 @@
 -- A well formed graph and one that was read are equal as compared where they have one listing, and the one that was read is well formed too.
-use Rattle.std.proofs.Common.{◌≡◌, ℕ, zero, suc, ◌+◌, ◌^◌, ◌<◌, ◌≤◌, true, false, ◌==◌, List, [], ◌∷◌, ◌++◌, map, flat_map, take, drop, length, codes, Option, Some, None, nat_lt, slice_get, refl, ap, sym, subst, ◌∙◌, arith, ltb-true}
+use Rattle.std.proofs.Common.{◌≡◌, ℕ, zero, suc, ◌+◌, ◌^◌, ◌<◌, ◌≤◌, true, List, [], ◌∷◌, ◌++◌, map, take, drop, length, codes, Option, Some, None, nat_lt, slice_get, refl, ap, sym, subst, ◌∙◌, arith, ltb-true}
 use Rattle.std.specs.Prelude.{option_map}
-use Rattle.std.specs.Option.{option_map_or}
-use Rattle.std.proofs.lemmas.Bool.{and_parts, false≢true}
 use Rattle.std.proofs.lemmas.List.{take-map}
 use Rattle.std.proofs.lemmas.Option.{same_Some, none-some}
-use Rattle.store_model.specs.Places.TypeForms.{same_id, same_ids}
 use Rattle.mir_ty.specs.declared.ty.TyId.{TyId}
 use Rattle.mir_ty.specs.declared.def.Sig.{Sig}
 use Rattle.mir_ty.specs.ItemTable.{ItemTable}
 use Rattle.mir_ty.specs.Named.{sig_name}
 use Rattle.cfg_graph.specs.declared.graph.Body.{Body}
 use Rattle.cfg_graph.specs.declared.graph.Graph.{Graph}
-use Rattle.cfg_graph.specs.WellFormed.LineFaults.{has_sig, is_sig_of}
-use Rattle.mir_text.specs.Compared.{Written, AdtSeen, SigSeen, BodySeen, numbered, adt_seen, trait_seen, closure_seen, sig_seen, body_seen, IsListed, seen}
-use Rattle.mir_text.specs.Items.{adt_line, trait_line, impl_line, closure_line, counted, items_text}
+use Rattle.mir_text.specs.Compared.{Written, AdtSeen, SigSeen, numbered, adt_seen, trait_seen, closure_seen, sig_seen, body_seen, IsListed, seen}
 use Rattle.mir_text.specs.Lists.{line}
-use Rattle.mir_text.specs.Listing.{whole_body_text, listing}
+use Rattle.mir_text.specs.Listing.{listing}
 use Rattle.mir_text.specs.Types.{type_text}
-use Rattle.mir_text.proofs.Reading.Basics.{Found, strip, behind3, behind4}
-use Rattle.mir_text.proofs.Reading.Rows.{EveryFrom, many, flat_counted, none_before}
+use Rattle.mir_text.proofs.Reading.Basics.{strip}
+use Rattle.mir_text.proofs.Reading.Rows.{many}
 use Rattle.mir_text.proofs.Reading.Bodies.{BodyRead, body_read_seen, body_read, bodies_read}
 use Rattle.mir_text.proofs.Reading.Items.{adt_read, adts_read, trait_read, traits_read, impl_read, impls_read, closure_read, closures_read}
-use Rattle.mir_text.proofs.Reading.Listed.{every_from_by, own_holds, are_named, good_adts, good_traits, good_impls, good_closures, good_bodies, adt_no, trait_no, adts_told, traits_told, sig_holds}
-use Rattle.mir_text.proofs.Reading.Law.{one_id}
+use Rattle.mir_text.proofs.Reading.Listed.{every_from_by, own_holds, adts_told, traits_told}
+use Rattle.mir_text.proofs.Reading.Law.{the_end, at_bodies, at_closures, at_impls, at_traits, at_adts, in_rows, no_closure, no_impl, no_trait, no_adt, own_adt, own_trait, adts_are, traits_are, impls_are, closures_are, bodies_are, sig_from, whole, whole_numbered, whole_bodies, rows_alike}
 use Rattle.mir_ty.specs.declared.adt.Adt.{Adt}
 use Rattle.mir_ty.specs.declared.def.ClosureDef.{ClosureDef}
 use Rattle.mir_ty.specs.declared.def.TraitDef.{TraitDef}
@@ -37,145 +32,10 @@ use Rattle.std.specs.List.{list_all}
 use Rattle.listing_answers.proofs.Alike.Enough.{enough, closures_of, count_of}
 use Rattle.listing_answers.proofs.Alike.Readable.{Readable, has_parts, names, good_adts as readable_adts, good_traits as readable_traits, good_closures as readable_closures, good_impls as readable_impls, good_bodies as readable_bodies}
 use Rattle.listing_answers.proofs.Alike.Rows.{adts_written, traits_written, closures_written, bodies_written, adts_look, traits_look, closures_look, bodies_look}
-use Rattle.listing_answers.proofs.Alike.Same.{Both, both_at, both_from, same_length}
-use Rattle.listing_answers.proofs.Alike.Settled.{settled}
+use Rattle.mir_text.proofs.Reading.Same.{Both, both_at, both_from, same_length}
+use Rattle.mir_text.proofs.Reading.Settled.{settled}
 use Rattle.listing_answers.proofs.Alike.Written.{written_exists}
 use Rattle.listing_sections.specs.BodiesRead.{AreSigned, IsSigOf, IsResultOf}
-
-none_flat : {X Z : Type 0} (read : List ℕ → Found Z) (text : X → List ℕ) → ((x : X) (t : List ℕ) → read (text x ++ t) ≡ None)
-    → (xs : List X) (r : List ℕ) → read r ≡ None → read (flat_map text xs ++ r) ≡ None
-none_flat read text never xs r h =
-    ap (λ (w : List ℕ). read (w ++ r)) (flat_counted text 0 xs) ∙ none_before read (λ (n : ℕ). text) (λ n x t. never x t) 0 xs r h
-
--- the rows of a listing, each before what is behind it
-module _ (graph : Graph) where
-  abbrev pub the_end : List ℕ
-  the_end = line (codes "end")
-
-  abbrev pub at_bodies : List ℕ
-  at_bodies = counted (whole_body_text graph.items) 0 graph.bodies ++ the_end
-
-  abbrev pub at_closures : List ℕ
-  at_closures = counted (closure_line graph.items) 0 graph.items.closures ++ at_bodies
-
-  abbrev pub at_impls : List ℕ
-  at_impls = flat_map (impl_line graph.items) graph.items.impls ++ at_closures
-
-  abbrev pub at_traits : List ℕ
-  at_traits = flat_map (trait_line graph.items) graph.items.traits ++ at_impls
-
-  abbrev pub at_adts : List ℕ
-  at_adts = flat_map (adt_line graph.items) graph.items.adts ++ at_traits
-
-  pub in_rows : listing graph ≡ line (codes "mirdrop 1") ++ at_adts
-  in_rows =
-      behind3 (line (codes "mirdrop 1")) (items_text graph.items) (counted (whole_body_text graph.items) 0 graph.bodies) the_end
-      ∙ ap (λ (w : List ℕ). line (codes "mirdrop 1") ++ w)
-      (behind4 (flat_map (adt_line graph.items) graph.items.adts) (flat_map (trait_line graph.items) graph.items.traits) (flat_map (impl_line graph.items) graph.items.impls)
-      (counted (closure_line graph.items) 0 graph.items.closures) at_bodies)
-
-  not_at_bodies : {Z : Type 0} (read : List ℕ → Found Z) → ((n : ℕ) (body : Body) (t : List ℕ) → read (whole_body_text graph.items n body ++ t) ≡ None) → read the_end ≡ None → read at_bodies ≡ None
-  not_at_bodies read never h = none_before read (whole_body_text graph.items) never 0 graph.bodies the_end h
-
-  no_closure : closure_read at_bodies ≡ None
-  no_closure = not_at_bodies closure_read (λ n body t. refl) refl
-
-  no_impl : (adt_no trait_no : List ℕ → ℕ) → impl_read adt_no trait_no at_closures ≡ None
-  no_impl adt_no trait_no =
-      none_before (impl_read adt_no trait_no) (closure_line graph.items) (λ n def t. refl) 0 graph.items.closures at_bodies
-      (not_at_bodies (impl_read adt_no trait_no) (λ n body t. refl) refl)
-
-  no_trait : trait_read at_impls ≡ None
-  no_trait =
-      none_flat trait_read (impl_line graph.items) (λ def t. refl) graph.items.impls at_closures
-      (none_before trait_read (closure_line graph.items) (λ n def t. refl) 0 graph.items.closures at_bodies (not_at_bodies trait_read (λ n body t. refl) refl))
-
-  no_adt : adt_read at_traits ≡ None
-  no_adt =
-      none_flat adt_read (trait_line graph.items) (λ def t. refl) graph.items.traits at_impls
-      (none_flat adt_read (impl_line graph.items) (λ def t. refl) graph.items.impls at_closures
-      (none_before adt_read (closure_line graph.items) (λ n def t. refl) 0 graph.items.closures at_bodies (not_at_bodies adt_read (λ n body t. refl) refl)))
-
-  module _ (listed : IsListed graph) where
-    adts_are : many adt_read at_adts ≡ (map (adt_seen graph.items) graph.items.adts, at_traits)
-    adts_are = adts_read graph.items (are_named graph listed) graph.items.adts (good_adts graph listed) at_traits no_adt
-
-    traits_are : many trait_read at_traits ≡ (map (trait_seen graph.items) graph.items.traits, at_impls)
-    traits_are = traits_read graph.items (are_named graph listed) graph.items.traits (good_traits graph listed) at_impls no_trait
-
-    abbrev own_adt : List ℕ → ℕ
-    own_adt = adt_no graph listed
-
-    abbrev own_trait : List ℕ → ℕ
-    own_trait = trait_no graph listed
-
-    impls_are : many (impl_read own_adt own_trait) at_impls ≡ (graph.items.impls, at_closures)
-    impls_are = impls_read own_adt own_trait graph.items graph.items.impls (good_impls graph listed) at_closures (no_impl own_adt own_trait)
-
-    closures_are : many closure_read at_closures ≡ (map (closure_seen graph.items) graph.items.closures, at_bodies)
-    closures_are = closures_read graph.items (are_named graph listed) graph.items.closures (good_closures graph listed) at_bodies no_closure
-
-    bodies_are : many (body_read own_adt own_trait) at_bodies ≡ (numbered (body_read_seen graph.items) 0 graph.bodies, the_end)
-    bodies_are =
-        bodies_read own_adt own_trait graph.items (are_named graph listed) (adts_told graph listed) (traits_told graph listed) graph.bodies (good_bodies graph listed)
-        the_end refl refl refl
-
--- the signature of a body is that of its locals
-abbrev sig_from : List ℕ → List Written → Option SigSeen
-sig_from name [] = None
-sig_from name (answer ∷ params) = Some (name, params, answer)
-
-abbrev whole : BodyRead → BodySeen
-whole read = record {
-  signature = sig_from read.name (take (suc read.params) read.locals);
-  params = read.params;
-  locals = read.locals;
-  blocks = read.blocks;
-}
-
-written_alike : (items : ItemTable) (xs ys : List TyId) → same_ids xs ys ≡ true → map (type_text items) xs ≡ map (type_text items) ys
-written_alike items [] [] h = refl
-written_alike items [] (y ∷ ys) h = absurd (false≢true h)
-written_alike items (x ∷ xs) [] h = absurd (false≢true h)
-written_alike items (x ∷ xs) (y ∷ ys) h =
-    let (one, others) = and_parts (same_id x y) _ h in
-    λ i. type_text items (one_id x y one i) ∷ written_alike items xs ys others i
-
-sig_is : (graph : Graph) (n : ℕ) (body : Body) → has_sig graph.items (length graph.bodies) body (slice_get graph.items.bodies n) ≡ true
-    → body_seen graph.items n body ≡ whole (body_read_seen graph.items n body)
-sig_is graph n body h = by (slice_get graph.items.bodies n) refl
-  where
-    by : (o : Option Sig) → slice_get graph.items.bodies n ≡ o → body_seen graph.items n body ≡ whole (body_read_seen graph.items n body)
-    by None e = absurd (false≢true (subst (λ (o : Option Sig). option_map_or (is_sig_of graph.items (length graph.bodies) body) o false ≡ true) e h))
-    by (Some sig) e =
-        let items : ItemTable = graph.items in
-        let shown = subst (λ (o : Option Sig). option_map_or (is_sig_of items (length graph.bodies) body) o false ≡ true) e h in
-        let alike = (and_parts (length sig.params == body.params) _ shown).1 in
-        let rows : take (suc body.params) (map (type_text items) body.locals) ≡ map (type_text items) (sig.result ∷ sig.params) =
-        take-map (type_text items) (suc body.params) body.locals ∙ written_alike items (take (suc body.params) body.locals) (sig.result ∷ sig.params) alike in
-        let told : sig_from (sig_name (slice_get items.bodies n)) (take (suc body.params) (map (type_text items) body.locals)) ≡ Some (sig_seen items sig) =
-        λ i. sig_from (sig_name (e i)) (rows i) in
-        let signed : option_map (sig_seen items) (slice_get items.bodies n) ≡ sig_from (sig_name (slice_get items.bodies n)) (take (suc body.params) (map (type_text items) body.locals)) =
-        ap (option_map (sig_seen items)) e ∙ sym told in
-        λ i. record { signature = signed i; params = body.params; locals = map (type_text items) body.locals; blocks = body.blocks }
-
-whole_numbered : (graph : Graph) (k : ℕ) (bodies : List Body) → EveryFrom (λ n body. body_seen graph.items n body ≡ whole (body_read_seen graph.items n body)) k bodies
-    → numbered (body_seen graph.items) k bodies ≡ map whole (numbered (body_read_seen graph.items) k bodies)
-whole_numbered graph k [] h = refl
-whole_numbered graph k (body ∷ bodies) h = λ i. h.0 i ∷ whole_numbered graph (suc k) bodies h.1 i
-
-whole_bodies : (graph : Graph) → IsListed graph → numbered (body_seen graph.items) 0 graph.bodies ≡ map whole (numbered (body_read_seen graph.items) 0 graph.bodies)
-whole_bodies graph listed =
-    whole_numbered graph 0 graph.bodies
-    (every_from_by (λ n body. body_seen graph.items n body ≡ whole (body_read_seen graph.items n body)) 0 graph.bodies
-    (λ n body is. subst (λ m. body_seen graph.items m body ≡ whole (body_read_seen graph.items m body)) (let e : n ≡ 0 + n = omega arith in e)
-    (sig_is graph n body (sig_holds graph listed n body is))))
-
-pub rows_alike : {Z : Type 0} (read other : List ℕ → Found Z) (t u : List ℕ) (xs ys : List Z) (s v : List ℕ) → read ≡ other → t ≡ u
-    → many read t ≡ (xs, s) → many other u ≡ (ys, v) → (xs ≡ ys) × (s ≡ v)
-rows_alike {Z} read other t u xs ys s v same e a b =
-    let q : Path (List Z × List ℕ) (xs, s) (ys, v) = sym a ∙ (λ i. many (same i) (e i)) ∙ b in
-    (ap (λ (p : List Z × List ℕ). p.0) q, ap (λ (p : List Z × List ℕ). p.1) q)
 
 -- the signature that locals tell
 pub signed_at : (items : ItemTable) (sigs : List Sig) (bodies : List Body) → AreSigned items sigs bodies → (n : ℕ) (body : Body) → slice_get bodies n ≡ Some body → (sig : Sig) × (slice_get sigs n ≡ Some sig) × IsSigOf items body sig

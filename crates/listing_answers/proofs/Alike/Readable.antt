@@ -31,7 +31,7 @@ use Rattle.mir_text.proofs.Reading.Parts.{every_from_all}
 use Rattle.mir_text.proofs.Reading.Rows.{EveryFrom}
 use Rattle.mir_text.proofs.Reading.Types.{AreNamed, every_more, name_stands, adt_name_stands}
 use Rattle.listing_answers.proofs.Alike.Enough.{enough, there_exists}
-use Rattle.listing_answers.proofs.Alike.Same.{every_at}
+use Rattle.mir_text.proofs.Reading.Same.{every_at}
 use Rattle.listing_sections.specs.BodiesRead.{AreSigned}
 use Rattle.listing_types.specs.Table.{AreRead}
 

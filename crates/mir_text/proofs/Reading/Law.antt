@@ -32,25 +32,25 @@ none_flat read text never xs r h =
 
 -- the rows of a listing, each before what is behind it
 module _ (graph : Graph) where
-  abbrev the_end : List ℕ
+  abbrev pub the_end : List ℕ
   the_end = line (codes "end")
 
-  abbrev at_bodies : List ℕ
+  abbrev pub at_bodies : List ℕ
   at_bodies = counted (whole_body_text graph.items) 0 graph.bodies ++ the_end
 
-  abbrev at_closures : List ℕ
+  abbrev pub at_closures : List ℕ
   at_closures = counted (closure_line graph.items) 0 graph.items.closures ++ at_bodies
 
-  abbrev at_impls : List ℕ
+  abbrev pub at_impls : List ℕ
   at_impls = flat_map (impl_line graph.items) graph.items.impls ++ at_closures
 
-  abbrev at_traits : List ℕ
+  abbrev pub at_traits : List ℕ
   at_traits = flat_map (trait_line graph.items) graph.items.traits ++ at_impls
 
-  abbrev at_adts : List ℕ
+  abbrev pub at_adts : List ℕ
   at_adts = flat_map (adt_line graph.items) graph.items.adts ++ at_traits
 
-  in_rows : listing graph ≡ line (codes "mirdrop 1") ++ at_adts
+  pub in_rows : listing graph ≡ line (codes "mirdrop 1") ++ at_adts
   in_rows =
       behind3 (line (codes "mirdrop 1")) (items_text graph.items) (counted (whole_body_text graph.items) 0 graph.bodies) the_end
       ∙ ap (λ (w : List ℕ). line (codes "mirdrop 1") ++ w)
@@ -60,55 +60,55 @@ module _ (graph : Graph) where
   not_at_bodies : {Z : Type 0} (read : List ℕ → Found Z) → ((n : ℕ) (body : Body) (t : List ℕ) → read (whole_body_text graph.items n body ++ t) ≡ None) → read the_end ≡ None → read at_bodies ≡ None
   not_at_bodies read never h = none_before read (whole_body_text graph.items) never 0 graph.bodies the_end h
 
-  no_closure : closure_read at_bodies ≡ None
+  pub no_closure : closure_read at_bodies ≡ None
   no_closure = not_at_bodies closure_read (λ n body t. refl) refl
 
-  no_impl : (adt_no trait_no : List ℕ → ℕ) → impl_read adt_no trait_no at_closures ≡ None
+  pub no_impl : (adt_no trait_no : List ℕ → ℕ) → impl_read adt_no trait_no at_closures ≡ None
   no_impl adt_no trait_no =
       none_before (impl_read adt_no trait_no) (closure_line graph.items) (λ n def t. refl) 0 graph.items.closures at_bodies
       (not_at_bodies (impl_read adt_no trait_no) (λ n body t. refl) refl)
 
-  no_trait : trait_read at_impls ≡ None
+  pub no_trait : trait_read at_impls ≡ None
   no_trait =
       none_flat trait_read (impl_line graph.items) (λ def t. refl) graph.items.impls at_closures
       (none_before trait_read (closure_line graph.items) (λ n def t. refl) 0 graph.items.closures at_bodies (not_at_bodies trait_read (λ n body t. refl) refl))
 
-  no_adt : adt_read at_traits ≡ None
+  pub no_adt : adt_read at_traits ≡ None
   no_adt =
       none_flat adt_read (trait_line graph.items) (λ def t. refl) graph.items.traits at_impls
       (none_flat adt_read (impl_line graph.items) (λ def t. refl) graph.items.impls at_closures
       (none_before adt_read (closure_line graph.items) (λ n def t. refl) 0 graph.items.closures at_bodies (not_at_bodies adt_read (λ n body t. refl) refl)))
 
   module _ (listed : IsListed graph) where
-    adts_are : many adt_read at_adts ≡ (map (adt_seen graph.items) graph.items.adts, at_traits)
+    pub adts_are : many adt_read at_adts ≡ (map (adt_seen graph.items) graph.items.adts, at_traits)
     adts_are = adts_read graph.items (are_named graph listed) graph.items.adts (good_adts graph listed) at_traits no_adt
 
-    traits_are : many trait_read at_traits ≡ (map (trait_seen graph.items) graph.items.traits, at_impls)
+    pub traits_are : many trait_read at_traits ≡ (map (trait_seen graph.items) graph.items.traits, at_impls)
     traits_are = traits_read graph.items (are_named graph listed) graph.items.traits (good_traits graph listed) at_impls no_trait
 
-    abbrev own_adt : List ℕ → ℕ
+    abbrev pub own_adt : List ℕ → ℕ
     own_adt = adt_no graph listed
 
-    abbrev own_trait : List ℕ → ℕ
+    abbrev pub own_trait : List ℕ → ℕ
     own_trait = trait_no graph listed
 
-    impls_are : many (impl_read own_adt own_trait) at_impls ≡ (graph.items.impls, at_closures)
+    pub impls_are : many (impl_read own_adt own_trait) at_impls ≡ (graph.items.impls, at_closures)
     impls_are = impls_read own_adt own_trait graph.items graph.items.impls (good_impls graph listed) at_closures (no_impl own_adt own_trait)
 
-    closures_are : many closure_read at_closures ≡ (map (closure_seen graph.items) graph.items.closures, at_bodies)
+    pub closures_are : many closure_read at_closures ≡ (map (closure_seen graph.items) graph.items.closures, at_bodies)
     closures_are = closures_read graph.items (are_named graph listed) graph.items.closures (good_closures graph listed) at_bodies no_closure
 
-    bodies_are : many (body_read own_adt own_trait) at_bodies ≡ (numbered (body_read_seen graph.items) 0 graph.bodies, the_end)
+    pub bodies_are : many (body_read own_adt own_trait) at_bodies ≡ (numbered (body_read_seen graph.items) 0 graph.bodies, the_end)
     bodies_are =
         bodies_read own_adt own_trait graph.items (are_named graph listed) (adts_told graph listed) (traits_told graph listed) graph.bodies (good_bodies graph listed)
         the_end refl refl refl
 
 -- the signature of a body is that of its locals
-abbrev sig_from : List ℕ → List Written → Option SigSeen
+abbrev pub sig_from : List ℕ → List Written → Option SigSeen
 sig_from name [] = None
 sig_from name (answer ∷ params) = Some (name, params, answer)
 
-abbrev whole : BodyRead → BodySeen
+abbrev pub whole : BodyRead → BodySeen
 whole read = record {
   signature = sig_from read.name (take (suc read.params) read.locals);
   params = read.params;
@@ -145,19 +145,19 @@ sig_is graph n body h = by (slice_get graph.items.bodies n) refl
         ap (option_map (sig_seen items)) e ∙ sym told in
         λ i. record { signature = signed i; params = body.params; locals = map (type_text items) body.locals; blocks = body.blocks }
 
-whole_numbered : (graph : Graph) (k : ℕ) (bodies : List Body) → EveryFrom (λ n body. body_seen graph.items n body ≡ whole (body_read_seen graph.items n body)) k bodies
+pub whole_numbered : (graph : Graph) (k : ℕ) (bodies : List Body) → EveryFrom (λ n body. body_seen graph.items n body ≡ whole (body_read_seen graph.items n body)) k bodies
     → numbered (body_seen graph.items) k bodies ≡ map whole (numbered (body_read_seen graph.items) k bodies)
 whole_numbered graph k [] h = refl
 whole_numbered graph k (body ∷ bodies) h = λ i. h.0 i ∷ whole_numbered graph (suc k) bodies h.1 i
 
-whole_bodies : (graph : Graph) → IsListed graph → numbered (body_seen graph.items) 0 graph.bodies ≡ map whole (numbered (body_read_seen graph.items) 0 graph.bodies)
+pub whole_bodies : (graph : Graph) → IsListed graph → numbered (body_seen graph.items) 0 graph.bodies ≡ map whole (numbered (body_read_seen graph.items) 0 graph.bodies)
 whole_bodies graph listed =
     whole_numbered graph 0 graph.bodies
     (every_from_by (λ n body. body_seen graph.items n body ≡ whole (body_read_seen graph.items n body)) 0 graph.bodies
     (λ n body is. subst (λ m. body_seen graph.items m body ≡ whole (body_read_seen graph.items m body)) (let e : n ≡ 0 + n = omega arith in e)
     (sig_is graph n body (sig_holds graph listed n body is))))
 
-rows_alike : {Z : Type 0} (read other : List ℕ → Found Z) (t u : List ℕ) (xs ys : List Z) (s v : List ℕ) → read ≡ other → t ≡ u
+pub rows_alike : {Z : Type 0} (read other : List ℕ → Found Z) (t u : List ℕ) (xs ys : List Z) (s v : List ℕ) → read ≡ other → t ≡ u
     → many read t ≡ (xs, s) → many other u ≡ (ys, v) → (xs ≡ ys) × (s ≡ v)
 rows_alike {Z} read other t u xs ys s v same e a b =
     let q : Path (List Z × List ℕ) (xs, s) (ys, v) = sym a ∙ (λ i. many (same i) (e i)) ∙ b in

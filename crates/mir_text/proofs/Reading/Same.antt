@@ -1,5 +1,6 @@
--- Two graphs that are equal as compared, the one well formed and the types of the other in its table: their items are alike.
-use Rattle.std.proofs.Common.{◌≡◌, ℕ, zero, suc, ◌+◌, ◌<◌, Bool, true, false, ◌&&◌, ◌||◌, ◌==◌, nat_eq, List, [], ◌∷◌, ◌++◌, map, flat_map, take, length, Option, Some, None, is_some, nat_lt, slice_get, refl, ap, sym, subst, ◌∙◌, arith, eq-eqb}
+-- Two graphs that are equal as compared, of which the one is well formed, and types of the other exist where they are written as those of
+-- the one that exist: their items are alike.
+use Rattle.std.proofs.Common.{◌≡◌, ℕ, zero, suc, ◌+◌, ◌<◌, Bool, true, false, ◌&&◌, ◌||◌, ◌==◌, nat_eq, List, [], ◌∷◌, ◌++◌, map, flat_map, take, length, All, Option, Some, None, is_some, nat_lt, slice_get, refl, ap, sym, subst, ◌∙◌, arith, eq-eqb}
 use Rattle.std.specs.Prelude.{⊤, option_map, option_and_then}
 use Rattle.std.specs.List.{list_any}
 use Rattle.std.specs.Option.{option_map_or}
@@ -24,7 +25,7 @@ use Rattle.cfg_graph.specs.WellFormed.LineFaults.{has_sig}
 use Rattle.cfg_graph.specs.WellFormed.NameFaults.{is_name, is_adt_name}
 use Rattle.cfg_graph.specs.WellFormed.TypeFaults.{ty_exists, is_drop_body, is_drop_body_of}
 use Rattle.cfg_graph.specs.WellFormed.Typing.{variant_at, enum_variant, method_at}
-use Rattle.mir_text.specs.Compared.{AdtSeen, SigSeen, BodySeen, GraphSeen, VariantSeen, numbered, variant_seen, adt_seen, sig_seen, trait_seen, closure_seen, body_seen, seen, IsListed, TypesExist}
+use Rattle.mir_text.specs.Compared.{AdtSeen, SigSeen, BodySeen, GraphSeen, VariantSeen, numbered, variant_seen, adt_seen, sig_seen, trait_seen, closure_seen, body_seen, seen, IsListed}
 use Rattle.mir_text.specs.Fields.{GraphFits, TyFits}
 use Rattle.mir_text.specs.Types.{trait_name, name_of_trait, type_text}
 use Rattle.mir_text.proofs.Reading.Basics.{Every}
@@ -33,7 +34,7 @@ use Rattle.mir_text.proofs.Reading.Parts.{every_from_all}
 use Rattle.mir_text.proofs.Reading.Items.{GoodVariant, GoodAdt, GoodSig, GoodTrait, GoodClosure}
 use Rattle.mir_text.proofs.Reading.Listed.{all_at, found_at, ty_numbers, are_named, good_adts, good_traits, good_closures, adt_no, trait_no, adts_told, traits_told, sig_holds, good_body}
 use Rattle.mir_text.proofs.Reading.Law.{one_id}
-use Rattle.mir_text.proofs.Reading.Alike.{Side, TyAlike, ListsAlike, FormsAlike, forms_alike, lists_alike, one_type}
+use Rattle.mir_text.proofs.Reading.Alike.{Side, TyAlike, ListsAlike, FormsAlike, forms_alike, one_type}
 use Rattle.mir_text.proofs.Reading.Tested.{bool_iff}
 use Rattle.mir_text.proofs.Reading.Held.{types_alike}
 use Rattle.mir_text.proofs.Reading.Typed.{SigAlike, OptSig, OptVariant, ItemsAlike}
@@ -69,7 +70,7 @@ same_length f g [] (y ∷ ys) h = absurd (cc)
 same_length f g (x ∷ xs) [] h = absurd (cc)
 same_length f g (x ∷ xs) (y ∷ ys) h = ap suc (same_length f g xs ys (rest_same (f x) (g y) (map f xs) (map g ys) h))
 
-both_from : {X Y Z : Type 0} (f : ℕ → X → Z) (g : ℕ → Y → Z) (k : ℕ) (xs : List X) (ys : List Y) → numbered f k xs ≡ numbered g k ys
+pub both_from : {X Y Z : Type 0} (f : ℕ → X → Z) (g : ℕ → Y → Z) (k : ℕ) (xs : List X) (ys : List Y) → numbered f k xs ≡ numbered g k ys
     → (n : ℕ) → Both (f (k + n)) (g (k + n)) (slice_get xs n) (slice_get ys n)
 both_from f g k [] [] h n = tt
 both_from f g k [] (y ∷ ys) h n = absurd (cc)
@@ -110,7 +111,12 @@ module _ (left right : ItemTable) where
   append_alike (x ∷ xs) [] us vs h k = absurd h
   append_alike (x ∷ xs) (y ∷ ys) us vs h k = (h.0, append_alike xs ys us vs h.1 k)
 
-module _ (left right : Graph) (l : IsListed left) (ri : AreItems right.items) (ex : TypesExist right) (rf : GraphFits right) (same : seen left ≡ seen right) where
+-- types of the one that are in its table, and are written as such of the other that exist, exist too
+pub record WrittenExist (left right : Graph) : Type 0 where
+  pub table : (a b : TyId) → ty_exists left.items a ≡ true → b.0 < length right.items.types → type_text left.items a ≡ type_text right.items b → ty_exists right.items b ≡ true
+  pub locals : All (λ body. AreTypes right.items.types body.locals) right.bodies
+
+module _ (left right : Graph) (l : IsListed left) (ri : AreItems right.items) (ex : WrittenExist left right) (rf : GraphFits right) (same : seen left ≡ seen right) where
   abbrev pub L : ItemTable
   L = left.items
 
@@ -146,8 +152,16 @@ module _ (left right : Graph) (l : IsListed left) (ri : AreItems right.items) (e
       subst (λ m. Both (body_seen L m) (body_seen R m) (slice_get left.bodies n) (slice_get right.bodies n)) (let e : 0 + n ≡ n = omega arith in e)
       (both_from (body_seen L) (body_seen R) 0 left.bodies right.bodies bodies_same n)
 
-  pub in_table : (ids : List TyId) → AreTypes R.types ids → Every (λ id. ty_exists R id ≡ true) ids
-  in_table ids h = every_more R (λ id. id.0 < length R.types) (λ id. ty_exists R id ≡ true) ex.table ids (every_from_all (λ (id : TyId). id.0 < length R.types) ids h)
+  alike_within : (xs ys : List TyId) → Every (λ id. ty_exists L id ≡ true) xs → Every (λ id. id.0 < length R.types) ys → map (type_text L) xs ≡ map (type_text R) ys → ListsAlike L R xs ys
+  alike_within [] [] h k e = tt
+  alike_within [] (y ∷ ys) h k e = absurd (cc)
+  alike_within (x ∷ xs) [] h k e = absurd (cc)
+  alike_within (x ∷ xs) (y ∷ ys) h k e =
+      let one : type_text L x ≡ type_text R y = first_same (type_text L x) (type_text R y) (map (type_text L) xs) (map (type_text R) ys) e in
+      (record { left_exists = h.0; right_exists = ex.table x y h.0 k.0 one; text = one }, alike_within xs ys h.1 k.1 (rest_same (type_text L x) (type_text R y) (map (type_text L) xs) (map (type_text R) ys) e))
+
+  pub in_table : (xs ys : List TyId) → Every (λ id. ty_exists L id ≡ true) xs → AreTypes R.types ys → map (type_text L) xs ≡ map (type_text R) ys → ListsAlike L R xs ys
+  in_table xs ys h k e = alike_within xs ys h (every_from_all (λ (id : TyId). id.0 < length R.types) ys k) e
 
   -- names
   name_both : (x y : Option Adt) → Both (adt_seen L) (adt_seen R) x y → name_of_adt x ≡ name_of_adt y
@@ -222,7 +236,7 @@ module _ (left right : Graph) (l : IsListed left) (ri : AreItems right.items) (e
   ExistL ids = Every (λ id. ty_exists L id ≡ true) ids
 
   one_variant : (v w : Variant) → GoodVariant L (are_named left l) v → IsVariant R.types w → variant_seen L v ≡ variant_seen R w → ListsAlike L R v.fields w.fields
-  one_variant v w good is h = lists_alike L R v.fields w.fields good.fields (in_table w.fields is.fields) (ap (λ (s : VariantSeen). s.1) h)
+  one_variant v w good is h = in_table v.fields w.fields good.fields is.fields (ap (λ (s : VariantSeen). s.1) h)
 
   variant_both : (vs ws : List Variant) → Every (GoodVariant L (are_named left l)) vs → Every (IsVariant R.types) ws → map (variant_seen L) vs ≡ map (variant_seen R) ws
       → (v : ℕ) → OptVariant L R (slice_get vs v) (slice_get ws v)
@@ -325,16 +339,16 @@ module _ (left right : Graph) (l : IsListed left) (ri : AreItems right.items) (e
       by : (o p : Option ClosureDef) → slice_get L.closures n ≡ o → slice_get R.closures n ≡ p → Both (closure_seen L) (closure_seen R) o p → ListsAlike L R (captures_of o) (captures_of p)
       by None None e f h = tt
       by (Some x) (Some y) e f h =
-          lists_alike L R x.captures y.captures (every_at (GoodClosure L (are_named left l)) L.closures n x (good_closures left l) e).captures
-          (in_table y.captures (all_at (λ (d : ClosureDef). AreTypes R.types d.captures) R.closures n y ri.closures f)) (ap (λ (s : List (List ℕ) × ℕ). s.0) h)
+          in_table x.captures y.captures (every_at (GoodClosure L (are_named left l)) L.closures n x (good_closures left l) e).captures
+          (all_at (λ (d : ClosureDef). AreTypes R.types d.captures) R.closures n y ri.closures f) (ap (λ (s : List (List ℕ) × ℕ). s.0) h)
       by None (Some y) e f h = absurd h
       by (Some x) None e f h = absurd h
 
   -- methods
   sig_alike : (s t : Sig) → ExistL (s.result ∷ s.params) → IsSig R.types t → sig_seen L s ≡ sig_seen R t → SigAlike L R s t
   sig_alike s t exists is h = record {
-    params = lists_alike L R s.params t.params exists.1 (in_table t.params is.params) (ap (λ (x : SigSeen). x.1) h);
-    answer = record { left_exists = exists.0; right_exists = ex.table t.result is.answer; text = ap (λ (x : SigSeen). x.2) h };
+    params = in_table s.params t.params exists.1 is.params (ap (λ (x : SigSeen). x.1) h);
+    answer = record { left_exists = exists.0; right_exists = ex.table s.result t.result exists.0 is.answer (ap (λ (x : SigSeen). x.2) h); text = ap (λ (x : SigSeen). x.2) h };
   }
 
   pub methods_both : (xs ys : List Sig) → Every (GoodSig L (are_named left l)) xs → Every (IsSig R.types) ys → map (sig_seen L) xs ≡ map (sig_seen R) ys

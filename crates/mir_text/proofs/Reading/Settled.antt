@@ -1,4 +1,5 @@
--- A graph that is equal as compared to a well formed one, and whose types exist, is well formed: each test of each line has one answer.
+-- A graph that is equal as compared to a well formed one, and whose types exist where they are written as those of that one, is well formed:
+-- each test of each line has one answer.
 use Rattle.std.proofs.Common.{◌≡◌, ℕ, zero, suc, ◌+◌, ◌<◌, Bool, true, false, not, ◌&&◌, ◌||◌, ◌==◌, if◌then◌else◌, List, [], ◌∷◌, ◌++◌, map, flat_map, take, zip, length, codes, Option, Some, None, is_some, nat_lt, slice_get, refl, ap, sym, subst, ◌∙◌, arith, lt-ltb}
 use Rattle.std.specs.Prelude.{option_map}
 use Rattle.std.specs.List.{list_all, list_any}
@@ -39,15 +40,15 @@ use Rattle.cfg_graph.specs.Places.{index_locals}
 use Rattle.cfg_graph.specs.Uses.{places_of_stmt, places_of_term}
 use Rattle.cfg_graph.proofs.InfiniteSize.{adt_holding-tested, closure_holding-tested}
 use Rattle.cfg_graph.proofs.NoFaults.{second_empty, broken-holds}
-use Rattle.mir_text.specs.Compared.{AdtSeen, SigSeen, BodySeen, VariantSeen, variant_seen, adt_seen, sig_seen, trait_seen, closure_seen, body_seen, seen, IsListed, TypesExist, WellFormedAsCompared}
+use Rattle.mir_text.specs.Compared.{AdtSeen, SigSeen, BodySeen, VariantSeen, variant_seen, adt_seen, sig_seen, trait_seen, closure_seen, body_seen, seen, IsListed, WellFormedAsCompared}
 use Rattle.mir_text.specs.Fields.{GraphFits}
 use Rattle.mir_text.proofs.Reading.Basics.{Every}
 use Rattle.mir_text.proofs.Reading.Listed.{all_at, found_at, adt_holds, trait_holds, impl_holds, closure_holds, own_holds, local_holds, stmt_holds, term_holds, term_exists, good_body}
-use Rattle.mir_text.proofs.Reading.Alike.{TyAlike, ListsAlike, Alike, FormsAlike, shared, unique, lists_alike}
+use Rattle.mir_text.proofs.Reading.Alike.{TyAlike, ListsAlike, Alike, FormsAlike, shared, unique}
 use Rattle.mir_text.proofs.Reading.Tested.{OptTy, OptId, unit_alike, adt_alike, closure_alike, slice_alike}
 use Rattle.mir_text.proofs.Reading.Held.{misplaced_alike, none_misplaced, adt_holds_too, closure_holds_too}
 use Rattle.mir_text.proofs.Reading.Typed.{SigAlike, OptSig, ItemsAlike, stmt_alike, term_alike, stmt_row_alike}
-use Rattle.mir_text.proofs.Reading.Same.{Both, both_at, same_length, adts_same, traits_same, impls_same, closures_same, adt_count, trait_count, body_count, bodies_both, in_table, forms, one_type_left, all_fields, AdtPair, OptAdt, adt_pair, OptTrait, methods_both, held_opt, captures_opt, TraitPair, trait_pair, signature_opt, items_alike}
+use Rattle.mir_text.proofs.Reading.Same.{WrittenExist, Both, both_at, same_length, adts_same, traits_same, impls_same, closures_same, adt_count, trait_count, body_count, bodies_both, in_table, forms, one_type_left, all_fields, AdtPair, OptAdt, adt_pair, OptTrait, methods_both, held_opt, captures_opt, TraitPair, trait_pair, signature_opt, items_alike}
 
 -- no faults, where each test holds
 both_empty : {X : Type 0} (xs ys : List X) → xs ≡ [] → ys ≡ [] → xs ++ ys ≡ []
@@ -229,7 +230,7 @@ not_held : (l r : Bool) → (r ≡ true → l ≡ true) → not l ≡ true → n
 not_held l false f h = refl
 not_held l true f h = absurd (false≢true (ap not (sym (f refl)) ∙ h))
 
-module _ (left right : Graph) (l : IsListed left) (ri : AreItems right.items) (ex : TypesExist right) (rf : GraphFits right) (same : seen left ≡ seen right) where
+module _ (left right : Graph) (l : IsListed left) (ri : AreItems right.items) (ex : WrittenExist left right) (rf : GraphFits right) (same : seen left ≡ seen right) where
   abbrev L : ItemTable
   L = left.items
 
@@ -467,7 +468,7 @@ module _ (left right : Graph) (l : IsListed left) (ri : AreItems right.items) (e
 
     locals : ListsAlike L R b.locals c.locals
     locals =
-        lists_alike L R b.locals c.locals (good_body left l n b at).locals (in_table left right l ri ex rf same c.locals (all_at (λ (body : Body). AreTypes R.types body.locals) right.bodies n c ex.locals here))
+        in_table left right l ri ex rf same b.locals c.locals (good_body left l n b at).locals (all_at (λ (body : Body). AreTypes R.types body.locals) right.bodies n c ex.locals here)
         (ap (λ (s : BodySeen). s.locals) look)
 
     local_count : length b.locals ≡ length c.locals
@@ -675,4 +676,4 @@ module _ (left right : Graph) (l : IsListed left) (ri : AreItems right.items) (e
       (both_empty (of_each (faults_of_body right) 0 right.bodies) (end_faults right) no_body_fault no_end_fault)
 
 pub well_formed_as_compared : WellFormedAsCompared
-well_formed_as_compared left right l ri ex rf same = settled left right l ri ex rf same
+well_formed_as_compared left right l ri ex rf same = settled left right l ri (record { table = λ a b e there text. ex.table b there; locals = ex.locals }) rf same
