@@ -5,8 +5,8 @@ ghost use Rattle.listing_types.specs.Table.{AreRead, Grow};
 ghost use Rattle.listing_sections.specs.BodiesRead.{FindsSig, IsResultOf};
 
 use cfg_graph::Body;
-use listing_types::give_number;
 use listing_parts::Heads;
+use listing_types::give_number;
 use mir_base::{List, Name, NoMemory};
 use mir_ty::{Items, Sig, Ty, TyId};
 use std::alloc::Global;
