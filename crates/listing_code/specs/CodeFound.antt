@@ -1,5 +1,5 @@
--- What the law of code says: each line of a statement or a terminator that may stand is found by its reader, and nothing
--- but such a line in front; and what each line behind statements is not.
+-- What the law of code says: each line of a statement or a terminator that may stand is found by its reader, and
+-- nothing but such a line in front; and what each line behind statements is not.
 use Rattle.std.specs.Prelude.{◌≡◌, ℕ, List, ◌++◌, Some, None}
 use Rattle.mir_ty.specs.ItemTable.{ItemTable}
 use Rattle.cfg_graph.specs.declared.statement.Stmt.{Stmt}

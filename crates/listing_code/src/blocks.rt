@@ -7,15 +7,14 @@ ghost use Rattle.listing_code.specs.CodeReading as reading;
 use crate::lines::{statement, terminator};
 use cfg_graph::{Block, Kind, Stmt, Term};
 use listing_lines::block_line;
-use listing_parts::ReadError;
+use listing_parts::{Heads, ReadError};
 use mir_base::{List, NoMemory};
-use mir_ty::Items;
 use std::alloc::Global;
 
 /// As many statements as there are. Each has a byte, so there are no more than bytes.
 fn statements<'a>(
     alloc: Global,
-    heads: &Items,
+    heads: &Heads,
     text: &'a [u8],
 ) -> Result<(List<Stmt>, &'a [u8]), NoMemory>
     ensures { IfOk result (λ found. (found.0, found.1.now) ≡ many (reading.statement_read heads.now) text.now) }
@@ -38,7 +37,7 @@ fn statements<'a>(
 /// The block of these statements, with the terminator that stands in front, and whether there is one.
 fn close<'a>(
     alloc: Global,
-    heads: &Items,
+    heads: &Heads,
     kind: Kind,
     rank: u32,
     stmts: List<Stmt>,
@@ -78,7 +77,7 @@ fn close<'a>(
 /// The block with number `n`, and whether its terminator was found.
 fn block<'a>(
     alloc: Global,
-    heads: &Items,
+    heads: &Heads,
     n: u32,
     text: &'a [u8],
 ) -> Result<((Block, bool), &'a [u8]), ReadError>
@@ -106,7 +105,7 @@ fn push_block(blocks: &mut List<Block>, found: (Block, bool)) -> Result<bool, No
 /// closed by a `return`, and the answer beside the blocks is then `false`. Behind them stands what is left of the text.
 pub fn read_blocks<'a>(
     alloc: Global,
-    heads: &Items,
+    heads: &Heads,
     text: &'a [u8],
 ) -> Result<((List<Block>, bool), &'a [u8]), NoMemory>
     ensures { IfOk result (λ found. (found.0, found.1.now) ≡ reading.blocks_read heads.now text.now) }

@@ -8,9 +8,8 @@ ghost use Rattle.listing_code.specs.CodeRead.{FindsRest};
 ghost use Rattle.listing_code.specs.CodeReading as reading;
 
 use cfg_graph::{Stmt, Term};
-use listing_parts::{ReadError, read_stmt, read_term, strip};
+use listing_parts::{Heads, ReadError, read_stmt, read_term, strip};
 use mir_text::{stmt_text, term_text};
-use mir_ty::Items;
 use std::alloc::Global;
 
 /// What stands behind these words, where the text begins with them.
@@ -28,7 +27,7 @@ fn behind_line<'a>(text: &'a [u8], words: &[u8]) -> Option<&'a [u8]>
 }
 
 /// Whether the struct, enum or trait that a statement names is there.
-fn names_stmt(heads: &Items, stmt: &Stmt) -> bool
+fn names_stmt(heads: &Heads, stmt: &Stmt) -> bool
     ensures { result ≡ reading.names_stmt heads.now stmt.now }
 {
     match stmt {
@@ -39,7 +38,7 @@ fn names_stmt(heads: &Items, stmt: &Stmt) -> bool
 }
 
 /// Whether the trait that a terminator names is there.
-fn names_term(heads: &Items, term: &Term) -> bool
+fn names_term(heads: &Heads, term: &Term) -> bool
     ensures { result ≡ reading.names_term heads.now term.now }
 {
     match term {
@@ -51,7 +50,7 @@ fn names_term(heads: &Items, term: &Term) -> bool
 /// What stands behind the line of a statement whose names are there.
 fn behind_stmt<'a>(
     alloc: Global,
-    heads: &Items,
+    heads: &Heads,
     stmt: &Stmt,
     text: &'a [u8],
 ) -> Result<&'a [u8], ReadError>
@@ -60,14 +59,14 @@ fn behind_stmt<'a>(
     if !names_stmt(heads, stmt) {
         return Err(ReadError::Unreadable);
     }
-    let words = stmt_text(alloc, heads, stmt)?;
+    let words = stmt_text(alloc, heads.items(), stmt)?;
     behind_line(text, words.as_slice()).ok_or(ReadError::Unreadable)
 }
 
 /// What stands behind the line of a terminator whose names are there.
 fn behind_term<'a>(
     alloc: Global,
-    heads: &Items,
+    heads: &Heads,
     term: &Term,
     text: &'a [u8],
 ) -> Result<&'a [u8], ReadError>
@@ -76,7 +75,7 @@ fn behind_term<'a>(
     if !names_term(heads, term) {
         return Err(ReadError::Unreadable);
     }
-    let words = term_text(alloc, heads, term)?;
+    let words = term_text(alloc, heads.items(), term)?;
     behind_line(text, words.as_slice()).ok_or(ReadError::Unreadable)
 }
 
@@ -85,7 +84,7 @@ fn behind_term<'a>(
 /// one that names what has no head.
 pub fn statement<'a>(
     alloc: Global,
-    heads: &Items,
+    heads: &Heads,
     text: &'a [u8],
 ) -> Result<(Stmt, &'a [u8]), ReadError>
     ensures { Finds result (reading.statement_read heads.now text.now) }
@@ -105,7 +104,7 @@ pub fn statement<'a>(
 /// what has no head.
 pub fn terminator<'a>(
     alloc: Global,
-    heads: &Items,
+    heads: &Heads,
     text: &'a [u8],
 ) -> Result<(Term, &'a [u8]), ReadError>
     ensures { Finds result (reading.terminator_read heads.now text.now) }

@@ -1,5 +1,5 @@
--- What the law of items says: each line of a struct or enum that may stand is found by its reader, and nothing but a line
--- in front.
+-- What the law of items says: each line of a struct or enum that may stand is found by its reader, and nothing but a
+-- line in front.
 use Rattle.std.specs.Prelude.{◌≡◌, ℕ, Bool, true, false, List, [], ◌∷◌, ◌++◌, ⊤, map, codes, Option, Some, IfSome}
 use Rattle.std.specs.Str.{is_utf8}
 use Rattle.mir_ty.specs.ItemTable.{ItemTable}
@@ -16,7 +16,8 @@ use Rattle.listing_items.specs.ItemReading.{adt_read}
 abbrev pub VariantsStand : ItemTable → List (List ℕ × List Tree) → Type 0
 VariantsStand heads [] = ⊤
 VariantsStand heads (variant ∷ variants) =
-    ((is_name variant.0 ≡ true) × (is_utf8 variant.0 ≡ true) × EachStands heads variant.1) × VariantsStand heads variants
+    ((is_name variant.0 ≡ true) × (is_utf8 variant.0 ≡ true) × EachStands heads variant.1)
+    × VariantsStand heads variants
 
 -- what is found of a variant
 abbrev pub found_variant : List ℕ × List Tree → VariantSeen
@@ -41,7 +42,8 @@ StructsAreRead =
 abbrev pub EnumsAreRead : Type 0
 EnumsAreRead =
     (heads : ItemTable) (name : List ℕ) (variants : List (List ℕ × List Tree)) (copy : Bool) (drop_body : Option ℕ)
-    (behind : List ℕ) → is_adt_name name ≡ true → is_utf8 name ≡ true → VariantsStand heads variants → IfSome drop_body Fits →
+    (behind : List ℕ) →
+    is_adt_name name ≡ true → is_utf8 name ≡ true → VariantsStand heads variants → IfSome drop_body Fits →
     adt_read heads (line (line_text (EnumLine name variants copy drop_body)) ++ behind)
     ≡ Some (
       record {
@@ -67,9 +69,11 @@ written_shape true name variants = codes "enum " ++ name ++ codes " " ++ in_brac
 written_shape false name variants = codes "struct " ++ name ++ codes " " ++ in_parentheses (own_fields variants)
 
 abbrev pub written_adt : AdtSeen → List ℕ
-written_adt adt = line (written_shape adt.is_enum adt.name adt.variants ++ copy_text adt.copy ++ drop_text adt.drop_body)
+written_adt adt =
+    line (written_shape adt.is_enum adt.name adt.variants ++ copy_text adt.copy ++ drop_text adt.drop_body)
 
 abbrev pub AdtsAreSound : Type 0
 AdtsAreSound =
     (heads : ItemTable) (text : List ℕ) (adt : AdtSeen) (behind : List ℕ) → adt_read heads text ≡ Some (adt, behind) →
-    (text ≡ written_adt adt ++ behind) × (is_adt_name adt.name ≡ true) × (is_utf8 adt.name ≡ true) × IfSome adt.drop_body Fits
+    (text ≡ written_adt adt ++ behind)
+    × (is_adt_name adt.name ≡ true) × (is_utf8 adt.name ≡ true) × IfSome adt.drop_body Fits

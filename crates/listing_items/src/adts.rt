@@ -7,7 +7,7 @@ ghost use Rattle.listing_items.specs.ItemsRead.{FindsAdt, enum_of, struct_of};
 
 use crate::names::adt_name;
 use crate::variants::{make_variant, only, read_variants};
-use listing_parts::{ReadError, strip};
+use listing_parts::{Heads, ReadError, strip};
 use listing_types::{plain_number, read_types};
 use mir_base::{List, Name, NoMemory};
 use mir_ty::{Adt, Items, TyId, Variant};
@@ -84,7 +84,7 @@ fn make_enum(
 
 fn struct_behind<'a>(
     alloc: Global,
-    heads: &Items,
+    heads: &Heads,
     items: &mut Items,
     name: &str,
     text: &'a [u8],
@@ -106,7 +106,7 @@ fn struct_behind<'a>(
 
 fn enum_behind<'a>(
     alloc: Global,
-    heads: &Items,
+    heads: &Heads,
     items: &mut Items,
     name: &str,
     text: &'a [u8],
@@ -129,7 +129,7 @@ fn enum_behind<'a>(
 /// A struct behind its word.
 fn read_struct<'a>(
     alloc: Global,
-    heads: &Items,
+    heads: &Heads,
     items: &mut Items,
     text: &'a [u8],
 ) -> Result<(Adt, &'a [u8]), ReadError>
@@ -145,7 +145,7 @@ fn read_struct<'a>(
 /// An enum behind its word.
 fn read_enum<'a>(
     alloc: Global,
-    heads: &Items,
+    heads: &Heads,
     items: &mut Items,
     text: &'a [u8],
 ) -> Result<(Adt, &'a [u8]), ReadError>
@@ -163,7 +163,7 @@ fn read_enum<'a>(
 /// with such a line; the table of the types may have grown then too.
 pub fn adt_line<'a>(
     alloc: Global,
-    heads: &Items,
+    heads: &Heads,
     items: &mut Items,
     text: &'a [u8],
 ) -> Result<(Adt, &'a [u8]), ReadError>

@@ -8,7 +8,7 @@ ghost use Rattle.listing_items.specs.ItemReading as reading;
 ghost use Rattle.listing_items.specs.ItemsRead.{FindsMore, FindsVariant, FindsVariants, variant_of};
 
 use crate::names::{blank_name, field_names};
-use listing_parts::{ReadError, strip};
+use listing_parts::{Heads, ReadError, strip};
 use listing_types::read_types;
 use mir_base::{List, Name, NoMemory};
 use mir_ty::{Items, TyId, Variant};
@@ -29,7 +29,7 @@ pub fn make_variant(alloc: Global, name: &str, fields: List<TyId>) -> Result<Var
 
 fn variant<'a>(
     alloc: Global,
-    heads: &Items,
+    heads: &Heads,
     items: &mut Items,
     text: &'a [u8],
 ) -> Result<(Variant, &'a [u8]), ReadError>
@@ -50,7 +50,7 @@ fn variant<'a>(
 
 fn variant_behind_comma<'a>(
     alloc: Global,
-    heads: &Items,
+    heads: &Heads,
     items: &mut Items,
     text: &'a [u8],
 ) -> Result<(Variant, &'a [u8]), ReadError>
@@ -66,7 +66,7 @@ fn variant_behind_comma<'a>(
 /// As many variants as there are behind commas. Each has a byte, so there are no more than bytes.
 fn more_variants<'a>(
     alloc: Global,
-    heads: &Items,
+    heads: &Heads,
     items: &mut Items,
     variants: &mut List<Variant>,
     text: &'a [u8],
@@ -101,7 +101,7 @@ pub fn only(alloc: Global, variant: Variant) -> Result<List<Variant>, NoMemory>
 /// What stands behind the first variant.
 fn with_more<'a>(
     alloc: Global,
-    heads: &Items,
+    heads: &Heads,
     items: &mut Items,
     first: Variant,
     text: &'a [u8],
@@ -122,7 +122,7 @@ fn with_more<'a>(
 /// One variant, and as many as stand behind commas.
 fn some_variants<'a>(
     alloc: Global,
-    heads: &Items,
+    heads: &Heads,
     items: &mut Items,
     text: &'a [u8],
 ) -> Result<(List<Variant>, &'a [u8]), ReadError>
@@ -137,7 +137,7 @@ fn some_variants<'a>(
 
 fn variants_behind<'a>(
     alloc: Global,
-    heads: &Items,
+    heads: &Heads,
     items: &mut Items,
     text: &'a [u8],
 ) -> Result<(List<Variant>, &'a [u8]), ReadError>
@@ -156,7 +156,7 @@ fn variants_behind<'a>(
 /// Variants in braces, maybe none.
 pub fn read_variants<'a>(
     alloc: Global,
-    heads: &Items,
+    heads: &Heads,
     items: &mut Items,
     text: &'a [u8],
 ) -> Result<(List<Variant>, &'a [u8]), ReadError>

@@ -1,5 +1,5 @@
--- Lines, read from the front of a text with their line feed: those of impls and closures, and of bodies, locals and blocks.
--- Each is read exactly as it is written; a line with a number in its place has the number that is due.
+-- Lines, read from the front of a text with their line feed: those of impls and closures, and of bodies, locals and
+-- blocks. Each is read exactly as it is written; a line with a number in its place has the number that is due.
 use Rattle.std.specs.Prelude.{ℕ, ◌&&◌, if◌then◌else◌, nat_eq, nat_lt, List, length, codes, Some, None, Option, slice_get}
 use Rattle.std.specs.Str.{is_utf8}
 use Rattle.mir_ty.specs.declared.def.ImplDef.{ImplDef}

@@ -1,4 +1,5 @@
--- What the law of lines says: each line that may stand in its place is found by its reader, and nothing but a line in front.
+-- What the law of lines says: each line that may stand in its place is found by its reader, and nothing but a line in
+-- front.
 use Rattle.std.specs.Prelude.{◌≡◌, ℕ, ◌<◌, true, List, ◌++◌, map, length, codes, Some, All}
 use Rattle.std.specs.Fmt.{decimal}
 use Rattle.std.specs.Str.{is_utf8}
@@ -17,12 +18,14 @@ use Rattle.listing_lines.specs.LineReading.{body_read, local_read, block_read, c
 
 abbrev pub BodiesAreRead : Type 0
 BodiesAreRead =
-    (n : ℕ) (name : List ℕ) (params : ℕ) (behind : List ℕ) → Fits n → is_name name ≡ true → is_utf8 name ≡ true →
-    Fits params → body_read n (line (line_text (BodyLine n name params)) ++ behind) ≡ Some ((name, params), behind)
+    (n : ℕ) (name : List ℕ) (params : ℕ) (behind : List ℕ) →
+    Fits n → is_name name ≡ true → is_utf8 name ≡ true → Fits params →
+    body_read n (line (line_text (BodyLine n name params)) ++ behind) ≡ Some ((name, params), behind)
 
 abbrev pub BodiesAreSound : Type 0
 BodiesAreSound =
-    (n : ℕ) (text name : List ℕ) (params : ℕ) (behind : List ℕ) → body_read n text ≡ Some ((name, params), behind) →
+    (n : ℕ) (text name : List ℕ) (params : ℕ) (behind : List ℕ) →
+    body_read n text ≡ Some ((name, params), behind) →
     (text ≡ line (line_text (BodyLine n name params)) ++ behind) × (is_name name ≡ true) × (is_utf8 name ≡ true)
 
 abbrev pub LocalsAreRead : Type 0
@@ -42,24 +45,29 @@ BlocksAreRead =
 
 abbrev pub BlocksAreSound : Type 0
 BlocksAreSound =
-    (n : ℕ) (text : List ℕ) (kind : Kind) (rank : ℕ) (behind : List ℕ) → block_read n text ≡ Some ((kind, rank), behind) →
+    (n : ℕ) (text : List ℕ) (kind : Kind) (rank : ℕ) (behind : List ℕ) →
+    block_read n text ≡ Some ((kind, rank), behind) →
     text ≡ line (line_text (BlockLine n kind rank)) ++ behind
 
 abbrev pub ClosuresAreRead : Type 0
 ClosuresAreRead =
-    (heads : ItemTable) (n : ℕ) (captures : List Tree) (body : ℕ) (behind : List ℕ) → Fits n → EachStands heads captures →
-    Fits body →
-    closure_read heads n (line (line_text (ClosureLine n captures body)) ++ behind) ≡ Some ((map tree_text captures, body), behind)
+    (heads : ItemTable) (n : ℕ) (captures : List Tree) (body : ℕ) (behind : List ℕ) →
+    Fits n → EachStands heads captures → Fits body →
+    closure_read heads n (line (line_text (ClosureLine n captures body)) ++ behind)
+    ≡ Some ((map tree_text captures, body), behind)
 
 abbrev pub ClosuresAreSound : Type 0
 ClosuresAreSound =
     (heads : ItemTable) (n : ℕ) (text : List ℕ) (captures : List (List ℕ)) (body : ℕ) (behind : List ℕ) →
     closure_read heads n text ≡ Some ((captures, body), behind) →
-    text ≡ line (codes "closure " ++ decimal n ++ codes " " ++ in_parentheses captures ++ codes " " ++ decimal body) ++ behind
+    text
+    ≡ line (codes "closure " ++ decimal n ++ codes " " ++ in_parentheses captures ++ codes " " ++ decimal body)
+    ++ behind
 
 abbrev pub ImplsAreRead : Type 0
 ImplsAreRead =
-    (heads : ItemTable) (trait adt : List ℕ) (bodies : List ℕ) (behind : List ℕ) → is_name trait ≡ true → is_name adt ≡ true →
+    (heads : ItemTable) (trait adt : List ℕ) (bodies : List ℕ) (behind : List ℕ) →
+    is_name trait ≡ true → is_name adt ≡ true →
     trait_no heads trait < length heads.traits → adt_no heads adt < length heads.adts → All Fits bodies →
     impl_read heads (line (line_text (ImplLine trait adt bodies)) ++ behind)
     ≡ Some (record { trait_no = trait_no heads trait; adt = adt_no heads adt; bodies = bodies }, behind)

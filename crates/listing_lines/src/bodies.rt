@@ -9,7 +9,7 @@ ghost use Rattle.listing_lines.specs.LinesRead.{seen_named};
 
 use crate::words::{due_number, utf8_name};
 use cfg_graph::Kind;
-use listing_parts::{ReadError, strip};
+use listing_parts::{Heads, ReadError, strip};
 use listing_types::{plain_number, read_type};
 use mir_ty::{Items, TyId};
 use std::alloc::Global;
@@ -35,7 +35,7 @@ fn local_head(n: u32, text: &[u8]) -> Option<&[u8]>
 /// begin with it; the table of the types may have grown then too.
 pub fn local_line<'a>(
     alloc: Global,
-    heads: &Items,
+    heads: &Heads,
     items: &mut Items,
     n: u32,
     text: &'a [u8],

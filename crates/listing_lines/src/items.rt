@@ -8,7 +8,7 @@ ghost use Rattle.listing_lines.specs.LineReading as reading;
 ghost use Rattle.listing_lines.specs.LinesRead.{FindsClosure};
 
 use crate::words::{due_number, known_adt, known_trait};
-use listing_parts::{ReadError, strip};
+use listing_parts::{Heads, ReadError, strip};
 use listing_types::{plain_number, read_types};
 use mir_base::{List, NoMemory};
 use mir_ty::{ClosureDef, ImplDef, Items};
@@ -32,7 +32,7 @@ fn last_number(text: &[u8]) -> Option<(u32, &[u8])>
 /// it; the table of the types may have grown then too.
 pub fn closure_line<'a>(
     alloc: Global,
-    heads: &Items,
+    heads: &Heads,
     items: &mut Items,
     n: u32,
     text: &'a [u8],
@@ -77,7 +77,7 @@ fn blank_numbers(alloc: Global, text: &[u8]) -> Result<(List<u32>, &[u8]), NoMem
 }
 
 /// The trait and the struct or enum of an impl, before its bodies.
-fn impl_head<'a>(heads: &Items, text: &'a [u8]) -> Option<((u32, u32), &'a [u8])>
+fn impl_head<'a>(heads: &Heads, text: &'a [u8]) -> Option<((u32, u32), &'a [u8])>
     ensures { seen result ≡ reading.impl_head heads.now text.now }
 {
     let (trait_no, rest) = known_trait(heads, strip(text, "impl ")?)?;
@@ -89,7 +89,7 @@ fn impl_head<'a>(heads: &Items, text: &'a [u8]) -> Option<((u32, u32), &'a [u8])
 /// begin with the line of an impl, or with that of a trait, a struct or an enum that has no head.
 pub fn impl_line<'a>(
     alloc: Global,
-    heads: &Items,
+    heads: &Heads,
     text: &'a [u8],
 ) -> Result<(ImplDef, &'a [u8]), ReadError>
     ensures { Finds result (reading.impl_read heads.now text.now) }

@@ -4,9 +4,8 @@ ghost use Rattle.std.specs.Option.{option_copied};
 ghost use Rattle.listing_parts.specs.Found.{seen};
 ghost use Rattle.listing_lines.specs.LineReading as reading;
 
-use listing_parts::{adt_number, name, strip, trait_number};
+use listing_parts::{Heads, name, strip};
 use listing_types::plain_number;
-use mir_ty::Items;
 
 /// What stands behind the number that is due.
 pub fn due_number(n: u32, text: &[u8]) -> Option<&[u8]>
@@ -31,11 +30,11 @@ pub fn utf8_name(text: &[u8]) -> Option<(&str, &[u8])>
 }
 
 /// The number of the struct or enum whose name stands in front.
-pub fn known_adt<'a>(heads: &Items, text: &'a [u8]) -> Option<(u32, &'a [u8])>
+pub fn known_adt<'a>(heads: &Heads, text: &'a [u8]) -> Option<(u32, &'a [u8])>
     ensures { seen result ≡ reading.known_adt_read heads.now text.now }
 {
     let (word, rest) = name(text);
-    let n = adt_number(heads, word);
+    let n = heads.adt_number(word);
     match heads.adt(n) {
         Some(_) => Some((n, rest)),
         None => None,
@@ -43,11 +42,11 @@ pub fn known_adt<'a>(heads: &Items, text: &'a [u8]) -> Option<(u32, &'a [u8])>
 }
 
 /// The number of the trait whose name stands in front.
-pub fn known_trait<'a>(heads: &Items, text: &'a [u8]) -> Option<(u32, &'a [u8])>
+pub fn known_trait<'a>(heads: &Heads, text: &'a [u8]) -> Option<(u32, &'a [u8])>
     ensures { seen result ≡ reading.known_trait_read heads.now text.now }
 {
     let (word, rest) = name(text);
-    let n = trait_number(heads, word);
+    let n = heads.trait_number(word);
     match heads.trait_def(n) {
         Some(_) => Some((n, rest)),
         None => None,

@@ -1,5 +1,5 @@
 -- Each part that is written is found.
-use Rattle.std.proofs.Common.{◌≡◌, ℕ, Bool, true, false, not, ◌||◌, nat_eq, nat_lt, List, [], ◌∷◌, ◌++◌, length, Some, refl, sym, ◌∙◌, eqb-true, ltb-true}
+use Rattle.std.proofs.Common.{◌≡◌, ℕ, Bool, true, false, not, ◌||◌, nat_eq, nat_lt, List, [], ◌∷◌, length, refl, sym, ◌∙◌, eqb-true, ltb-true}
 use Rattle.std.specs.List.{list_all}
 use Rattle.std.proofs.lemmas.Bool.{false≢true, eq-eqb, lt-ltb}
 use Rattle.mir_ty.specs.ItemTable.{ItemTable}
@@ -11,9 +11,6 @@ use Rattle.mir_text.specs.Types.{trait_name}
 use Rattle.mir_text.specs.Reading.Words.{is_digit}
 use Rattle.mir_text.proofs.Reading.Parts.{IsPlaceEnd, place_reads, operand_reads, operands_reads}
 use Rattle.mir_text.proofs.Reading.Lines.{Named, TermNamed, stmt_reads, term_reads, no_stmt}
-use Rattle.mir_text.specs.Parts.{stmt_text, term_text}
-use Rattle.mir_text.specs.Reading.Lines.{stmt_read, term_read}
-use Rattle.listing_parts.specs.LinesFound.{StmtStands, TermStands}
 use Rattle.listing_parts.specs.Numbers.{adt_no, trait_no}
 use Rattle.listing_parts.specs.Reads.{ends_place, AreTold, StmtNames, TermNames, PlacesAreRead, OperandsAreRead, RowsAreRead, StmtsAreRead, TermsAreRead, TermsAreNoStmts}
 
@@ -79,11 +76,3 @@ terms_are_read items told term fits names behind =
 
 pub terms_are_no_stmts : TermsAreNoStmts
 terms_are_no_stmts items told term fits behind = no_stmt (adt_no items) (trait_no items) items (traits items told) term fits behind
-
-pub stmt_each : (items : ItemTable) (stmt : Stmt) → StmtStands items stmt → (behind : List ℕ)
-    → stmt_read (adt_no items) (trait_no items) (stmt_text items stmt ++ 10 ∷ behind) ≡ Some (stmt, 10 ∷ behind)
-stmt_each items stmt stands behind = stmts_are_read items stands.told stmt stands.fits stands.names behind
-
-pub term_each : (items : ItemTable) (term : Term) → TermStands items term → (behind : List ℕ)
-    → term_read (adt_no items) (trait_no items) (term_text items term ++ 10 ∷ behind) ≡ Some (term, 10 ∷ behind)
-term_each items term stands behind = terms_are_read items stands.told term stands.fits stands.names behind

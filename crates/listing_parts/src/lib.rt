@@ -2,9 +2,8 @@
 #![tactic(auto)]
 
 mod error;
+mod heads;
 mod law;
-mod lines;
-mod names;
 mod operands;
 mod places;
 mod statements;
@@ -13,9 +12,8 @@ mod ways;
 mod words;
 
 pub use error::ReadError;
+pub use heads::{Heads, adt_count, trait_count};
 pub use law::law_of_parts;
-pub use lines::{stmt_line, term_line};
-pub use names::{adt_number, trait_number};
 pub use operands::{read_operand, read_operands};
 pub use places::read_place;
 pub use statements::read_stmt;

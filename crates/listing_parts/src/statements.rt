@@ -4,14 +4,12 @@ ghost use Rattle.mir_text.specs.Reading.Lines as reading;
 ghost use Rattle.listing_parts.specs.Found.{Finds, seen};
 ghost use Rattle.listing_parts.specs.Numbers.{adt_no, trait_no};
 
-use crate::ReadError;
-use crate::names::{adt_number, trait_number};
 use crate::operands::{read_operand, read_operands};
 use crate::places::{place_behind, read_place};
 use crate::words::{name, number, strip};
+use crate::{Heads, ReadError};
 use cfg_graph::{Operand, Place, Stmt};
 use mir_base::{Cmp, List};
-use mir_ty::Items;
 use std::alloc::Global;
 
 fn comparison(text: &[u8]) -> Option<(Cmp, &[u8])>
@@ -57,16 +55,16 @@ pub fn numbered_operands(
 
 fn make<'a>(
     alloc: Global,
-    items: &Items,
+    heads: &Heads,
     to: Place,
     text: &'a [u8],
 ) -> Result<(Stmt, &'a [u8]), ReadError>
-    ensures { Finds result (reading.make_read (adt_no items.now) (trait_no items.now) to text.now) }
+    ensures { Finds result (reading.make_read (adt_no heads.now) (trait_no heads.now) to text.now) }
 {
     let (name, rest) = name(text);
     let rest = strip(rest, " ").ok_or(ReadError::Unreadable)?;
     let ((variant, parts), rest) = numbered_operands(alloc, rest)?;
-    let adt = adt_number(items, name);
+    let adt = heads.adt_number(name);
     Ok((
         Stmt::Make {
             to,
@@ -80,16 +78,16 @@ fn make<'a>(
 
 fn unsize<'a>(
     alloc: Global,
-    items: &Items,
+    heads: &Heads,
     to: Place,
     text: &'a [u8],
 ) -> Result<(Stmt, &'a [u8]), ReadError>
-    ensures { Finds result (reading.unsize_read (adt_no items.now) (trait_no items.now) to text.now) }
+    ensures { Finds result (reading.unsize_read (adt_no heads.now) (trait_no heads.now) to text.now) }
 {
     let (name, rest) = name(text);
     let rest = strip(rest, " ").ok_or(ReadError::Unreadable)?;
     let (from, rest) = read_operand(alloc, rest)?;
-    let trait_no = trait_number(items, name);
+    let trait_no = heads.trait_number(name);
     Ok((Stmt::Unsize { to, trait_no, from }, rest))
 }
 
@@ -126,11 +124,11 @@ fn borrowed(alloc: Global, to: Place, text: &[u8]) -> Result<(Stmt, &[u8]), Read
 /// What is made of one operand.
 fn of_one<'a>(
     alloc: Global,
-    items: &Items,
+    heads: &Heads,
     to: Place,
     text: &'a [u8],
 ) -> Result<(Stmt, &'a [u8]), ReadError>
-    ensures { Finds result (reading.of_one (adt_no items.now) (trait_no items.now) to text.now) }
+    ensures { Finds result (reading.of_one (adt_no heads.now) (trait_no heads.now) to text.now) }
 {
     if let Some(rest) = strip(text, "not ") {
         let (operand, rest) = read_operand(alloc, rest)?;
@@ -141,7 +139,7 @@ fn of_one<'a>(
         return Ok((Stmt::NewBox(to, operand), rest));
     }
     match strip(text, "unsize ") {
-        Some(rest) => unsize(alloc, items, to, rest),
+        Some(rest) => unsize(alloc, heads, to, rest),
         None => borrowed(alloc, to, text),
     }
 }
@@ -149,11 +147,11 @@ fn of_one<'a>(
 /// What is made of parts.
 fn of_parts<'a>(
     alloc: Global,
-    items: &Items,
+    heads: &Heads,
     to: Place,
     text: &'a [u8],
 ) -> Result<(Stmt, &'a [u8]), ReadError>
-    ensures { Finds result (reading.of_parts (adt_no items.now) (trait_no items.now) to text.now) }
+    ensures { Finds result (reading.of_parts (adt_no heads.now) (trait_no heads.now) to text.now) }
 {
     if let Some(rest) = strip(text, "tuple ") {
         let (parts, rest) = read_operands(alloc, rest)?;
@@ -168,26 +166,26 @@ fn of_parts<'a>(
         return Ok((Stmt::Close { to, closure, parts }, rest));
     }
     match strip(text, "make ") {
-        Some(rest) => make(alloc, items, to, rest),
-        None => of_one(alloc, items, to, text),
+        Some(rest) => make(alloc, heads, to, rest),
+        None => of_one(alloc, heads, to, text),
     }
 }
 
 /// What is stored at a place.
 fn assigned<'a>(
     alloc: Global,
-    items: &Items,
+    heads: &Heads,
     to: Place,
     text: &'a [u8],
 ) -> Result<(Stmt, &'a [u8]), ReadError>
-    ensures { Finds result (reading.assigned (adt_no items.now) (trait_no items.now) to text.now) }
+    ensures { Finds result (reading.assigned (adt_no heads.now) (trait_no heads.now) to text.now) }
 {
     match comparison(text) {
         Some((op, rest)) => {
             let ((left, right), rest) = two_operands(alloc, rest)?;
             Ok((Stmt::Compare(to, op, left, right), rest))
         }
-        None => of_parts(alloc, items, to, text),
+        None => of_parts(alloc, heads, to, text),
     }
 }
 
@@ -212,20 +210,20 @@ fn without_place(alloc: Global, text: &[u8]) -> Result<(Stmt, &[u8]), ReadError>
     Ok((Stmt::Free(place), rest))
 }
 
-/// A statement at the front of a text, and what stands behind it. A name that no struct, enum or trait of the items has
+/// A statement at the front of a text, and what stands behind it. A name that no struct, enum or trait of the heads has
 /// is read as the number of them.
 pub fn read_stmt<'a>(
     alloc: Global,
-    items: &Items,
+    heads: &Heads,
     text: &'a [u8],
 ) -> Result<(Stmt, &'a [u8]), ReadError>
-    ensures { Finds result (reading.stmt_read (adt_no items.now) (trait_no items.now) text.now) }
+    ensures { Finds result (reading.stmt_read (adt_no heads.now) (trait_no heads.now) text.now) }
 {
     match strip(text, "_") {
         Some(rest) => {
             let (to, rest) = place_behind(alloc, rest)?;
             let rest = strip(rest, " = ").ok_or(ReadError::Unreadable)?;
-            assigned(alloc, items, to, rest)
+            assigned(alloc, heads, to, rest)
         }
         None => without_place(alloc, text),
     }

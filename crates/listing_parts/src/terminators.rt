@@ -4,16 +4,14 @@ ghost use Rattle.mir_text.specs.Reading.Lines as reading;
 ghost use Rattle.listing_parts.specs.Found.{Finds, seen};
 ghost use Rattle.listing_parts.specs.Numbers.{adt_no, trait_no};
 
-use crate::ReadError;
-use crate::names::trait_number;
 use crate::operands::read_operand;
 use crate::places::{place_behind, read_place};
 use crate::statements::{numbered_operands, two_operands};
 use crate::ways::{unwind, ways};
 use crate::words::{name, number, strip};
+use crate::{Heads, ReadError};
 use cfg_graph::{Place, Term};
 use mir_base::{Math, Why};
-use mir_ty::Items;
 use std::alloc::Global;
 
 fn math(text: &[u8]) -> Option<(Math, &[u8])>
@@ -119,17 +117,17 @@ fn call(alloc: Global, to: Place, text: &[u8]) -> Result<(Term, &[u8]), ReadErro
 
 fn virtual_call<'a>(
     alloc: Global,
-    items: &Items,
+    heads: &Heads,
     to: Place,
     text: &'a [u8],
 ) -> Result<(Term, &'a [u8]), ReadError>
-    ensures { Finds result (reading.virtual_read (adt_no items.now) (trait_no items.now) to text.now) }
+    ensures { Finds result (reading.virtual_read (adt_no heads.now) (trait_no heads.now) to text.now) }
 {
     let (name, rest) = name(text);
     let rest = strip(rest, " ").ok_or(ReadError::Unreadable)?;
     let ((method, args), rest) = numbered_operands(alloc, rest)?;
     let ((then, unwind), rest) = ways(rest).ok_or(ReadError::Unreadable)?;
-    let trait_no = trait_number(items, name);
+    let trait_no = heads.trait_number(name);
     Ok((
         Term::Virtual {
             to,
@@ -153,17 +151,17 @@ fn ask(to: Place, text: &[u8]) -> Option<(Term, &[u8])>
 /// What a call stores.
 fn called<'a>(
     alloc: Global,
-    items: &Items,
+    heads: &Heads,
     to: Place,
     text: &'a [u8],
 ) -> Result<(Term, &'a [u8]), ReadError>
-    ensures { Finds result (reading.called (adt_no items.now) (trait_no items.now) to text.now) }
+    ensures { Finds result (reading.called (adt_no heads.now) (trait_no heads.now) to text.now) }
 {
     if let Some(rest) = strip(text, "call ") {
         return call(alloc, to, rest);
     }
     if let Some(rest) = strip(text, "virtual ") {
-        return virtual_call(alloc, items, to, rest);
+        return virtual_call(alloc, heads, to, rest);
     }
     let rest = strip(text, "ask").ok_or(ReadError::Unreadable)?;
     ask(to, rest).ok_or(ReadError::Unreadable)
@@ -172,18 +170,18 @@ fn called<'a>(
 /// What may panic and stores a result.
 fn returned<'a>(
     alloc: Global,
-    items: &Items,
+    heads: &Heads,
     to: Place,
     text: &'a [u8],
 ) -> Result<(Term, &'a [u8]), ReadError>
-    ensures { Finds result (reading.returned (adt_no items.now) (trait_no items.now) to text.now) }
+    ensures { Finds result (reading.returned (adt_no heads.now) (trait_no heads.now) to text.now) }
 {
     if let Some((op, rest)) = math(text) {
         return calculated(alloc, to, op, rest);
     }
     match strip(text, "neg ") {
         Some(rest) => negated(alloc, to, rest),
-        None => called(alloc, items, to, text),
+        None => called(alloc, heads, to, text),
     }
 }
 
@@ -289,20 +287,20 @@ fn without_result(alloc: Global, text: &[u8]) -> Result<(Term, &[u8]), ReadError
     }
 }
 
-/// A terminator at the front of a text, and what stands behind it. A name that no trait of the items has is read as the
+/// A terminator at the front of a text, and what stands behind it. A name that no trait of the heads has is read as the
 /// number of them.
 pub fn read_term<'a>(
     alloc: Global,
-    items: &Items,
+    heads: &Heads,
     text: &'a [u8],
 ) -> Result<(Term, &'a [u8]), ReadError>
-    ensures { Finds result (reading.term_read (adt_no items.now) (trait_no items.now) text.now) }
+    ensures { Finds result (reading.term_read (adt_no heads.now) (trait_no heads.now) text.now) }
 {
     match strip(text, "_") {
         Some(rest) => {
             let (to, rest) = place_behind(alloc, rest)?;
             let rest = strip(rest, " = ").ok_or(ReadError::Unreadable)?;
-            returned(alloc, items, to, rest)
+            returned(alloc, heads, to, rest)
         }
         None => without_result(alloc, text),
     }

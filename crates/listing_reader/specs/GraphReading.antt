@@ -41,12 +41,13 @@ pub record AreSettled (t : List ℕ) (heads : ItemTable) : Type 0 where
   pub are : heads ≡ heads_after rounds t
   pub all_read : fewer heads (items_under heads t).0 ≡ None
 
--- a graph is told by a text, under heads: its items and its bodies are those that stand there, whether the last block is
--- whole, and what stands behind them
+-- a graph is told by a text, under heads: its items and its bodies are those that stand there, whether the last block
+-- is whole, and what stands behind them
 pub record IsTold (t : List ℕ) (heads : ItemTable) (graph : Graph) (whole : Bool) (rest : List ℕ) : Type 0 where
   pub drafted : BodiesDrafted heads graph.items graph.bodies
   pub items : items_seen heads graph.items ≡ (items_under heads t).0
-  pub bodies : bodies_told heads graph.items graph.items.bodies graph.bodies ≡ (bodies_read heads (items_under heads t).1).0.0
+  pub bodies : bodies_told heads graph.items graph.items.bodies graph.bodies
+      ≡ (bodies_read heads (items_under heads t).1).0.0
   pub whole_is : whole ≡ (bodies_read heads (items_under heads t).1).0.1
   pub rest_is : rest ≡ (bodies_read heads (items_under heads t).1).1
 

@@ -5,37 +5,16 @@ ghost use Rattle.listing_reader.specs.GraphReading as reading;
 
 use crate::heads::read_heads;
 use cfg_graph::Graph;
+use listing_parts::{Heads, adt_count, trait_count};
 use listing_sections::{read_bodies, read_items};
 use mir_base::NoMemory;
 use mir_ty::Items;
 use std::alloc::Global;
 
-/// How many structs and enums there are.
-fn adt_count(items: &Items) -> u32
-    ensures { result ≡ length items.now.adts }
-{
-    let mut n: u32 = 0;
-    while let Some(_) = items.adt(n) {
-        n += 1;
-    }
-    n
-}
-
-/// How many traits there are.
-fn trait_count(items: &Items) -> u32
-    ensures { result ≡ length items.now.traits }
-{
-    let mut n: u32 = 0;
-    while let Some(_) = items.trait_def(n) {
-        n += 1;
-    }
-    n
-}
-
 /// The items that stand in front, under heads, and what stands behind them.
 fn items_under<'a>(
     alloc: Global,
-    heads: &Items,
+    heads: &Heads,
     text: &'a [u8],
 ) -> Result<(Items, &'a [u8]), NoMemory>
     ensures { IfOk result (λ found. AreItemsOf heads.now text.now found.0 found.1.now) }
@@ -46,7 +25,7 @@ fn items_under<'a>(
 }
 
 /// How many structs and enums, and how many traits, are read under heads.
-fn counts_under(alloc: Global, heads: &Items, text: &[u8]) -> Result<(u32, u32), NoMemory>
+fn counts_under(alloc: Global, heads: &Heads, text: &[u8]) -> Result<(u32, u32), NoMemory>
     ensures adts { IfOk result (λ counts. counts.0 ≡ length (reading.items_under heads.now text.now).0.adts) }
     ensures traits { IfOk result (λ counts. counts.1 ≡ length (reading.items_under heads.now text.now).0.traits) }
 {
@@ -66,16 +45,16 @@ fn fewer_of(adts: u32, most_adts: u32, traits: u32, most_traits: u32) -> Option<
 }
 
 /// How many heads are read, where those are not all.
-fn fewer(alloc: Global, heads: &Items, text: &[u8]) -> Result<Option<(u32, u32)>, NoMemory>
+fn fewer(alloc: Global, heads: &Heads, text: &[u8]) -> Result<Option<(u32, u32)>, NoMemory>
     ensures { IfOk result (λ counts. counts ≡ reading.fewer heads.now (reading.items_under heads.now text.now).0) }
 {
     let (adts, traits) = counts_under(alloc, heads, text)?;
-    Ok(fewer_of(adts, adt_count(heads), traits, trait_count(heads)))
+    Ok(fewer_of(adts, heads.adt_count(), traits, heads.trait_count()))
 }
 
 /// Heads that are all read. A head goes where its line cannot be read, or names one that went: then the heads are read
 /// again, no more than were.
-fn settled_heads(alloc: Global, text: &[u8]) -> Result<Items, NoMemory>
+fn settled_heads(alloc: Global, text: &[u8]) -> Result<Heads, NoMemory>
     ensures { IfOk result (λ heads. reading.AreSettled text.now heads) }
 {
     let count = text.len();

@@ -9,7 +9,7 @@ ghost use Rattle.listing_reader.specs.HeadReading as reading;
 ghost use Rattle.listing_reader.specs.HeadsRead.{FindsHeads};
 
 use listing_items::blank_name;
-use listing_parts::strip;
+use listing_parts::{Heads, strip};
 use mir_base::{List, Name, NoMemory};
 use mir_ty::{Adt, Items, TraitDef};
 use std::alloc::Global;
@@ -132,11 +132,11 @@ fn trait_heads<'a>(
 }
 
 /// The heads of a text: its structs and enums, no more than `adts`, and then its traits, no more than `traits`.
-pub fn read_heads(alloc: Global, adts: usize, traits: usize, text: &[u8]) -> Result<Items, NoMemory>
+pub fn read_heads(alloc: Global, adts: usize, traits: usize, text: &[u8]) -> Result<Heads, NoMemory>
     ensures { IfOk result (λ heads. heads ≡ reading.heads_within adts traits text.now) }
 {
     let mut heads = Items::new(alloc);
     let rest = adt_heads(alloc, &mut heads, adts, text)?;
     trait_heads(alloc, &mut heads, traits, rest)?;
-    Ok(heads)
+    Heads::of(alloc, heads)
 }

@@ -16,7 +16,8 @@ use Rattle.listing_sections.specs.BodyReading.{BodyTold}
 use Rattle.listing_sections.specs.SectionsRead.{items_seen, Drafted}
 
 -- the locals that were found have their types in the new items, where they are written so
-pub record FindsLocals (heads old new : ItemTable) (result : Result (List TyId × Bor (List ℕ)) NoMemory) (found : List Written × List ℕ) : Type 0 where
+pub record FindsLocals (heads old new : ItemTable) (result : Result (List TyId × Bor (List ℕ)) NoMemory)
+    (found : List Written × List ℕ) : Type 0 where
   pub there : IfOk result (λ f. (map (text_under heads new) f.0 ≡ found.0) × (f.1.now ≡ found.1))
   pub within : IfOk result (λ f. AreTypes new.types f.0)
   pub grow : Grow heads old new
@@ -24,11 +25,17 @@ pub record FindsLocals (heads old new : ItemTable) (result : Result (List TyId �
 -- a body as it is seen under heads, without its name
 abbrev pub body_told : ItemTable → ItemTable → List ℕ → Body → BodyTold
 body_told heads items name body =
-    record { name = name; params = body.params; locals = map (text_under heads items) body.locals; blocks = body.blocks }
+    record {
+      name = name;
+      params = body.params;
+      locals = map (text_under heads items) body.locals;
+      blocks = body.blocks;
+    }
 
 -- the body that was found, with its name
-pub record FindsBody (heads old new : ItemTable) (result : Result (((Bor (List ℕ) × Body) × Bool) × Bor (List ℕ)) ReadError)
-    (found : Found (BodyTold × Bool)) : Type 0 where
+pub record FindsBody (heads old new : ItemTable)
+    (result : Result (((Bor (List ℕ) × Body) × Bool) × Bor (List ℕ)) ReadError) (found : Found (BodyTold × Bool))
+    : Type 0 where
   pub there : IfOk result (λ f. found ≡ Some ((body_told heads new f.0.0.0.now f.0.0.1, f.0.1), f.1.now))
   pub within : IfOk result (λ f. AreTypes new.types f.0.0.1.locals)
   pub missing : result ≡ Err ReadError.Unreadable → found ≡ None
@@ -59,7 +66,8 @@ bodies_told heads items (sig ∷ sigs) (body ∷ bodies) =
     body_told heads items sig.name body ∷ bodies_told heads items sigs bodies
 
 -- a signature that was made
-pub record FindsSig (heads old new : ItemTable) (name : List ℕ) (body : Body) (result : Result Sig NoMemory) : Type 0 where
+pub record FindsSig (heads old new : ItemTable) (name : List ℕ) (body : Body) (result : Result Sig NoMemory)
+    : Type 0 where
   pub name_is : IfOk result (λ sig. sig.name ≡ name)
   pub sig_of : IfOk result (λ sig. IsSigOf new body sig)
   pub within : IfOk result (λ sig. IsSig new.types sig)
@@ -84,14 +92,16 @@ pub record OneBodyMore (heads old new : ItemTable) (before after : List Body) (t
   pub items : items_seen heads new ≡ items_seen heads old
 
 -- a body that was found, or no such body
-pub record AddsBody (heads old new : ItemTable) (before after : List Body) (result : Result (Bool × Bor (List ℕ)) ReadError)
-    (found : Found (BodyTold × Bool)) : Type 0 where
-  pub there : IfOk result (λ f. (told : BodyTold) × (found ≡ Some ((told, f.0), f.1.now)) × OneBodyMore heads old new before after told)
+pub record AddsBody (heads old new : ItemTable) (before after : List Body)
+    (result : Result (Bool × Bor (List ℕ)) ReadError) (found : Found (BodyTold × Bool)) : Type 0 where
+  pub there : IfOk result (λ f.
+      (told : BodyTold) × (found ≡ Some ((told, f.0), f.1.now)) × OneBodyMore heads old new before after told)
   pub missing : result ≡ Err ReadError.Unreadable → (found ≡ None) × NoBodyMore heads old new before after
 
 -- all bodies that were found, whether the last block was whole, and the text behind them
 pub record FindsBodies (heads old new : ItemTable) (result : Result ((List Body × Bool) × Bor (List ℕ)) NoMemory)
     (found : (List BodyTold × Bool) × List ℕ) : Type 0 where
-  pub there : IfOk result (λ f. (bodies_told heads new new.bodies f.0.0 ≡ found.0.0) × (f.0.1 ≡ found.0.1) × (f.1.now ≡ found.1))
+  pub there : IfOk result (λ f.
+      (bodies_told heads new new.bodies f.0.0 ≡ found.0.0) × (f.0.1 ≡ found.0.1) × (f.1.now ≡ found.1))
   pub drafted : IfOk result (λ f. BodiesDrafted heads new f.0.0)
   pub items : IfOk result (λ f. items_seen heads new ≡ items_seen heads old)

@@ -1,5 +1,5 @@
--- The sections of items, read from the front of a text: structs and enums, traits, impls, closures, each line exactly as it
--- is written, as long as such lines come.
+-- The sections of items, read from the front of a text: structs and enums, traits, impls, closures, each line exactly
+-- as it is written, as long as such lines come.
 use Rattle.std.specs.Prelude.{ℕ, zero, suc, List, [], ◌∷◌, ◌++◌, length, Some, None}
 use Rattle.mir_ty.specs.declared.def.ImplDef.{ImplDef}
 use Rattle.mir_ty.specs.ItemTable.{ItemTable}
@@ -34,7 +34,8 @@ module _ (heads : ItemTable) where
   one_adt s t = bind (adt_read heads t) (λ f. Some (record s { adts = s.adts ++ f.0 ∷ [] }, f.1))
 
   abbrev pub one_trait : ItemsSeen → List ℕ → Found ItemsSeen
-  one_trait s t = bind (trait_read heads (length s.traits) t) (λ f. Some (record s { traits = s.traits ++ f.0 ∷ [] }, f.1))
+  one_trait s t =
+      bind (trait_read heads (length s.traits) t) (λ f. Some (record s { traits = s.traits ++ f.0 ∷ [] }, f.1))
 
   abbrev pub one_impl : ItemsSeen → List ℕ → Found ItemsSeen
   one_impl s t = bind (impl_read heads t) (λ f. Some (record s { impls = s.impls ++ f.0 ∷ [] }, f.1))

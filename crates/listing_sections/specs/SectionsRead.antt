@@ -27,14 +27,16 @@ pub record Drafted (heads items : ItemTable) : Type 0 where
   pub closures : All (λ def. AreTypes items.types def.captures) items.closures
 
 -- one item more that was found, or no such item
-pub record FindsItem (heads old new : ItemTable) (result : Result (Bor (List ℕ)) ReadError) (found : Found ItemsSeen) : Type 0 where
+pub record FindsItem (heads old new : ItemTable) (result : Result (Bor (List ℕ)) ReadError)
+    (found : Found ItemsSeen) : Type 0 where
   pub there : IfOk result (λ rest. found ≡ Some (items_seen heads new, rest.now))
   pub missing : result ≡ Err ReadError.Unreadable → (found ≡ None) × (items_seen heads new ≡ items_seen heads old)
   pub drafted : Drafted heads new
   pub bodies : new.bodies ≡ old.bodies
 
 -- all that were found, and the text behind them
-pub record FindsSection (heads old new : ItemTable) (result : Result (Bor (List ℕ)) NoMemory) (found : ItemsSeen × List ℕ) : Type 0 where
+pub record FindsSection (heads old new : ItemTable) (result : Result (Bor (List ℕ)) NoMemory)
+    (found : ItemsSeen × List ℕ) : Type 0 where
   pub there : IfOk result (λ rest. (items_seen heads new ≡ found.0) × (rest.now ≡ found.1))
   pub drafted : Drafted heads new
   pub bodies : new.bodies ≡ old.bodies

@@ -11,7 +11,7 @@ use crate::signatures::signature;
 use cfg_graph::Body;
 use listing_code::read_blocks;
 use listing_lines::{body_line, local_line};
-use listing_parts::ReadError;
+use listing_parts::{Heads, ReadError};
 use mir_base::{List, NoMemory};
 use mir_ty::{Items, Sig, TyId};
 use std::alloc::Global;
@@ -19,7 +19,7 @@ use std::alloc::Global;
 /// As many locals as there are, in the order of their numbers.
 fn read_locals<'a>(
     alloc: Global,
-    heads: &Items,
+    heads: &Heads,
     items: &mut Items,
     text: &'a [u8],
 ) -> Result<(List<TyId>, &'a [u8]), NoMemory>
@@ -48,7 +48,7 @@ fn read_locals<'a>(
 /// `Unreadable` comes where the text does not begin with the line of that body.
 fn read_body<'a>(
     alloc: Global,
-    heads: &Items,
+    heads: &Heads,
     items: &mut Items,
     n: u32,
     text: &'a [u8],
@@ -99,7 +99,7 @@ fn push_body(
 /// Adds the body with number `n`, and answers whether its last block was whole, and what stands behind it.
 fn add_body<'a>(
     alloc: Global,
-    heads: &Items,
+    heads: &Heads,
     items: &mut Items,
     bodies: &mut List<Body>,
     n: u32,
@@ -125,7 +125,7 @@ fn add_body<'a>(
 /// text. Before the call there are no bodies.
 pub fn read_bodies<'a>(
     alloc: Global,
-    heads: &Items,
+    heads: &Heads,
     items: &mut Items,
     text: &'a [u8],
 ) -> Result<((List<Body>, bool), &'a [u8]), NoMemory>

@@ -5,7 +5,7 @@ ghost use Rattle.listing_sections.specs.SectionsRead.{Drafted, FindsItem, FindsS
 
 use listing_items::adt_line;
 use listing_lines::{closure_line, impl_line};
-use listing_parts::ReadError;
+use listing_parts::{Heads, ReadError};
 use listing_traits::trait_line;
 use mir_base::NoMemory;
 use mir_ty::Items;
@@ -14,7 +14,7 @@ use std::alloc::Global;
 /// Adds a struct or enum whose line stands in front.
 fn add_adt<'a>(
     alloc: Global,
-    heads: &Items,
+    heads: &Heads,
     items: &mut Items,
     text: &'a [u8],
 ) -> Result<&'a [u8], ReadError>
@@ -33,7 +33,7 @@ fn add_adt<'a>(
 /// Adds the trait with number `n` whose line stands in front.
 fn add_trait<'a>(
     alloc: Global,
-    heads: &Items,
+    heads: &Heads,
     items: &mut Items,
     n: u32,
     text: &'a [u8],
@@ -54,7 +54,7 @@ fn add_trait<'a>(
 /// Adds an impl whose line stands in front.
 fn add_impl<'a>(
     alloc: Global,
-    heads: &Items,
+    heads: &Heads,
     items: &mut Items,
     text: &'a [u8],
 ) -> Result<&'a [u8], ReadError>
@@ -73,7 +73,7 @@ fn add_impl<'a>(
 /// Adds the closure with number `n` whose line stands in front.
 fn add_closure<'a>(
     alloc: Global,
-    heads: &Items,
+    heads: &Heads,
     items: &mut Items,
     n: u32,
     text: &'a [u8],
@@ -94,7 +94,7 @@ fn add_closure<'a>(
 /// As many structs and enums as there are.
 fn read_adts<'a>(
     alloc: Global,
-    heads: &Items,
+    heads: &Heads,
     items: &mut Items,
     text: &'a [u8],
 ) -> Result<&'a [u8], NoMemory>
@@ -115,7 +115,7 @@ fn read_adts<'a>(
 /// As many traits as there are.
 fn read_traits<'a>(
     alloc: Global,
-    heads: &Items,
+    heads: &Heads,
     items: &mut Items,
     text: &'a [u8],
 ) -> Result<&'a [u8], NoMemory>
@@ -140,7 +140,7 @@ fn read_traits<'a>(
 /// As many impls as there are.
 fn read_impls<'a>(
     alloc: Global,
-    heads: &Items,
+    heads: &Heads,
     items: &mut Items,
     text: &'a [u8],
 ) -> Result<&'a [u8], NoMemory>
@@ -161,7 +161,7 @@ fn read_impls<'a>(
 /// As many closures as there are.
 fn read_closures<'a>(
     alloc: Global,
-    heads: &Items,
+    heads: &Heads,
     items: &mut Items,
     text: &'a [u8],
 ) -> Result<&'a [u8], NoMemory>
@@ -187,7 +187,7 @@ fn read_closures<'a>(
 /// lines come. Behind them stands what is left of the text. Before the call there are no traits and no closures.
 pub fn read_items<'a>(
     alloc: Global,
-    heads: &Items,
+    heads: &Heads,
     items: &mut Items,
     text: &'a [u8],
 ) -> Result<&'a [u8], NoMemory>

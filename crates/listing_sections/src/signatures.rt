@@ -5,6 +5,7 @@ ghost use Rattle.listing_types.specs.Table.{AreRead, Grow};
 ghost use Rattle.listing_sections.specs.BodiesRead.{FindsSig, IsResultOf};
 
 use cfg_graph::Body;
+use listing_parts::Heads;
 use listing_types::give_number;
 use mir_base::{List, Name, NoMemory};
 use mir_ty::{Items, Sig, Ty, TyId};
@@ -23,7 +24,7 @@ fn param_types(alloc: Global, locals: &[TyId], count: u32) -> Result<List<TyId>,
 }
 
 /// The type of the result: that of the first local, and `()` where there is none.
-fn result_type(heads: &Items, items: &mut Items, locals: &[TyId]) -> Result<TyId, NoMemory>
+fn result_type(heads: &Heads, items: &mut Items, locals: &[TyId]) -> Result<TyId, NoMemory>
     requires read { AreRead heads.now items.old.types }
     requires within { AreTypes items.old.types locals.now }
     ensures result_of { IfOk result (λ id. IsResultOf items.new locals.now id) }
@@ -39,7 +40,7 @@ fn result_type(heads: &Items, items: &mut Items, locals: &[TyId]) -> Result<TyId
 /// The signature of a body of this name.
 pub fn signature(
     alloc: Global,
-    heads: &Items,
+    heads: &Heads,
     items: &mut Items,
     name: &str,
     body: &Body,

@@ -1,4 +1,5 @@
--- What the law of traits says: each line of a trait that may stand is found by its reader, and nothing but a line in front.
+-- What the law of traits says: each line of a trait that may stand is found by its reader, and nothing but a line in
+-- front.
 use Rattle.std.specs.Prelude.{◌≡◌, ℕ, ◌<◌, Bool, true, List, [], ◌∷◌, ◌++◌, ⊤, map, length, codes, Some}
 use Rattle.std.specs.Str.{is_utf8}
 use Rattle.mir_ty.specs.ItemTable.{ItemTable}

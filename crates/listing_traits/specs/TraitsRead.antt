@@ -42,8 +42,8 @@ pub record FindsMethod (heads old new : ItemTable) (n : ℕ) (result : Result (S
   pub grow : Grow heads old new
 
 -- methods that were found stand behind those before them
-pub record FindsMore (heads old new : ItemTable) (n : ℕ) (before after : List Sig) (result : Result (Bor (List ℕ)) NoMemory)
-    (found : List SigSeen × List ℕ) : Type 0 where
+pub record FindsMore (heads old new : ItemTable) (n : ℕ) (before after : List Sig)
+    (result : Result (Bor (List ℕ)) NoMemory) (found : List SigSeen × List ℕ) : Type 0 where
   pub there : IfOk result (λ rest.
       (map (sig_seen (under heads new)) after ≡ map (sig_seen (under heads old)) before ++ found.0)
       × (rest.now ≡ found.1))

@@ -10,7 +10,7 @@ ghost use Rattle.listing_traits.specs.TraitsRead.{BeginWithSelf, FindsMethod, Fi
 
 use crate::params::read_params;
 use listing_items::blank_name;
-use listing_parts::{ReadError, strip};
+use listing_parts::{Heads, ReadError, strip};
 use listing_types::read_type;
 use mir_base::{List, Name, NoMemory};
 use mir_ty::{Items, Sig, TyId};
@@ -30,7 +30,7 @@ fn make_method(alloc: Global, name: &str, params: List<TyId>, answer: TyId) -> R
 /// What stands behind the parameters of a method.
 fn with_result<'a>(
     alloc: Global,
-    heads: &Items,
+    heads: &Heads,
     items: &mut Items,
     n: u32,
     name: &str,
@@ -56,7 +56,7 @@ fn with_result<'a>(
 
 fn method_behind<'a>(
     alloc: Global,
-    heads: &Items,
+    heads: &Heads,
     items: &mut Items,
     n: u32,
     own: &str,
@@ -77,7 +77,7 @@ fn method_behind<'a>(
 /// A method of the trait with number `n`.
 fn method<'a>(
     alloc: Global,
-    heads: &Items,
+    heads: &Heads,
     items: &mut Items,
     n: u32,
     own: &str,
@@ -96,7 +96,7 @@ fn method<'a>(
 
 fn method_behind_comma<'a>(
     alloc: Global,
-    heads: &Items,
+    heads: &Heads,
     items: &mut Items,
     n: u32,
     own: &str,
@@ -116,7 +116,7 @@ fn method_behind_comma<'a>(
 /// As many methods as there are behind commas. Each has a byte, so there are no more than bytes.
 fn more_methods<'a>(
     alloc: Global,
-    heads: &Items,
+    heads: &Heads,
     items: &mut Items,
     n: u32,
     own: &str,
@@ -155,7 +155,7 @@ fn only(alloc: Global, method: Sig) -> Result<List<Sig>, NoMemory>
 /// What stands behind the first method.
 fn with_more<'a>(
     alloc: Global,
-    heads: &Items,
+    heads: &Heads,
     items: &mut Items,
     n: u32,
     own: &str,
@@ -180,7 +180,7 @@ fn with_more<'a>(
 /// One method, and as many as stand behind commas.
 fn some_methods<'a>(
     alloc: Global,
-    heads: &Items,
+    heads: &Heads,
     items: &mut Items,
     n: u32,
     own: &str,
@@ -199,7 +199,7 @@ fn some_methods<'a>(
 
 fn methods_behind<'a>(
     alloc: Global,
-    heads: &Items,
+    heads: &Heads,
     items: &mut Items,
     n: u32,
     own: &str,
@@ -222,7 +222,7 @@ fn methods_behind<'a>(
 /// Variants in braces, maybe none.
 pub fn read_methods<'a>(
     alloc: Global,
-    heads: &Items,
+    heads: &Heads,
     items: &mut Items,
     n: u32,
     own: &str,

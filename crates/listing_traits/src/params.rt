@@ -8,7 +8,7 @@ ghost use Rattle.listing_traits.specs.TraitReading as reading;
 ghost use Rattle.listing_traits.specs.TraitsRead.{FindsParams};
 
 use crate::receiver::{receiver, self_type};
-use listing_parts::{ReadError, strip};
+use listing_parts::{Heads, ReadError, strip};
 use listing_types::more_types;
 use mir_base::{List, NoMemory};
 use mir_ty::{Items, TyId};
@@ -26,7 +26,7 @@ fn with_first(first: TyId, others: List<TyId>) -> Result<List<TyId>, NoMemory>
 /// What stands behind the first parameter.
 fn params_behind<'a>(
     alloc: Global,
-    heads: &Items,
+    heads: &Heads,
     items: &mut Items,
     n: u32,
     first: TyId,
@@ -53,7 +53,7 @@ fn params_behind<'a>(
 /// The parameters behind the parenthesis that opens and the type of `self`.
 fn params_from<'a>(
     alloc: Global,
-    heads: &Items,
+    heads: &Heads,
     items: &mut Items,
     n: u32,
     unique: bool,
@@ -72,7 +72,7 @@ fn params_from<'a>(
 /// The types of the parameters of a method of the trait with number `n`, and what stands behind them.
 pub fn read_params<'a>(
     alloc: Global,
-    heads: &Items,
+    heads: &Heads,
     items: &mut Items,
     n: u32,
     own: &str,

@@ -6,7 +6,7 @@ ghost use Rattle.listing_types.specs.Table.{AreRead};
 ghost use Rattle.listing_traits.specs.TraitReading as reading;
 ghost use Rattle.listing_traits.specs.TraitsRead.{GivesSelf};
 
-use listing_parts::{name, strip};
+use listing_parts::{Heads, name, strip};
 use listing_types::give_number;
 use mir_base::NoMemory;
 use mir_ty::{Items, Ty, TyId};
@@ -51,7 +51,7 @@ fn reference(unique: bool, to: TyId) -> Ty
 }
 
 /// The type of `self` in the trait with number `n`.
-pub fn self_type(heads: &Items, items: &mut Items, n: u32, unique: bool) -> Result<TyId, NoMemory>
+pub fn self_type(heads: &Heads, items: &mut Items, n: u32, unique: bool) -> Result<TyId, NoMemory>
     requires read { AreRead heads.now items.old.types }
     requires head { n < length heads.now.traits }
     ensures { GivesSelf heads.now items.old items.new n unique result }

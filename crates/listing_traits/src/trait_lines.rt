@@ -8,13 +8,13 @@ ghost use Rattle.listing_traits.specs.TraitsRead.{FindsTrait};
 
 use crate::methods::read_methods;
 use listing_items::blank_name;
-use listing_parts::{ReadError, strip};
+use listing_parts::{Heads, ReadError, strip};
 use mir_base::{List, Name, NoMemory};
 use mir_ty::{Items, Sig, TraitDef};
 use std::alloc::Global;
 
 /// The name of the trait with number `n` among the heads, and what stands behind it.
-fn own_head<'a>(heads: &Items, n: u32, text: &'a [u8]) -> Option<(&'a str, &'a [u8])>
+fn own_head<'a>(heads: &Heads, n: u32, text: &'a [u8]) -> Option<(&'a str, &'a [u8])>
     ensures value { seen_name result ≡ reading.own_head heads.now n text.now }
     ensures named { IfSome result (λ f. (n < length heads.now.traits) × (f.0.now ≡ trait_name heads.now n)) }
 {
@@ -36,7 +36,7 @@ fn make_trait(alloc: Global, name: &str, methods: List<Sig>) -> Result<TraitDef,
 
 fn trait_behind<'a>(
     alloc: Global,
-    heads: &Items,
+    heads: &Heads,
     items: &mut Items,
     n: u32,
     own: &str,
@@ -65,7 +65,7 @@ fn trait_behind<'a>(
 /// table of the types may have grown then too.
 pub fn trait_line<'a>(
     alloc: Global,
-    heads: &Items,
+    heads: &Heads,
     items: &mut Items,
     n: u32,
     text: &'a [u8],

@@ -72,7 +72,8 @@ marked_begin t =
 module _ (heads : ItemTable) where
   -- behind `dyn`
   abbrev pub object_from : List ℕ × List ℕ → Found Begin
-  object_from n = bind (slice_get heads.traits (trait_no heads n.0)) (λ def. Some (Begin.Whole (Ty.Dyn (trait_no heads n.0)), n.1))
+  object_from n =
+      bind (slice_get heads.traits (trait_no heads n.0)) (λ def. Some (Begin.Whole (Ty.Dyn (trait_no heads n.0)), n.1))
 
   abbrev pub object_begin : List ℕ → Found Begin
   object_begin t = bind (strip (codes " ") t) (λ t. object_from (span stands_in_names t))

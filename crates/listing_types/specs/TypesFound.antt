@@ -57,7 +57,9 @@ TypesAreRead =
     type_read heads (tree_text type ++ behind) ≡ Some (tree_text type, behind)
 
 abbrev pub TypesAreSound : Type 0
-TypesAreSound = (heads : ItemTable) (text word behind : List ℕ) → type_read heads text ≡ Some (word, behind) → text ≡ word ++ behind
+TypesAreSound =
+    (heads : ItemTable) (text word behind : List ℕ) → type_read heads text ≡ Some (word, behind) →
+    text ≡ word ++ behind
 
 -- rows of types in parentheses
 abbrev pub RowsAreRead : Type 0
@@ -67,7 +69,8 @@ RowsAreRead =
 
 abbrev pub RowsAreSound : Type 0
 RowsAreSound =
-    (heads : ItemTable) (text : List ℕ) (words : List (List ℕ)) (behind : List ℕ) → types_read heads text ≡ Some (words, behind) →
+    (heads : ItemTable) (text : List ℕ) (words : List (List ℕ)) (behind : List ℕ) →
+    types_read heads text ≡ Some (words, behind) →
     text ≡ in_parentheses words ++ behind
 
 -- no digit goes on with this text
@@ -77,7 +80,10 @@ no_digit_at (b ∷ bs) = not (is_digit b)
 
 abbrev pub PlainNumbersAreRead : Type 0
 PlainNumbersAreRead =
-    (n : ℕ) (behind : List ℕ) → Fits n → no_digit_at behind ≡ true → plain_number (decimal n ++ behind) ≡ Some (n, behind)
+    (n : ℕ) (behind : List ℕ) → Fits n → no_digit_at behind ≡ true →
+    plain_number (decimal n ++ behind) ≡ Some (n, behind)
 
 abbrev pub PlainNumbersAreSound : Type 0
-PlainNumbersAreSound = (text : List ℕ) (n : ℕ) (behind : List ℕ) → plain_number text ≡ Some (n, behind) → (text ≡ decimal n ++ behind) × Fits n
+PlainNumbersAreSound =
+    (text : List ℕ) (n : ℕ) (behind : List ℕ) → plain_number text ≡ Some (n, behind) →
+    (text ≡ decimal n ++ behind) × Fits n

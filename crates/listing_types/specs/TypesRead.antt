@@ -12,7 +12,8 @@ use Rattle.listing_parts.specs.declared.error.ReadError.{ReadError}
 use Rattle.listing_types.specs.Table.{Grow, text_under, under}
 
 -- the type that was found stands in the new items, where it is written so
-pub record FindsType (heads old new : ItemTable) (result : Result (TyId × Bor (List ℕ)) ReadError) (found : Found (List ℕ)) : Type 0 where
+pub record FindsType (heads old new : ItemTable) (result : Result (TyId × Bor (List ℕ)) ReadError)
+    (found : Found (List ℕ)) : Type 0 where
   pub there : IfOk result (λ f. found ≡ Some (text_under heads new f.0, f.1.now))
   pub within : IfOk result (λ f. f.0.0 < length new.types)
   pub missing : result ≡ Err ReadError.Unreadable → found ≡ None
@@ -26,14 +27,16 @@ pub record GivesType (heads old new : ItemTable) (result : Result TyId NoMemory)
   pub grow : Grow heads old new
 
 -- the types that were found in a row stand behind those before it
-pub record FindsRow (heads old new : ItemTable) (before after : List TyId) (result : Result (Bor (List ℕ)) NoMemory) (found : List (List ℕ) × List ℕ) : Type 0 where
+pub record FindsRow (heads old new : ItemTable) (before after : List TyId) (result : Result (Bor (List ℕ)) NoMemory)
+    (found : List (List ℕ) × List ℕ) : Type 0 where
   pub there : IfOk result (λ rest.
       (map (text_under heads new) after ≡ map (text_under heads old) before ++ found.0) × (rest.now ≡ found.1))
   pub within : AreTypes new.types after
   pub grow : Grow heads old new
 
 -- the types that were found in parentheses stand in the new items, where they are written so
-pub record FindsTypes (heads old new : ItemTable) (result : Result (List TyId × Bor (List ℕ)) ReadError) (found : Found (List (List ℕ))) : Type 0 where
+pub record FindsTypes (heads old new : ItemTable) (result : Result (List TyId × Bor (List ℕ)) ReadError)
+    (found : Found (List (List ℕ))) : Type 0 where
   pub there : IfOk result (λ f. found ≡ Some (map (text_under heads new) f.0, f.1.now))
   pub within : IfOk result (λ f. AreTypes new.types f.0)
   pub missing : result ≡ Err ReadError.Unreadable → found ≡ None

@@ -6,8 +6,8 @@ ghost use Rattle.listing_types.specs.TypeReading as reading;
 
 use crate::numbers::plain_number;
 use crate::words::{is_word, type_of_word};
-use listing_parts::{name, strip, trait_number};
-use mir_ty::{Items, Ty, TyId};
+use listing_parts::{Heads, name, strip};
+use mir_ty::{Ty, TyId};
 
 /// What stands around another type.
 #[derive(Clone, Copy, Drop)]
@@ -57,11 +57,11 @@ fn marked(text: &[u8]) -> Option<(Begin, &[u8])>
 }
 
 /// A `dyn` type behind its word.
-fn object<'a>(heads: &Items, text: &'a [u8]) -> Option<(Begin, &'a [u8])>
+fn object<'a>(heads: &Heads, text: &'a [u8]) -> Option<(Begin, &'a [u8])>
     ensures { seen result ≡ reading.object_begin heads.now text.now }
 {
     let (name, rest) = name(strip(text, " ")?);
-    let n = trait_number(heads, name);
+    let n = heads.trait_number(name);
     match heads.trait_def(n) {
         Some(_) => Some((Begin::Whole(Ty::Dyn(n)), rest)),
         None => None,
@@ -69,7 +69,7 @@ fn object<'a>(heads: &Items, text: &'a [u8]) -> Option<(Begin, &'a [u8])>
 }
 
 /// A type that begins with a word.
-fn worded<'a>(heads: &Items, word: &[u8], rest: &'a [u8]) -> Option<(Begin, &'a [u8])>
+fn worded<'a>(heads: &Heads, word: &[u8], rest: &'a [u8]) -> Option<(Begin, &'a [u8])>
     ensures { seen result ≡ reading.worded_begin heads.now word.now rest.now }
 {
     if is_word(word, "Box") {
@@ -82,7 +82,7 @@ fn worded<'a>(heads: &Items, word: &[u8], rest: &'a [u8]) -> Option<(Begin, &'a 
 }
 
 /// The beginning of a type, and what stands behind it.
-pub fn type_begin<'a>(heads: &Items, text: &'a [u8]) -> Option<(Begin, &'a [u8])>
+pub fn type_begin<'a>(heads: &Heads, text: &'a [u8]) -> Option<(Begin, &'a [u8])>
     ensures { seen result ≡ reading.begin_read heads.now text.now }
 {
     let (word, rest) = name(text);

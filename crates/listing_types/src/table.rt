@@ -4,11 +4,12 @@ ghost use Rattle.mir_ty.specs.AreItems.{HasParts};
 ghost use Rattle.listing_types.specs.Table.{AreRead, MayStand};
 ghost use Rattle.listing_types.specs.TypesRead.{GivesType};
 
+use listing_parts::Heads;
 use mir_base::NoMemory;
 use mir_ty::{Items, Ty, TyId};
 
 /// The number of a type in the table, which the table gets where it is not there yet.
-pub fn give_number(heads: &Items, items: &mut Items, ty: Ty) -> Result<TyId, NoMemory>
+pub fn give_number(heads: &Heads, items: &mut Items, ty: Ty) -> Result<TyId, NoMemory>
     requires read { AreRead heads.now items.old.types }
     requires stands { MayStand heads.now (length items.old.types) ty }
     requires parts { HasParts ty }

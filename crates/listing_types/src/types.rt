@@ -10,14 +10,14 @@ ghost use Rattle.listing_types.specs.TypesRead.{FindsRow, FindsType, FindsTypes}
 
 use crate::begin::{Around, Begin, around_end, around_type, row_end, type_begin};
 use crate::table::give_number;
-use listing_parts::{ReadError, strip};
+use listing_parts::{Heads, ReadError, strip};
 use mir_base::{List, NoMemory};
 use mir_ty::{Items, Ty, TyId};
 use std::alloc::Global;
 
 /// A type of the table, and what stands behind it.
 fn numbered<'a>(
-    heads: &Items,
+    heads: &Heads,
     items: &mut Items,
     ty: Ty,
     rest: &'a [u8],
@@ -47,7 +47,7 @@ fn tuple_type(parts: List<TyId>) -> Ty
 #[cycle(types)]
 fn read_within<'a>(
     alloc: Global,
-    heads: &Items,
+    heads: &Heads,
     items: &mut Items,
     text: &'a [u8],
     depth: usize,
@@ -68,7 +68,7 @@ fn read_within<'a>(
 #[cycle(types)]
 fn read_rest<'a>(
     alloc: Global,
-    heads: &Items,
+    heads: &Heads,
     items: &mut Items,
     begin: Begin,
     text: &'a [u8],
@@ -88,7 +88,7 @@ fn read_rest<'a>(
 #[cycle(types)]
 fn read_around<'a>(
     alloc: Global,
-    heads: &Items,
+    heads: &Heads,
     items: &mut Items,
     around: Around,
     text: &'a [u8],
@@ -109,7 +109,7 @@ fn read_around<'a>(
 #[cycle(types)]
 fn read_tuple<'a>(
     alloc: Global,
-    heads: &Items,
+    heads: &Heads,
     items: &mut Items,
     text: &'a [u8],
     depth: usize,
@@ -131,7 +131,7 @@ fn read_tuple<'a>(
 #[cycle(types)]
 fn read_row<'a>(
     alloc: Global,
-    heads: &Items,
+    heads: &Heads,
     items: &mut Items,
     parts: &mut List<TyId>,
     text: &'a [u8],
@@ -154,7 +154,7 @@ fn read_row<'a>(
 #[cycle(types)]
 fn read_behind_comma<'a>(
     alloc: Global,
-    heads: &Items,
+    heads: &Heads,
     items: &mut Items,
     text: &'a [u8],
     depth: usize,
@@ -172,7 +172,7 @@ fn read_behind_comma<'a>(
 #[cycle(types)]
 fn read_more<'a>(
     alloc: Global,
-    heads: &Items,
+    heads: &Heads,
     items: &mut Items,
     parts: &mut List<TyId>,
     text: &'a [u8],
@@ -202,7 +202,7 @@ fn read_more<'a>(
 /// one another.
 pub fn read_type<'a>(
     alloc: Global,
-    heads: &Items,
+    heads: &Heads,
     items: &mut Items,
     text: &'a [u8],
 ) -> Result<(TyId, &'a [u8]), ReadError>
@@ -216,7 +216,7 @@ pub fn read_type<'a>(
 /// each as [`read_type`] does.
 pub fn more_types<'a>(
     alloc: Global,
-    heads: &Items,
+    heads: &Heads,
     items: &mut Items,
     parts: &mut List<TyId>,
     text: &'a [u8],
@@ -231,7 +231,7 @@ pub fn more_types<'a>(
 /// Types with commas between them, behind the parenthesis that opens.
 fn read_types_behind<'a>(
     alloc: Global,
-    heads: &Items,
+    heads: &Heads,
     items: &mut Items,
     text: &'a [u8],
 ) -> Result<(List<TyId>, &'a [u8]), ReadError>
@@ -252,7 +252,7 @@ fn read_types_behind<'a>(
 /// [`read_type`] does.
 pub fn read_types<'a>(
     alloc: Global,
-    heads: &Items,
+    heads: &Heads,
     items: &mut Items,
     text: &'a [u8],
 ) -> Result<(List<TyId>, &'a [u8]), ReadError>

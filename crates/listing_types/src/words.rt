@@ -4,9 +4,9 @@ ghost use Rattle.cfg_graph.specs.WellFormed.NameFaults.{same_name};
 ghost use Rattle.listing_types.specs.TypeReading as reading;
 
 use crate::numbers::whole_number;
-use listing_parts::{adt_number, strip};
+use listing_parts::{Heads, strip};
 use mir_base::IntKind;
-use mir_ty::{Items, Ty};
+use mir_ty::Ty;
 
 /// Whether a name is this word.
 pub fn is_word(name: &[u8], word: &str) -> bool
@@ -35,17 +35,17 @@ fn word_type(name: &[u8]) -> Option<Ty>
     }
 }
 
-fn adt_type(heads: &Items, name: &[u8]) -> Option<Ty>
+fn adt_type(heads: &Heads, name: &[u8]) -> Option<Ty>
     ensures { result ≡ reading.adt_type heads.now name.now }
 {
-    let n = adt_number(heads, name);
+    let n = heads.adt_number(name);
     match heads.adt(n) {
         Some(_) => Some(Ty::Adt(n)),
         None => None,
     }
 }
 
-fn named_type(heads: &Items, name: &[u8]) -> Option<Ty>
+fn named_type(heads: &Heads, name: &[u8]) -> Option<Ty>
     ensures { result ≡ reading.named_type heads.now name.now }
 {
     match strip(name, "closure#") {
@@ -55,7 +55,7 @@ fn named_type(heads: &Items, name: &[u8]) -> Option<Ty>
 }
 
 /// The type that a word is, where it is one.
-pub fn type_of_word(heads: &Items, name: &[u8]) -> Option<Ty>
+pub fn type_of_word(heads: &Heads, name: &[u8]) -> Option<Ty>
     ensures { result ≡ reading.type_of_word heads.now name.now }
 {
     match word_type(name) {

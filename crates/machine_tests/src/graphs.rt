@@ -5,9 +5,9 @@
 use crate::items::items;
 use crate::words::{cut, number};
 use cfg_graph::{Block, Body, Graph, Kind, Stmt};
-use listing_parts::{ReadError, read_stmt, read_term};
+use listing_parts::{Heads, ReadError, read_stmt, read_term};
 use mir_base::{List, NoMemory};
-use mir_ty::{Items, TyId};
+use mir_ty::TyId;
 use std::alloc::Global;
 
 /// The bodies of `D::drop`, of `N::drop`, which panics where its number is negative, and of `D::show` and `N::show`.
@@ -30,22 +30,22 @@ pub const NO_S: &str = "1 1 23 | plain 0 { _0 = const () } return";
 
 fn add_stmt(
     alloc: Global,
-    items: &Items,
+    heads: &Heads,
     stmts: &mut List<Stmt>,
     line: &str,
 ) -> Result<(), ReadError> {
     if line.is_empty() {
         return Ok(());
     }
-    let (stmt, _) = read_stmt(alloc, items, line.as_bytes())?;
+    let (stmt, _) = read_stmt(alloc, heads, line.as_bytes())?;
     stmts.push(stmt)?;
     Ok(())
 }
 
-fn stmts(alloc: Global, items: &Items, text: &str) -> Result<List<Stmt>, ReadError> {
+fn stmts(alloc: Global, heads: &Heads, text: &str) -> Result<List<Stmt>, ReadError> {
     let mut stmts = List::new(alloc);
     for line in text.split(';') {
-        add_stmt(alloc, items, &mut stmts, line.trim())?;
+        add_stmt(alloc, heads, &mut stmts, line.trim())?;
     }
     Ok(stmts)
 }
@@ -58,12 +58,12 @@ fn kind(word: &str) -> Kind {
     }
 }
 
-fn block(alloc: Global, items: &Items, text: &str) -> Result<Block, ReadError> {
+fn block(alloc: Global, heads: &Heads, text: &str) -> Result<Block, ReadError> {
     let (head, rest) = cut(text, '{');
     let (lines, last) = cut(rest, '}');
     let (word, rank) = cut(head.trim(), ' ');
-    let stmts = stmts(alloc, items, lines)?;
-    let (term, _) = read_term(alloc, items, last.trim().as_bytes())?;
+    let stmts = stmts(alloc, heads, lines)?;
+    let (term, _) = read_term(alloc, heads, last.trim().as_bytes())?;
     Ok(Block {
         kind: kind(word),
         rank: number(rank),
@@ -72,10 +72,10 @@ fn block(alloc: Global, items: &Items, text: &str) -> Result<Block, ReadError> {
     })
 }
 
-fn blocks(alloc: Global, items: &Items, text: &str) -> Result<List<Block>, ReadError> {
+fn blocks(alloc: Global, heads: &Heads, text: &str) -> Result<List<Block>, ReadError> {
     let mut blocks = List::new(alloc);
     for part in text.split('|') {
-        blocks.push(block(alloc, items, part.trim())?)?;
+        blocks.push(block(alloc, heads, part.trim())?)?;
     }
     Ok(blocks)
 }
@@ -90,14 +90,14 @@ fn ids(alloc: Global, text: &str) -> Result<List<TyId>, NoMemory> {
 
 fn add_body(
     alloc: Global,
-    items: &Items,
+    heads: &Heads,
     bodies: &mut List<Body>,
     text: &str,
 ) -> Result<(), ReadError> {
     let (head, rest) = cut(text, '|');
     let (params, types) = cut(head.trim(), ' ');
     let locals = ids(alloc, types)?;
-    let blocks = blocks(alloc, items, rest)?;
+    let blocks = blocks(alloc, heads, rest)?;
     bodies.push(Body {
         params: number(params),
         locals,
@@ -108,25 +108,26 @@ fn add_body(
 
 fn bodies(
     alloc: Global,
-    items: &Items,
+    heads: &Heads,
     main: &str,
     f: &str,
     drop_s: &str,
 ) -> Result<List<Body>, ReadError> {
     let mut bodies = List::new(alloc);
-    add_body(alloc, items, &mut bodies, DROP_D)?;
-    add_body(alloc, items, &mut bodies, main)?;
-    add_body(alloc, items, &mut bodies, DROP_N)?;
-    add_body(alloc, items, &mut bodies, SHOW_D)?;
-    add_body(alloc, items, &mut bodies, SHOW_N)?;
-    add_body(alloc, items, &mut bodies, f)?;
-    add_body(alloc, items, &mut bodies, drop_s)?;
+    add_body(alloc, heads, &mut bodies, DROP_D)?;
+    add_body(alloc, heads, &mut bodies, main)?;
+    add_body(alloc, heads, &mut bodies, DROP_N)?;
+    add_body(alloc, heads, &mut bodies, SHOW_D)?;
+    add_body(alloc, heads, &mut bodies, SHOW_N)?;
+    add_body(alloc, heads, &mut bodies, f)?;
+    add_body(alloc, heads, &mut bodies, drop_s)?;
     Ok(bodies)
 }
 
 /// A graph with these bodies for `main`, `f` and `S::drop`.
 pub fn graph(alloc: Global, main: &str, f: &str, drop_s: &str) -> Result<Graph, ReadError> {
     let items = items(alloc)?;
-    let bodies = bodies(alloc, &items, main, f, drop_s)?;
+    let heads = Heads::of(alloc, items.copy(alloc)?)?;
+    let bodies = bodies(alloc, &heads, main, f, drop_s)?;
     Ok(Graph { items, bodies })
 }

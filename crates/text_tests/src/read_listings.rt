@@ -240,6 +240,10 @@ static TEXTS: &[(&str, Answer)] = &[
         Answer::Fault(7, 3),
     ),
     (
+        "mirdrop 1\nstruct A (A)\nenum A { }\nend\n",
+        Answer::Fault(3, 2),
+    ),
+    (
         "mirdrop 1\nstruct A ()\ntrait T { }\nimpl T for A\nimpl T for A\nend\n",
         Answer::Fault(7, 5),
     ),

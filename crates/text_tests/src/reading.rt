@@ -1,5 +1,6 @@
 //! Lines of statements and terminators, read, and lines that are none; types.
-use listing_parts::{ReadError, stmt_line, term_line};
+use listing_code::{statement, terminator};
+use listing_parts::{Heads, ReadError};
 use listing_types::read_type;
 use mir_base::NoMemory;
 use mir_ty::Items;
@@ -39,10 +40,10 @@ resume
 ";
 
 /// How many lines of statements a text begins with.
-fn stmts(alloc: Global, items: &Items, text: &[u8]) -> Result<usize, NoMemory> {
+fn stmts(alloc: Global, heads: &Heads, text: &[u8]) -> Result<usize, NoMemory> {
     let mut rest = text;
     for n in 0..text.len() {
-        match stmt_line(alloc, items, rest) {
+        match statement(alloc, heads, rest) {
             Ok((stmt, behind)) => {
                 drop(stmt);
                 rest = behind;
@@ -55,10 +56,10 @@ fn stmts(alloc: Global, items: &Items, text: &[u8]) -> Result<usize, NoMemory> {
 }
 
 /// How many lines of terminators a text begins with.
-fn terms(alloc: Global, items: &Items, text: &[u8]) -> Result<usize, NoMemory> {
+fn terms(alloc: Global, heads: &Heads, text: &[u8]) -> Result<usize, NoMemory> {
     let mut rest = text;
     for n in 0..text.len() {
-        match term_line(alloc, items, rest) {
+        match terminator(alloc, heads, rest) {
             Ok((term, behind)) => {
                 drop(term);
                 rest = behind;
@@ -72,21 +73,21 @@ fn terms(alloc: Global, items: &Items, text: &[u8]) -> Result<usize, NoMemory> {
 
 #[test]
 fn statements(rt: HostRuntime) -> Result<(), Fail> {
-    let items = Items::new(rt.alloc());
-    assert!(rt; stmts(rt.alloc(), &items, STATEMENTS.as_bytes())? == 14);
+    let heads = Heads::of(rt.alloc(), Items::new(rt.alloc()))?;
+    assert!(rt; stmts(rt.alloc(), &heads, STATEMENTS.as_bytes())? == 14);
     Ok(())
 }
 
 #[test]
 fn terminators(rt: HostRuntime) -> Result<(), Fail> {
-    let items = Items::new(rt.alloc());
-    assert!(rt; terms(rt.alloc(), &items, TERMINATORS.as_bytes())? == 12);
+    let heads = Heads::of(rt.alloc(), Items::new(rt.alloc()))?;
+    assert!(rt; terms(rt.alloc(), &heads, TERMINATORS.as_bytes())? == 12);
     Ok(())
 }
 
 #[test]
 fn a_type(rt: HostRuntime) -> Result<(), Fail> {
-    let heads = Items::new(rt.alloc());
+    let heads = Heads::of(rt.alloc(), Items::new(rt.alloc()))?;
     let mut items = Items::new(rt.alloc());
     let text = b"&mut (Box<[i32; 3]>, (), (!,), closure#7)".as_slice();
     match read_type(rt.alloc(), &heads, &mut items, text) {

@@ -1,8 +1,8 @@
 use Rattle.std.proofs.Common.{◌≤◌, ◌-◌, length}
-use Rattle.listing_reader.proofs.graphs.adt_count.Given as goal
+use Rattle.listing_parts.proofs.heads.trait_count.Given as goal
 
 abbrev pub invariant-loop-n : goal.invariant-loop-n
-invariant-loop-n l = l.n ≤ length l.items.adts
+invariant-loop-n l = l.n ≤ length l.items.traits
 
 abbrev pub decreases-loop-n : goal.decreases-loop-n
-decreases-loop-n l = length l.items.adts - l.n
+decreases-loop-n l = length l.items.traits - l.n
