@@ -7,4 +7,4 @@ mod methods;
 
 pub use heads::{is_drop_sig, is_same_head};
 pub use impls::{has_all, has_drop_head, has_trait_head};
-pub use methods::{body_head, trait_method, trait_named};
+pub use methods::{body_head, head_of, trait_method, trait_named};

@@ -68,7 +68,8 @@ fn method_word(alloc: Global, owner: &str, name: &str) -> Result<String, AllocEr
     Ok(word)
 }
 
-fn head_of<'a>(checker: &'a Checker, name: &str) -> Option<&'a Sig>
+/// The head that a body has, by its whole name; `None` where there is no such body.
+pub fn head_of<'a>(checker: &'a Checker, name: &str) -> Option<&'a Sig>
     ensures { option_copied result ≡ option_and_then (slice_get checker.now.walk.items.bodies) (scope.body_named checker.now.walk.items name.now) }
 {
     match body_named(checker, name) {
