@@ -1,3 +1,4 @@
+pub mod Closures
 pub mod Expressions
 pub mod Numbers
 pub mod Program

@@ -19,10 +19,12 @@ use Rattle.typing_rules.specs.Written as types
 use Rattle.src_ast.specs.Syntax.{Syn, syn, Shape, NamedType, GenericType, DynType, SelfType, ParensType, TupleType, ArrayType, NeverType, RefType, ParamOf, SelfParam, Receiver, ByValue, ByShared, ByUnique, Syns, no_syn, a_syn, MaybeSyn, nothing, just}
 use Rattle.src_ast.specs.View.{self_name}
 use Rattle.typing_rules.proofs.Sound.Gives.{numbered}
-use Rattle.typing_soundness.specs.Walks.{Walks, Walked}
+use Rattle.typing_soundness.specs.Closures.{Tape}
+use Rattle.typing_soundness.specs.Walks.{Walked}
+use Rattle.typing_soundness.specs.Walks as walking
 use Rattle.typing_soundness.proofs.Walking.Adding.{stays_refl, stays_both, walks_none, walks_both, walks_node}
-use Rattle.typing_soundness.proofs.Walking.Patterns.{pattern_walks}
-use Rattle.typing_soundness.proofs.Walking.Steps.{walk, walk_obeyed, walk_found, walk_ends, walk_interned, SameWalk, on_same}
+use Rattle.typing_soundness.proofs.Walking.Patterns.{Walks, pattern_walks}
+use Rattle.typing_soundness.proofs.Walking.Steps.{walk, walk_obeyed, walk_found, walk_ends, walk_interned, with_type_stays, SameWalk, on_same}
 
 -- ---- written types, which have no nodes
 
@@ -47,7 +49,7 @@ interned_still ty s {t} e = by (position_of (is_equal ty) s.items.types)
     by None = walk_ends (record {
       number = e.number;
       breaks = e.breaks;
-      stays = record { next_body = e.stays.next_body; bodies = e.stays.bodies; closures = e.stays.closures };
+      stays = stays_both e.stays (with_type_stays ty s);
     })
 
 module _ (around : types.Around) where
@@ -95,7 +97,8 @@ module _ (around : types.Around) where
     all_written_still (a_syn first rest) s =
         walk (written_still first s) λ ty t e. walk (all_written_still rest t) λ tys u f. walk_ends (onward e f)
 
-pub from_same : {s t u : State} {xs : List Node} → SameWalk s t → Walks t u xs → Walks s u xs
+pub from_same : {f : Tape} {s t u : State} {xs : List Node} → SameWalk s t → walking.Walks f t u xs → walking.Walks f s u
+    xs
 from_same {s} e w = walks_both (on_same e (walks_none s)) w
 
 -- ---- what parameters add to a walk

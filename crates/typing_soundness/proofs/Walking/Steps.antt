@@ -1,10 +1,12 @@
 -- Rules for what a check adds, one a step of a row.
-use Rattle.std.proofs.Common.{◌≡◌, ℕ, Bool, true, false, List, Option, Some, None, Result, Ok, Err, IsTrue, refl}
+use Rattle.std.proofs.Common.{◌≡◌, ℕ, Bool, true, false, List, [], ◌∷◌, Option, Some, None, Result, Ok, Err, IsTrue, refl}
 use Rattle.std.specs.List.{position as position_of}
 use Rattle.mir_base.specs.declared.place_in_text.Pos.{Pos}
 use Rattle.mir_base.specs.declared.rule.Rule.{Rule}
 use Rattle.mir_ty.specs.declared.ty.Ty.{Ty}
 use Rattle.mir_ty.specs.declared.ty.TyId.{TyId}
+use Rattle.mir_ty.specs.ItemTable.{with_type}
+use Rattle.mir_ty.proofs.ListLemmas.{slice_get-append_left}
 use Rattle.typed_tree.specs.Nodes.{nodes_of}
 use Rattle.typed_tree.specs.Tree as tree
 use Rattle.typed_tree.specs.Tree.{Node, node, Form, MaybeNode}
@@ -12,8 +14,9 @@ use Rattle.well_typed.specs.Items.{is_equal}
 use Rattle.typing_rules.specs.Check.{Check, State, Broken, and_then, obeys, known, breaks, interned, interned_at}
 use Rattle.typing_rules.specs.Places.{Fit, Fits, Coerced, Differs, fit, place_in_text, agrees}
 use Rattle.typing_rules.specs.Rows.{fitted, fitted_by, settled}
+use Rattle.typing_soundness.specs.Closures.{Tape}
 use Rattle.typing_soundness.specs.Walks.{Walks, Walked}
-use Rattle.typing_soundness.proofs.Walking.Adding.{Stays, walks_same, walks_outer}
+use Rattle.typing_soundness.proofs.Walking.Adding.{Stays, stays_refl, walks_same, walks_outer}
 use Rattle.well_typed.specs.Places.{ty_of}
 
 -- ---- one step after another
@@ -57,8 +60,17 @@ pub record SameWalk (s t : State) : Type 0 where
   pub breaks : t.breaks ≡ s.breaks
   pub stays : Stays s t
 
-pub on_same : {s t u : State} {xs : List Node} → SameWalk t u → Walks s t xs → Walks s u xs
+pub on_same : {f : Tape} {s t u : State} {xs : List Node} → SameWalk t u → Walks f s t xs → Walks f s u xs
 on_same {u = u} e p = walks_same u e.number e.breaks e.stays p
+
+-- a type that is new
+pub with_type_stays : (ty : Ty) (s : State) → Stays s (record s { items = with_type s.items ty })
+with_type_stays ty s = record {
+  types = λ n t h. slice_get-append_left s.items.types (ty ∷ []) n t h;
+  next_body = refl;
+  bodies = refl;
+  closures = refl;
+}
 
 -- a type gets a number
 pub walk_interned : {B : Type 0} {R : B → State → Type 0} (ty : Ty) (s : State) {f : TyId → Check B} → ((id : TyId) (t :
@@ -66,29 +78,29 @@ pub walk_interned : {B : Type 0} {R : B → State → Type 0} (ty : Ty) (s : Sta
 walk_interned {R = R} ty s {f} k = by (position_of (is_equal ty) s.items.types)
   where
     by : (o : Option ℕ) → Walked R (and_then (interned_at ty o s) f)
-    by (Some n) = k _ s record { number = refl; breaks = refl; stays = record { next_body = refl; bodies = refl; closures = refl } }
-    by None = k _ _ record { number = refl; breaks = refl; stays = record { next_body = refl; bodies = refl; closures = refl } }
+    by (Some n) = k _ s record { number = refl; breaks = refl; stays = stays_refl s }
+    by None = k _ _ record { number = refl; breaks = refl; stays = with_type_stays ty s }
 
 -- ---- the end of a row
 
-fitted_so : {C : Type 0} (want : TyId) (n : Node) {s t : State} (how : Fit) → (C → Walks s t (nodes_of n)) → Walked (λ m
-    u. C → Walks s u (nodes_of m)) (fitted_by want n how t)
+fitted_so : {C : Type 0} {f : Tape} (want : TyId) (n : Node) {s t : State} (how : Fit) → (C → Walks f s t (nodes_of n)) →
+    Walked (λ m u. C → Walks f s u (nodes_of m)) (fitted_by want n how t)
 fitted_so want n Fits p = walk_ends p
 fitted_so want n (Coerced trait_no) p = walk_ends (λ c. walks_outer (place_in_text n) want None (tree.Unsize trait_no n)
     (p c))
 fitted_so want n Differs p = record { so = tt }
 
 -- a leaf, which may be coerced, where something is so
-pub fitted_when : {C : Type 0} (want : Option TyId) (n : Node) {s t : State} → (C → Walks s t (nodes_of n)) → Walked (λ
-    m u. C → Walks s u (nodes_of m)) (fitted want n t)
+pub fitted_when : {C : Type 0} {f : Tape} (want : Option TyId) (n : Node) {s t : State} → (C → Walks f s t (nodes_of n)) →
+    Walked (λ m u. C → Walks f s u (nodes_of m)) (fitted want n t)
 fitted_when None n p = walk_ends p
 fitted_when (Some want) n {t = t} p = fitted_so want n (fit t.items want (ty_of n)) p
 
-pub walk_fitted : (want : Option TyId) (n : Node) {s t : State} → Walks s t (nodes_of n) → Walked (λ m u. Walks s u
+pub walk_fitted : {f : Tape} (want : Option TyId) (n : Node) {s t : State} → Walks f s t (nodes_of n) → Walked (λ m u. Walks f s u
     (nodes_of m)) (fitted want n t)
 walk_fitted want n p = walk_map (fitted_when {C = Unit {0}} want n (λ _. p)) λ m u h. h tt
 
-pub walk_settled : (want : Option TyId) (n : Node) {s t : State} → Walks s t (nodes_of n) → Walked (λ m u. Walks s u
+pub walk_settled : {f : Tape} (want : Option TyId) (n : Node) {s t : State} → Walks f s t (nodes_of n) → Walked (λ m u. Walks f s u
     (nodes_of m)) (settled want n t)
 walk_settled want n {t = t} p = walk_obeyed Rule.T03 (place_in_text n) (agrees t.items want (ty_of n)) _ λ is. walk_ends
     p

@@ -1,0 +1,145 @@
+-- The bodies that a text has, in the order of the text, and what is met of them as it is typed.
+use Rattle.std.specs.Prelude.{◌≡◌, ℕ, suc, List, [], ◌∷◌, ◌++◌, length, map, Some}
+use Rattle.mir_ty.specs.declared.ty.Ty.{Ty}
+use Rattle.mir_ty.specs.declared.ty.TyId.{TyId}
+use Rattle.mir_ty.specs.ItemTable.{ItemTable, type_at}
+use Rattle.typed_tree.specs.Tree.{BodyTree}
+use Rattle.typing_rules.specs.Check.{State}
+use Rattle.typing_rules.specs.Places.{unit}
+use Rattle.typing_rules.specs.Written.{Around}
+use Rattle.src_ast.specs.Syntax.{Receiver, ByValue, ByShared, ByUnique, Syn, syn, Shape, Minus, Bang, Star, Ampersand, Calculate, Compare, Both, Either, Store, CallOf, MethodOf, FieldOf, PartOf, ElementOf, StructOf, FieldInit, Parens, TupleOf, ArrayOf, Braces, IfElse, IfLetElse, MatchOn, ArmOf, LoopOf, WhileOf, WhileLetOf, BreakOf, ReturnOf, MoveOf, LetOf, Semi, ParamOf, SelfParam, Syns, no_syn, a_syn, MaybeSyn, nothing, just}
+use Rattle.typing_soundness.specs.Types.{HaveTypes, Means}
+
+-- ---- bodies in the order of the text
+
+-- what the types of a body are written by: its parameters and its answer, and what names stand around it
+pub record Head : Type 0 where
+  pub around : Around
+  pub params : Syns
+  pub answer : MaybeSyn
+
+-- a function or a method, or a closure
+pub data BodySyn : Type 0 where
+  Function : (head : Head) → BodySyn
+  Closure : (head : Head) → BodySyn
+
+-- bodies that are met before some others
+abbrev pub Tape : Type 0
+Tape = List BodySyn → List BodySyn
+
+-- the closures in an expression, one before those inside it
+module _ (around : Around) where
+  abbrev mutual
+    pub closures_of : Syn → Tape
+    closures_of (syn at form) = closures_in form
+
+    pub closures_in : Shape → Tape
+    closures_in (Minus operand) = closures_of operand
+    closures_in (Bang operand) = closures_of operand
+    closures_in (Star operand) = closures_of operand
+    closures_in (Ampersand unique operand) = closures_of operand
+    closures_in (Calculate operator left right) = λ rest. closures_of left (closures_of right rest)
+    closures_in (Compare operator left right) = λ rest. closures_of left (closures_of right rest)
+    closures_in (Both left right) = λ rest. closures_of left (closures_of right rest)
+    closures_in (Either left right) = λ rest. closures_of left (closures_of right rest)
+    closures_in (Store place value) = λ rest. closures_of place (closures_of value rest)
+    closures_in (CallOf callee args) = λ rest. closures_of callee (closures_among args rest)
+    closures_in (MethodOf receiver name args) = λ rest. closures_of receiver (closures_among args rest)
+    closures_in (FieldOf base name) = closures_of base
+    closures_in (PartOf base number) = closures_of base
+    closures_in (ElementOf base index) = λ rest. closures_of base (closures_of index rest)
+    closures_in (StructOf first second inits) = closures_among inits
+    closures_in (FieldInit name value) = closures_if_any value
+    closures_in (Parens inside) = closures_of inside
+    closures_in (TupleOf parts) = closures_among parts
+    closures_in (ArrayOf elements) = closures_among elements
+    closures_in (Braces statements tail) = λ rest. closures_among statements (closures_if_any tail rest)
+    closures_in (IfElse condition body otherwise) =
+        λ rest. closures_of condition (closures_of body (closures_if_any otherwise rest))
+    closures_in (IfLetElse pattern scrutinee body otherwise) =
+        λ rest. closures_of scrutinee (closures_of body (closures_if_any otherwise rest))
+    closures_in (MatchOn scrutinee arms) = λ rest. closures_of scrutinee (closures_among arms rest)
+    closures_in (ArmOf pattern guard body) = λ rest. closures_if_any guard (closures_of body rest)
+    closures_in (LoopOf label body) = closures_of body
+    closures_in (WhileOf label condition body) = λ rest. closures_of condition (closures_of body rest)
+    closures_in (WhileLetOf label pattern scrutinee body) = λ rest. closures_of scrutinee (closures_of body rest)
+    closures_in (BreakOf label value) = closures_if_any value
+    closures_in (ReturnOf value) = closures_if_any value
+    closures_in (MoveOf captures params answer body) = λ rest. Closure (record {
+      around = around;
+      params = params;
+      answer = answer;
+    }) ∷ closures_of body rest
+    closures_in (LetOf pattern ty value) = closures_if_any value
+    closures_in (Semi expression) = closures_of expression
+    closures_in _ = λ rest. rest
+
+    pub closures_among : Syns → Tape
+    closures_among no_syn = λ rest. rest
+    closures_among (a_syn first others) = λ rest. closures_of first (closures_among others rest)
+
+    pub closures_if_any : MaybeSyn → Tape
+    closures_if_any nothing = λ rest. rest
+    closures_if_any (just value) = closures_of value
+
+-- ---- the types of a body
+
+-- what a receiver is, of the type `Self`
+abbrev pub IsReceiver : ItemTable → Receiver → TyId → TyId → Type 0
+IsReceiver items ByValue own ty = own ≡ ty
+IsReceiver items ByShared own ty = type_at items ty ≡ Some (Ty.Shared own)
+IsReceiver items ByUnique own ty = type_at items ty ≡ Some (Ty.Unique own)
+
+module _ (around : Around) (items : ItemTable) where
+  abbrev pub MeansParam : Syn → TyId → Type 0
+  MeansParam (syn at (ParamOf p written)) ty = Means around items written ty
+  MeansParam (syn at (SelfParam receiver)) ty =
+      (n : ℕ) × (own : TyId) × (around.self_adt ≡ Some n) × (type_at items own ≡ Some (Ty.Adt n)) × IsReceiver items
+      receiver own ty
+  MeansParam _ ty = ⊥
+
+  abbrev pub MeanParams : Syns → List TyId → Type 0
+  MeanParams no_syn [] = Unit {0}
+  MeanParams no_syn (ty ∷ tys) = ⊥
+  MeanParams (a_syn first rest) [] = ⊥
+  MeanParams (a_syn first rest) (ty ∷ tys) = MeansParam first ty × MeanParams rest tys
+
+  abbrev pub MeansAnswer : MaybeSyn → TyId → Type 0
+  MeansAnswer nothing ty = unit ≡ ty
+  MeansAnswer (just written) ty = Means around items written ty
+
+-- the types of a body mean what is written
+abbrev pub HasTypes : ItemTable → Head → List TyId → TyId → Type 0
+HasTypes items head params answer =
+    MeanParams head.around items head.params params × MeansAnswer head.around items head.answer answer
+
+-- of a closure, behind the closure itself, which is its first parameter
+abbrev pub AreTypesOf : ItemTable → ℕ → BodySyn → List TyId → TyId → Type 0
+AreTypesOf items closure (Function head) params answer = HasTypes items head params answer
+AreTypesOf items closure (Closure head) [] answer = ⊥
+AreTypesOf items closure (Closure head) (self ∷ params) answer =
+    (type_at items self ≡ Some (Ty.Closure closure)) × HasTypes items head params answer
+
+abbrev pub types_of : BodyTree → List TyId
+types_of body = map (λ p. p.ty) body.params
+
+-- the number of the closure behind a body
+abbrev pub behind : BodySyn → ℕ → ℕ
+behind (Function head) closure = closure
+behind (Closure head) closure = suc closure
+
+-- Bodies that are made of the first of some that a text has, up to others; the closures among them have the numbers from
+-- one up to another.
+abbrev pub AreMade : ItemTable → ℕ → ℕ → List BodySyn → List BodySyn → List BodyTree → Type 0
+AreMade items from to texts rest [] = (texts ≡ rest) × (from ≡ to)
+AreMade items from to [] rest (body ∷ bodies) = ⊥
+AreMade items from to (text ∷ texts) rest (body ∷ bodies) =
+    AreTypesOf items from text (types_of body) body.answer × AreMade items (behind text from) to texts rest bodies
+
+-- from one state to a later one come the bodies of this text
+pub record Met (f : Tape) (s t : State) : Type 0 where
+  pub types : HaveTypes s.items t.items
+  pub new : List BodyTree
+  pub bodies : t.bodies ≡ s.bodies ++ new
+  pub made : (rest : List BodySyn) → AreMade t.items (length s.items.closures) (length t.items.closures) (f rest) rest
+      new
