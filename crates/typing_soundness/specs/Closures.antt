@@ -1,13 +1,21 @@
 -- The bodies that a text has, in the order of the text, and what is met of them as it is typed.
 use Rattle.std.specs.Prelude.{◌≡◌, ℕ, suc, List, [], ◌∷◌, ◌++◌, length, map, Some}
+use Rattle.std.specs.List.{position as position_of}
+use Rattle.std.specs.Str.{bytes_eq}
+use Rattle.mir_base.specs.declared.place_in_text.Pos.{Pos}
+use Rattle.mir_ty.specs.declared.adt.Adt.{Adt}
 use Rattle.mir_ty.specs.declared.ty.Ty.{Ty}
 use Rattle.mir_ty.specs.declared.ty.TyId.{TyId}
 use Rattle.mir_ty.specs.ItemTable.{ItemTable, type_at}
 use Rattle.typed_tree.specs.Tree.{BodyTree}
+use Rattle.src_tree.specs.Layout.{Parts}
+use Rattle.typing_rules.specs.Bodies.{all_rules}
 use Rattle.typing_rules.specs.Check.{State}
+use Rattle.typing_rules.specs.Items.{items_of, item_syns}
 use Rattle.typing_rules.specs.Places.{unit}
+use Rattle.typing_rules.specs.Program.{outermost}
 use Rattle.typing_rules.specs.Written.{Around}
-use Rattle.src_ast.specs.Syntax.{Receiver, ByValue, ByShared, ByUnique, Syn, syn, Shape, Minus, Bang, Star, Ampersand, Calculate, Compare, Both, Either, Store, CallOf, MethodOf, FieldOf, PartOf, ElementOf, StructOf, FieldInit, Parens, TupleOf, ArrayOf, Braces, IfElse, IfLetElse, MatchOn, ArmOf, LoopOf, WhileOf, WhileLetOf, BreakOf, ReturnOf, MoveOf, LetOf, Semi, ParamOf, SelfParam, Syns, no_syn, a_syn, MaybeSyn, nothing, just}
+use Rattle.src_ast.specs.Syntax.{Receiver, ByValue, ByShared, ByUnique, Syn, syn, Shape, Minus, Bang, Star, Ampersand, Calculate, Compare, Both, Either, Store, CallOf, MethodOf, FieldOf, PartOf, ElementOf, StructOf, FieldInit, Parens, TupleOf, ArrayOf, Braces, IfElse, IfLetElse, MatchOn, ArmOf, LoopOf, WhileOf, WhileLetOf, BreakOf, ReturnOf, MoveOf, LetOf, Semi, ImplItem, FnItem, ParamOf, SelfParam, Syns, no_syn, a_syn, list_of, MaybeSyn, nothing, just, Word}
 use Rattle.typing_soundness.specs.Types.{HaveTypes, Means}
 
 -- ---- bodies in the order of the text
@@ -82,6 +90,37 @@ module _ (around : Around) where
     closures_if_any nothing = λ rest. rest
     closures_if_any (just value) = closures_of value
 
+-- a function or a method, with its block
+module _ (around : Around) where
+  abbrev pub function_text : Syn → Tape
+  function_text (syn at (FnItem name params answer block)) =
+      λ rest. Function (record { around = around; params = params; answer = answer }) ∷ closures_if_any around block rest
+  function_text _ = λ rest. rest
+
+  abbrev pub functions_text : List Syn → Tape
+  functions_text [] = λ rest. rest
+  functions_text (f ∷ fs) = λ rest. function_text f (functions_text fs rest)
+
+  -- in an impl, `Self` is its struct or enum
+  abbrev pub around_impl : List Adt → Word → Around
+  around_impl adts name = record around { self_adt = position_of (λ adt. bytes_eq adt.name name) adts }
+
+abbrev pub item_text : Around → List Adt → Syn → Tape
+item_text around adts (syn at (ImplItem trait_ name methods)) =
+    functions_text (around_impl around adts name.1) (list_of methods)
+item_text around adts (syn at (FnItem name params answer block)) =
+    function_text around (syn at (FnItem name params answer block))
+item_text around adts _ = λ rest. rest
+
+abbrev pub items_text : Around → List Adt → List Syn → Tape
+items_text around adts [] = λ rest. rest
+items_text around adts (i ∷ is) = λ rest. item_text around adts i (items_text around adts is rest)
+
+-- the bodies of a text
+abbrev pub program_text : List Adt → Parts Pos → Tape
+program_text adts parts =
+    items_text (all_rules (outermost (item_syns (items_of parts)))) adts (item_syns (items_of parts))
+
 -- ---- the types of a body
 
 -- what a receiver is, of the type `Self`
@@ -136,9 +175,11 @@ AreMade items from to [] rest (body ∷ bodies) = ⊥
 AreMade items from to (text ∷ texts) rest (body ∷ bodies) =
     AreTypesOf items from text (types_of body) body.answer × AreMade items (behind text from) to texts rest bodies
 
--- from one state to a later one come the bodies of this text
+-- From one state to a later one come the bodies of this text; structs, enums and heads stay.
 pub record Met (f : Tape) (s t : State) : Type 0 where
   pub types : HaveTypes s.items t.items
+  pub adts : t.items.adts ≡ s.items.adts
+  pub heads : t.items.bodies ≡ s.items.bodies
   pub new : List BodyTree
   pub bodies : t.bodies ≡ s.bodies ++ new
   pub made : (rest : List BodySyn) → AreMade t.items (length s.items.closures) (length t.items.closures) (f rest) rest

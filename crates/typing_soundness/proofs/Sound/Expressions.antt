@@ -55,6 +55,8 @@ use Rattle.typing_rules.proofs.Sound.Structs.{struct_sound}
 use Rattle.typing_rules.proofs.Sound.Written.{written_sound}
 use Rattle.typing_soundness.specs.Shapes.{shaped, shaped_form, all_shaped, maybe_shaped, is_block, self_first}
 use Rattle.typing_soundness.proofs.Numbers.Rows.{found_in}
+use Rattle.typing_rules.specs.Bodies.{all_rules}
+use Rattle.typing_soundness.specs.Closures.{closures_of}
 use Rattle.typing_soundness.proofs.Sound.Loops.{loop_sound}
 use Rattle.typing_soundness.proofs.Sound.Names.{IsUnit, IsCallee, path_is, callee_is, target_there, found_there}
 use Rattle.typing_soundness.proofs.Walking.Expressions.{typed_walks}
@@ -398,7 +400,7 @@ module _ (closures : (env : Env) (at : Pos) (captures params : Syns) (answer : M
         want t k ready) λ ns w all g is. (is.0, subst (λ n. IsTrue (nat_lt 0 n)) (sym is.1) (some_arm arms one))) want s
         k
     value_sound env at (LoopOf label body) h e want s k =
-        loop_sound env at label (λ a. typing.typed (within_loop a env) body) (λ a. typed_sound (within_loop a env) body
+        loop_sound (closures_of (all_rules env) body) env at label (λ a. typing.typed (within_loop a env) body) (λ a. typed_sound (within_loop a env) body
         h) (λ a want. typed_walks (within_loop a env) body want) want s k
     value_sound env at (WhileOf label c body) h e want s k =
         while_sound env at label (λ a. typing.typed (within_loop a env) c) (λ a. typing.typed (within_loop a env) body)

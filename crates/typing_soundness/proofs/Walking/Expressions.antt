@@ -162,7 +162,7 @@ capture_stays env k (syn at (Ident name)) earlier s =
     taken_stays x =
         walk_obeyed Rule.T07 at (is_copy s.items x.ty || not (is_fixed s.items (in_own_guard env.variables) (place x) ||
         is_dyn s.items x.ty)) _ λ _. walk_obeyed Rule.T08 at (not (is_reference s.items x.ty)) _ λ _. walk_ends (record
-        { types = λ n ty h. h; next_body = refl; bodies = refl; closures = refl })
+        { types = λ n ty h. h; adts = refl; heads = refl; next_body = refl; bodies = refl; closures = refl })
 capture_stays env k (syn at _) earlier s = record { so = tt }
 
 captured_walks : (env : Env) (k : ℕ) (captures : Syns) (earlier : List Entry) (s : State) → Walked (λ c t. Walks no_closure s t
@@ -230,7 +230,7 @@ inner_walks {f} env at n ty captures params answer block good s =
         record { pattern = used (rows.taking s.items ty) (a_node_of s.next_node at ty (tree.Binding [])); ty = ty }
 
     first_stays : (s : State) → Stays s (numbered s)
-    first_stays s = record { types = λ k x h. h; next_body = refl; bodies = refl; closures = refl }
+    first_stays s = record { types = λ k x h. h; adts = refl; heads = refl; next_body = refl; bodies = refl; closures = refl }
 
 -- a body of its own in a walk, of which something is so
 pub record IsAdded (n : ℕ) (Q : BodyTree → State → Type 0) (s t : State) : Type 0 where
@@ -314,19 +314,21 @@ closure_ordered s t u v def body next bodies closures next_u bodies_u closures_u
     by k d (inr e) = inr (omega (arith, e, as_many, at_u))
 
 -- what is met is the closure, and then what is in its body
-closure_met : {f : Tape} (s t u v : State) (around : types.Around) (params : Syns) (answer : MaybeSyn) (ty : TyId) (def :
-    ClosureDef) → HaveTypes s.items t.items → t.bodies ≡ s.bodies → t.items.closures ≡ s.items.closures → HaveTypes
-    t.items u.items → u.bodies ≡ t.bodies → u.items.closures ≡ t.items.closures ++ def ∷ [] → type_at u.items ty ≡ Some
-    (Ty.Closure (length t.items.closures)) → IsAdded s.next_body (IsOf around params answer (ty ∷ []) f (record u {
+closure_met : {f : Tape} (n : ℕ) (s t u v : State) (around : types.Around) (params : Syns) (answer : MaybeSyn) (ty : TyId) (def :
+    ClosureDef) → Stays s t → HaveTypes t.items u.items → u.items.adts ≡ t.items.adts → u.items.bodies ≡ t.items.bodies →
+    u.bodies ≡ t.bodies → u.items.closures ≡ t.items.closures ++ def ∷ [] → type_at u.items ty ≡ Some
+    (Ty.Closure (length t.items.closures)) → IsAdded n (IsOf around params answer (ty ∷ []) f (record u {
   bodies = [];
   next_node = 0;
   breaks = [];
 })) u v → Met (λ rest. Closure (record { around = around; params = params; answer = answer }) ∷ f rest) s v
-closure_met {f} s t u v around params answer ty def types bodies closures types_u bodies_u closures_u is_ty added =
+closure_met {f} n s t u v around params answer ty def stays types_u adts_u heads_u bodies_u closures_u is_ty added =
     record {
-      types = λ n x h. later n x (inner.types n x (types_u n x (types n x h)));
+      types = λ n x h. later n x (inner.types n x (types_u n x (stays.types n x h)));
+      adts = ap (λ (i : ItemTable). i.adts) added.items ∙ (inner.adts ∙ (adts_u ∙ stays.adts));
+      heads = ap (λ (i : ItemTable). i.bodies) added.items ∙ (inner.heads ∙ (heads_u ∙ stays.heads));
       new = added.body ∷ inner.new;
-      bodies = added.whole ∙ λ i. (bodies_u ∙ bodies) i ++ added.body ∷ inner.bodies i;
+      bodies = added.whole ∙ λ i. (bodies_u ∙ stays.bodies) i ++ added.body ∷ inner.bodies i;
       made = λ rest. (first, others rest);
     }
   where
@@ -343,7 +345,7 @@ closure_met {f} s t u v around params answer ty def types bodies closures types_
     self : type_at v.items ty ≡ Some (Ty.Closure (length s.items.closures))
     self =
         later ty.0 (Ty.Closure (length s.items.closures)) (inner.types ty.0 (Ty.Closure (length s.items.closures)) (is_ty
-        ∙ ap (λ n. Some (Ty.Closure n)) (ap length closures)))
+        ∙ ap (λ n. Some (Ty.Closure n)) (ap length stays.closures)))
 
     first : AreTypesOf v.items (length s.items.closures) (Closure head) (types_of added.body) added.body.answer
     first =
@@ -352,7 +354,7 @@ closure_met {f} s t u v around params answer ty def types bodies closures types_
 
     as_many : length u.items.closures ≡ suc (length s.items.closures)
     as_many =
-        ap length (closures_u ∙ ap (λ cs. cs ++ def ∷ []) closures) ∙ (length-append s.items.closures (def ∷ []) ∙ omega
+        ap length (closures_u ∙ ap (λ cs. cs ++ def ∷ []) stays.closures) ∙ (length-append s.items.closures (def ∷ []) ∙ omega
         arith)
 
     others : (rest : List BodySyn) → AreMade v.items (suc (length s.items.closures)) (length v.items.closures) (f rest)
@@ -380,11 +382,11 @@ closure_walks {f} env at captures params answer block good want s =
     e.breaks) (closure_ordered (numbered s) t u v (record {
       captures = bodies.types_of caps.1;
       body = s.next_body;
-    }) refl w.1.next_body w.1.bodies w.1.closures e.stays.next_body e.stays.bodies e.stays.closures g) (closure_met
-    (numbered s) t u v (bodies.all_rules env) params answer ty (record {
+    }) refl w.1.next_body w.1.bodies w.1.closures e.stays.next_body e.stays.bodies e.stays.closures g) (on_bodies
+    (closure_met s.next_body s' t u v (bodies.all_rules env) params answer ty (record {
       captures = bodies.types_of caps.1;
       body = s.next_body;
-    }) w.1.types w.1.bodies w.1.closures e.stays.types e.stays.bodies e.stays.closures is g) w.0))
+    }) w.1 e.stays.types e.stays.adts e.stays.heads e.stays.bodies e.stays.closures is g)) w.0))
   where
     s' : State
     s' = record (numbered s) { next_body = suc s.next_body }
@@ -392,6 +394,16 @@ closure_walks {f} env at captures params answer block good want s =
     with_ : List Entry → State → State
     with_ captures t =
         record t { items = with_closure t.items (record { captures = bodies.types_of captures; body = s.next_body }) }
+
+    on_bodies : {g : Tape} {v : State} → Met g s' v → Met g (numbered s) v
+    on_bodies m = record {
+      types = m.types;
+      adts = m.adts;
+      heads = m.heads;
+      new = m.new;
+      bodies = m.bodies;
+      made = m.made;
+    }
 
 -- ---- the recursion
 

@@ -113,6 +113,8 @@ made_both items from between to (text ∷ texts) more rest (body ∷ bodies) oth
 pub met_both : {f g : Tape} {s t u : State} → Met f s t → Met g t u → Met (λ rest. f (g rest)) s u
 met_both {f} {g} {s} {t} {u} p q = record {
   types = λ n ty h. q.types n ty (p.types n ty h);
+  adts = q.adts ∙ p.adts;
+  heads = q.heads ∙ p.heads;
   new = p.new ++ q.new;
   bodies = q.bodies ∙ (ap (λ bs. bs ++ q.new) p.bodies ∙ append_assoc s.bodies p.new q.new);
   made = λ rest. made_both u.items (length s.items.closures) (length t.items.closures) (length u.items.closures) (f (g

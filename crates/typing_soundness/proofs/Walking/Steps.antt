@@ -67,6 +67,8 @@ on_same {u = u} e p = walks_same u e.number e.breaks e.stays p
 pub with_type_stays : (ty : Ty) (s : State) → Stays s (record s { items = with_type s.items ty })
 with_type_stays ty s = record {
   types = λ n t h. slice_get-append_left s.items.types (ty ∷ []) n t h;
+  adts = refl;
+  heads = refl;
   next_body = refl;
   bodies = refl;
   closures = refl;
