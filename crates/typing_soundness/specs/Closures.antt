@@ -1,11 +1,13 @@
 -- The bodies that a text has, in the order of the text, and what is met of them as it is typed.
-use Rattle.std.specs.Prelude.{◌≡◌, ℕ, suc, List, [], ◌∷◌, ◌++◌, length, map, Some}
+use Rattle.std.specs.Prelude.{◌≡◌, ℕ, suc, List, [], ◌∷◌, ◌++◌, length, map, Some, slice_get}
 use Rattle.std.specs.List.{position as position_of}
 use Rattle.std.specs.Str.{bytes_eq}
 use Rattle.mir_base.specs.declared.place_in_text.Pos.{Pos}
 use Rattle.mir_ty.specs.declared.adt.Adt.{Adt}
+use Rattle.mir_ty.specs.declared.def.ClosureDef.{ClosureDef}
 use Rattle.mir_ty.specs.declared.ty.Ty.{Ty}
 use Rattle.mir_ty.specs.declared.ty.TyId.{TyId}
+use Rattle.mir_ty.specs.AreItems.{AreDistinct}
 use Rattle.mir_ty.specs.ItemTable.{ItemTable, type_at}
 use Rattle.typed_tree.specs.Tree.{BodyTree}
 use Rattle.src_tree.specs.Layout.{Parts}
@@ -123,6 +125,11 @@ program_text adts parts =
 
 -- ---- the types of a body
 
+-- later items have the closures of earlier ones
+abbrev pub HaveClosures : ItemTable → ItemTable → Type 0
+HaveClosures old new = (n : ℕ) (def : ClosureDef) → slice_get old.closures n ≡ Some def → slice_get new.closures n ≡ Some
+    def
+
 -- what a receiver is, of the type `Self`
 abbrev pub IsReceiver : ItemTable → Receiver → TyId → TyId → Type 0
 IsReceiver items ByValue own ty = own ≡ ty
@@ -162,25 +169,39 @@ AreTypesOf items closure (Closure head) (self ∷ params) answer =
 abbrev pub types_of : BodyTree → List TyId
 types_of body = map (λ p. p.ty) body.params
 
+-- the closure of this number has the body of this number
+abbrev pub HasBody : ItemTable → ℕ → BodySyn → ℕ → Type 0
+HasBody items closure (Function head) number = Unit {0}
+HasBody items closure (Closure head) number =
+    (def : ClosureDef) × (slice_get items.closures closure ≡ Some def) × (def.body ≡ number)
+
+-- a body is made of a text; a closure has the next number of closures
+abbrev pub IsBodyOf : ItemTable → ℕ → BodySyn → BodyTree → Type 0
+IsBodyOf items closure text body =
+    AreTypesOf items closure text (types_of body) body.answer × HasBody items closure text body.number
+
 -- the number of the closure behind a body
 abbrev pub behind : BodySyn → ℕ → ℕ
 behind (Function head) closure = closure
 behind (Closure head) closure = suc closure
 
--- Bodies that are made of the first of some that a text has, up to others; the closures among them have the numbers from
--- one up to another.
-abbrev pub AreMade : ItemTable → ℕ → ℕ → List BodySyn → List BodySyn → List BodyTree → Type 0
-AreMade items from to texts rest [] = (texts ≡ rest) × (from ≡ to)
-AreMade items from to [] rest (body ∷ bodies) = ⊥
-AreMade items from to (text ∷ texts) rest (body ∷ bodies) =
-    AreTypesOf items from text (types_of body) body.answer × AreMade items (behind text from) to texts rest bodies
+-- What is made of the first of the bodies that a text has, up to others, one of each; the closures among them have the
+-- numbers from one up to another.
+abbrev pub AreMade : {B : Type 0} → (ℕ → BodySyn → B → Type 0) → ℕ → ℕ → List BodySyn → List BodySyn → List B → Type 0
+AreMade P from to texts rest [] = (texts ≡ rest) × (from ≡ to)
+AreMade P from to [] rest (body ∷ bodies) = ⊥
+AreMade P from to (text ∷ texts) rest (body ∷ bodies) =
+    P from text body × AreMade P (behind text from) to texts rest bodies
 
--- From one state to a later one come the bodies of this text; structs, enums and heads stay.
+-- From one state to a later one come the bodies of this text; structs, enums and heads stay, and types and closures that
+-- are there.
 pub record Met (f : Tape) (s t : State) : Type 0 where
   pub types : HaveTypes s.items t.items
+  pub distinct : AreDistinct s.items.types → AreDistinct t.items.types
   pub adts : t.items.adts ≡ s.items.adts
   pub heads : t.items.bodies ≡ s.items.bodies
+  pub closures : HaveClosures s.items t.items
   pub new : List BodyTree
   pub bodies : t.bodies ≡ s.bodies ++ new
-  pub made : (rest : List BodySyn) → AreMade t.items (length s.items.closures) (length t.items.closures) (f rest) rest
-      new
+  pub made : (rest : List BodySyn) → AreMade (IsBodyOf t.items) (length s.items.closures) (length t.items.closures) (f
+      rest) rest new

@@ -1,12 +1,12 @@
 -- A type that is written has one number, wherever it is written.
-use Rattle.std.specs.Prelude.{◌≡◌, ℕ, Bool, List, [], ◌∷◌, Option, Some, None, Ok, slice_get}
+use Rattle.std.specs.Prelude.{◌≡◌, ℕ, Bool, List, [], ◌∷◌, Option, Some, None, Ok, slice_get, IsTrue}
 use Rattle.mir_ty.specs.declared.ty.Ty.{Ty}
 use Rattle.mir_ty.specs.declared.ty.TyId.{TyId}
 use Rattle.mir_ty.specs.AreItems.{AreDistinct}
 use Rattle.mir_ty.specs.ItemTable.{ItemTable, type_at}
 use Rattle.typing_rules.specs.Check.{State}
 use Rattle.typing_rules.specs.Places.{unit, never}
-use Rattle.typing_rules.specs.Written.{Around, written, written_param, number_of, scalar_named, length_shown, reference_to}
+use Rattle.typing_rules.specs.Written.{Around, written, written_param, number_of, scalar_named, is_box, length_shown, reference_to}
 use Rattle.src_ast.specs.Syntax.{Syn, syn, Shape, NamedType, GenericType, DynType, SelfType, ParensType, TupleType, ArrayType, NeverType, RefType, Syns, no_syn, a_syn}
 
 -- later items have the types of earlier ones
@@ -46,10 +46,10 @@ module _ (around : Around) where
     MeansForm items (NamedType name) ty =
         NamesTy items (number_of around.adts name) (scalar_named name) ty
     MeansForm items (GenericType name content) ty =
-        (inside : TyId) × Means items content inside × (type_at items ty ≡ Some (Ty.Boxed inside))
+        (inside : TyId) × Means items content inside × (type_at items ty ≡ Some (Ty.Boxed inside)) × IsTrue (is_box name)
     MeansForm items (DynType name trait_) ty =
         (n : ℕ) × (inside : TyId) × (number_of around.traits trait_.1 ≡ Some n) × (type_at items inside ≡ Some
-        (Ty.Dyn n)) × (type_at items ty ≡ Some (Ty.Boxed inside))
+        (Ty.Dyn n)) × (type_at items ty ≡ Some (Ty.Boxed inside)) × IsTrue (is_box name)
     MeansForm items SelfType ty = (n : ℕ) × (around.self_adt ≡ Some n) × (type_at items ty ≡ Some (Ty.Adt n))
     MeansForm items (ParensType inside) ty = Means items inside ty
     MeansForm items (TupleType parts) ty = (tys : List TyId) × MeanAll items parts tys × IsTupleOf items tys ty

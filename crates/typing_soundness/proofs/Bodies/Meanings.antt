@@ -118,7 +118,7 @@ module _ (around : Around) where
     form_given at (NamedType name) s =
         named_given at (rules.number_of around.adts name) (rules.scalar_named name) s
     form_given at (GenericType name content) s =
-        walk_obeyed Rule.T01 at (rules.is_box name) _ λ _. walk (written_given content s) λ ty t g. walk_map
+        walk_obeyed Rule.T01 at (rules.is_box name) _ λ boxed. walk (written_given content s) λ ty t g. walk_map
         (interned_means (Ty.Boxed ty) t s g.0) λ id u h. (
           h.0,
           (
@@ -126,12 +126,13 @@ module _ (around : Around) where
             means_later around t.items u.items h.1 content
                 ty g.1,
             h.2,
+            boxed,
           ),
         )
     form_given at (DynType name trait_) s =
-        walk_obeyed Rule.T01 at (rules.is_box name) _ λ _. walk_found Rule.T01 trait_.0 (rules.number_of around.traits
+        walk_obeyed Rule.T01 at (rules.is_box name) _ λ boxed. walk_found Rule.T01 trait_.0 (rules.number_of around.traits
         trait_.1) _ λ n is. walk (interned_means (Ty.Dyn n) s s (have_refl s.items)) λ ty t g. walk_map
-        (interned_means (Ty.Boxed ty) t s g.0) λ id u h. (h.0, (n, ty, is, h.1 ty.0 (Ty.Dyn n) g.2, h.2))
+        (interned_means (Ty.Boxed ty) t s g.0) λ id u h. (h.0, (n, ty, is, h.1 ty.0 (Ty.Dyn n) g.2, h.2, boxed))
     form_given at SelfType s =
         walk_found Rule.T01 at around.self_adt _ λ n is. walk_map (interned_means (Ty.Adt n) s s (have_refl
         s.items)) λ id t h. (h.0, (n, is, h.2))

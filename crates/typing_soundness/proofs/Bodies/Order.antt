@@ -7,6 +7,7 @@ use Rattle.std.proofs.lemmas.List.{append_assoc, length-map}
 use Rattle.mir_base.specs.declared.place_in_text.Pos.{Pos}
 use Rattle.mir_base.specs.declared.rule.Rule.{Rule}
 use Rattle.std.specs.List.{position as position_of}
+use Rattle.mir_ty.specs.AreItems.{AreDistinct}
 use Rattle.mir_ty.specs.declared.adt.Adt.{Adt}
 use Rattle.mir_ty.specs.declared.def.Sig.{Sig}
 use Rattle.mir_ty.specs.ItemTable.{ItemTable}
@@ -22,7 +23,7 @@ use Rattle.typing_rules.specs.Program as rules
 use Rattle.typing_rules.specs.Scope.{Env, adt_named, body_named}
 use Rattle.typing_rules.specs.Written as types
 use Rattle.src_ast.specs.Syntax.{Word, Named, Syn, syn, StructItem, EnumItem, FieldDecl, VariantDecl, TraitItem, ImplItem, FnItem, Syns, list_of, MaybeSyn, nothing, just}
-use Rattle.typing_soundness.specs.Closures.{BodySyn, Function, Head, Tape, AreTypesOf, AreMade, Met, types_of, closures_if_any, function_text, functions_text, around_impl, item_text, items_text, program_text}
+use Rattle.typing_soundness.specs.Closures.{BodySyn, Function, Head, Tape, AreTypesOf, HaveClosures, IsBodyOf, AreMade, Met, types_of, closures_if_any, function_text, functions_text, around_impl, item_text, items_text, program_text}
 use Rattle.typing_soundness.specs.Types.{HaveTypes}
 use Rattle.typing_soundness.specs.Walks.{counted, numbers_of_bodies, Ordered, InOrder, Walked}
 use Rattle.typing_soundness.proofs.Bodies.Functions.{in_function}
@@ -111,8 +112,10 @@ new_keeps {A} {f} check s h = by (check (record s { next_node = 0; breaks = [] }
           order = record { count = h.so.order.count; next = h.so.order.next; bodies = h.so.order.bodies };
           met = record {
             types = h.so.met.types;
+            distinct = h.so.met.distinct;
             adts = h.so.met.adts;
             heads = h.so.met.heads;
+            closures = h.so.met.closures;
             new = h.so.met.new;
             bodies = h.so.met.bodies;
             made = h.so.met.made;
@@ -240,11 +243,13 @@ module _ (env : Env) (params : Syns) (answer : MaybeSyn) (block : MaybeSyn) wher
     };
     met = record {
       types = λ n x h. later n x (inner.types n x h);
+      distinct = λ h. subst AreDistinct (ap (λ (i : ItemTable). i.types) (sym added.items)) (inner.distinct h);
       adts = ap (λ (i : ItemTable). i.adts) added.items ∙ inner.adts;
       heads = ap (λ (i : ItemTable). i.bodies) added.items ∙ inner.heads;
+      closures = subst (HaveClosures s.items) (sym added.items) inner.closures;
       new = added.body ∷ inner.new;
       bodies = added.whole ∙ ap (λ bs. s.bodies ++ added.body ∷ bs) inner.bodies;
-      made = λ rest. (first, others rest);
+      made = λ rest. ((first, tt), others rest);
     };
   }
     where
@@ -264,10 +269,10 @@ module _ (env : Env) (params : Syns) (answer : MaybeSyn) (block : MaybeSyn) wher
           subst (λ tys. AreTypesOf v.items (length s.items.closures) (Function head) tys added.body.answer) (sym
           added.is.0.1) (types_later added.inner.items v.items later head added.is.0.0 added.body.answer added.is.0.2)
 
-      others : (rest : List BodySyn) → AreMade v.items (length s.items.closures) (length v.items.closures)
+      others : (rest : List BodySyn) → AreMade (IsBodyOf v.items) (length s.items.closures) (length v.items.closures)
           (closures_if_any (bodies.all_rules env) block rest) rest inner.new
       others rest =
-          subst (λ (i : ItemTable). AreMade i (length s.items.closures) (length i.closures) (closures_if_any
+          subst (λ (i : ItemTable). AreMade (IsBodyOf i) (length s.items.closures) (length i.closures) (closures_if_any
           (bodies.all_rules env) block rest) rest inner.new) (sym added.items) (inner.made rest)
 
   function_keeps : (at : Pos) (s : State) → Keeps (λ rest. Function head ∷ closures_if_any (bodies.all_rules env) block

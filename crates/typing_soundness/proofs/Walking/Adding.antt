@@ -8,6 +8,7 @@ use Rattle.mir_base.specs.declared.place_in_text.Pos.{Pos}
 use Rattle.mir_ty.specs.declared.ty.TyId.{TyId}
 use Rattle.typed_tree.specs.declared.node.Use.{Use}
 use Rattle.std.proofs.lemmas.List.{append_assoc, append-nil}
+use Rattle.mir_ty.specs.AreItems.{AreDistinct}
 use Rattle.mir_ty.specs.declared.def.ClosureDef.{ClosureDef}
 use Rattle.typed_tree.specs.Tree.{BodyTree}
 use Rattle.typed_tree.specs.Nodes.{number_of, nodes_of, nodes_in}
@@ -67,6 +68,7 @@ carried_cases b xs ys c =
 -- states that have the same bodies and closures, and all types
 pub record Stays (s t : State) : Type 0 where
   pub types : HaveTypes s.items t.items
+  pub distinct : AreDistinct s.items.types → AreDistinct t.items.types
   pub adts : t.items.adts ≡ s.items.adts
   pub heads : t.items.bodies ≡ s.items.bodies
   pub next_body : t.next_body ≡ s.next_body
@@ -74,11 +76,12 @@ pub record Stays (s t : State) : Type 0 where
   pub closures : t.items.closures ≡ s.items.closures
 
 pub stays_refl : (s : State) → Stays s s
-stays_refl s = record { types = λ n ty h. h; adts = refl; heads = refl; next_body = refl; bodies = refl; closures = refl }
+stays_refl s = record { types = λ n ty h. h; distinct = λ h. h; adts = refl; heads = refl; next_body = refl; bodies = refl; closures = refl }
 
 pub stays_both : {s t u : State} → Stays s t → Stays t u → Stays s u
 stays_both p q = record {
   types = λ n ty h. q.types n ty (p.types n ty h);
+  distinct = λ h. q.distinct (p.distinct h);
   adts = q.adts ∙ p.adts;
   heads = q.heads ∙ p.heads;
   next_body = q.next_body ∙ p.next_body;
@@ -99,8 +102,10 @@ ordered_of {s} {t} e = record {
 pub met_none : {s t : State} → Stays s t → Met (λ rest. rest) s t
 met_none {s} e = record {
   types = e.types;
+  distinct = e.distinct;
   adts = e.adts;
   heads = e.heads;
+  closures = λ n def h. subst (λ ds. slice_get ds n ≡ Some def) (sym e.closures) h;
   new = [];
   bodies = e.bodies ∙ sym (append-nil s.bodies);
   made = λ rest. (refl, ap length (sym e.closures));
@@ -261,7 +266,7 @@ other_occurs k n no_ = by (number_of n == k) refl
 
 -- a number is given out
 same_stays : (s : State) → Stays s (numbered s)
-same_stays s = record { types = λ n ty h. h; adts = refl; heads = refl; next_body = refl; bodies = refl; closures = refl }
+same_stays s = record { types = λ n ty h. h; distinct = λ h. h; adts = refl; heads = refl; next_body = refl; bodies = refl; closures = refl }
 
 -- the node that gets the next number
 pub walks_number : (s : State) (at : Pos) (ty : TyId) (by : Option Use) (form : Form) → Walks (λ rest. rest) s

@@ -29,23 +29,24 @@ use Rattle.typing_rules.proofs.Sound.Gives.{numbered}
 use Rattle.std.proofs.lemmas.List.{map-append, length-append}
 use Rattle.mir_ty.specs.declared.def.ClosureDef.{ClosureDef}
 use Rattle.mir_ty.specs.Facts.{is_copy}
-use Rattle.mir_ty.proofs.ListLemmas.{slice_get-push_cases}
+use Rattle.mir_ty.specs.AreItems.{AreDistinct}
+use Rattle.mir_ty.proofs.ListLemmas.{slice_get-append_left, slice_get-last, slice_get-push_cases}
 use Rattle.typed_tree.specs.Nodes.{numbers_of}
 use Rattle.typed_tree.specs.Tree.{ParamTree}
 use Rattle.well_typed.specs.Types.{is_dyn}
 use Rattle.typing_rules.specs.Places.{used, a_node_of, meaning_form, is_fixed, in_own_guard}
 use Rattle.typing_soundness.proofs.Walking.Params.{Still, still, written_still, params_walk, answer_still, in_closure}
-use Rattle.typing_soundness.specs.Closures.{BodySyn, Closure, Head, Tape, HasTypes, AreTypesOf, AreMade, Met, types_of, closures_of, closures_in, closures_among, closures_if_any}
+use Rattle.typing_soundness.specs.Closures.{BodySyn, Closure, Head, Tape, HasTypes, AreTypesOf, HaveClosures, HasBody, IsBodyOf, AreMade, Met, types_of, closures_of, closures_in, closures_among, closures_if_any}
 use Rattle.typing_soundness.specs.Types.{HaveTypes}
 use Rattle.typing_soundness.specs.Walks.{counted, numbers_of_bodies, Ordered, Walks, Walked, WalksNode}
 use Rattle.typing_soundness.proofs.Bodies.Meanings.{written_given}
-use Rattle.typing_soundness.proofs.Walking.Heads.{walk_interned_as, params_given, answer_given, types_kept}
+use Rattle.typing_soundness.proofs.Walking.Heads.{params_given, answer_given, types_kept}
 use Rattle.typing_soundness.proofs.Walking.Later.{params_later, answer_later, types_later, met_both}
 use Rattle.typing_soundness.proofs.Walking.Adding.{met_none, Stays, stays_refl, stays_both, ordered_of, ordered_both, walks_recast, walks_none, walks_both, walks_node}
 use Rattle.typing_soundness.proofs.Walking.Patterns.{pattern_walks}
 use Rattle.typing_soundness.proofs.Walking.Rows as on
 use Rattle.typing_soundness.proofs.Walking.Rows.{no_closure, ◌⨾◌, WalksTyper, WalksMaybe, WalksArgs, WalksReferrer, WalksMatcher}
-use Rattle.typing_soundness.proofs.Walking.Steps.{walk, walk_obeyed, walk_found, walk_ends, walk_map, walk_nothing, on_same, walk_interned, walk_fitted}
+use Rattle.typing_soundness.proofs.Walking.Steps.{walk, walk_obeyed, walk_found, walk_ends, walk_map, walk_nothing, on_same, walk_interned, walk_interned_as, walk_fitted}
 
 -- ---- paths
 
@@ -162,7 +163,7 @@ capture_stays env k (syn at (Ident name)) earlier s =
     taken_stays x =
         walk_obeyed Rule.T07 at (is_copy s.items x.ty || not (is_fixed s.items (in_own_guard env.variables) (place x) ||
         is_dyn s.items x.ty)) _ λ _. walk_obeyed Rule.T08 at (not (is_reference s.items x.ty)) _ λ _. walk_ends (record
-        { types = λ n ty h. h; adts = refl; heads = refl; next_body = refl; bodies = refl; closures = refl })
+        { types = λ n ty h. h; distinct = λ h. h; adts = refl; heads = refl; next_body = refl; bodies = refl; closures = refl })
 capture_stays env k (syn at _) earlier s = record { so = tt }
 
 captured_walks : (env : Env) (k : ℕ) (captures : Syns) (earlier : List Entry) (s : State) → Walked (λ c t. Walks no_closure s t
@@ -230,7 +231,7 @@ inner_walks {f} env at n ty captures params answer block good s =
         record { pattern = used (rows.taking s.items ty) (a_node_of s.next_node at ty (tree.Binding [])); ty = ty }
 
     first_stays : (s : State) → Stays s (numbered s)
-    first_stays s = record { types = λ k x h. h; adts = refl; heads = refl; next_body = refl; bodies = refl; closures = refl }
+    first_stays s = record { types = λ k x h. h; distinct = λ h. h; adts = refl; heads = refl; next_body = refl; bodies = refl; closures = refl }
 
 -- a body of its own in a walk, of which something is so
 pub record IsAdded (n : ℕ) (Q : BodyTree → State → Type 0) (s t : State) : Type 0 where
@@ -243,6 +244,7 @@ pub record IsAdded (n : ℕ) (Q : BodyTree → State → Type 0) (s t : State) :
   pub items : t.items ≡ inner.items
   pub whole : t.bodies ≡ s.bodies ++ body ∷ inner.bodies
   pub bodies : numbers_of_bodies t ≡ numbers_of_bodies s ++ n ∷ numbers_of_bodies inner
+  pub is_number : body.number ≡ n
   pub is : Q body inner
 
 pub body_added : {Q : BodyTree → State → Type 0} (n : ℕ) (check : Check BodyTree) (s : State) → Walked (λ b t. (b.number
@@ -271,6 +273,7 @@ body_added {Q} n check s h = by (check (record s { bodies = []; next_node = 0; b
           whole = refl;
           bodies = map-append (λ (b : BodyTree). b.number) s.bodies (a.0 ∷ a.1.bodies) ∙ ap (λ m. numbers_of_bodies s ++
               m ∷ numbers_of_bodies a.1) h.so.0;
+          is_number = h.so.0;
           is = h.so.2;
         })
     by (Err e) h = record { so = tt }
@@ -315,21 +318,26 @@ closure_ordered s t u v def body next bodies closures next_u bodies_u closures_u
 
 -- what is met is the closure, and then what is in its body
 closure_met : {f : Tape} (n : ℕ) (s t u v : State) (around : types.Around) (params : Syns) (answer : MaybeSyn) (ty : TyId) (def :
-    ClosureDef) → Stays s t → HaveTypes t.items u.items → u.items.adts ≡ t.items.adts → u.items.bodies ≡ t.items.bodies →
+    ClosureDef) → def.body ≡ n → Stays s t → HaveTypes t.items u.items → (AreDistinct t.items.types → AreDistinct
+    u.items.types) → u.items.adts ≡ t.items.adts → u.items.bodies ≡ t.items.bodies →
     u.bodies ≡ t.bodies → u.items.closures ≡ t.items.closures ++ def ∷ [] → type_at u.items ty ≡ Some
     (Ty.Closure (length t.items.closures)) → IsAdded n (IsOf around params answer (ty ∷ []) f (record u {
   bodies = [];
   next_node = 0;
   breaks = [];
 })) u v → Met (λ rest. Closure (record { around = around; params = params; answer = answer }) ∷ f rest) s v
-closure_met {f} n s t u v around params answer ty def stays types_u adts_u heads_u bodies_u closures_u is_ty added =
+closure_met {f} n s t u v around params answer ty def at_n stays types_u distinct_u adts_u heads_u bodies_u closures_u is_ty added =
     record {
       types = λ n x h. later n x (inner.types n x (types_u n x (stays.types n x h)));
+      distinct = λ h. subst AreDistinct (ap (λ (i : ItemTable). i.types) (sym added.items)) (inner.distinct (distinct_u
+          (stays.distinct h)));
       adts = ap (λ (i : ItemTable). i.adts) added.items ∙ (inner.adts ∙ (adts_u ∙ stays.adts));
       heads = ap (λ (i : ItemTable). i.bodies) added.items ∙ (inner.heads ∙ (heads_u ∙ stays.heads));
       new = added.body ∷ inner.new;
       bodies = added.whole ∙ λ i. (bodies_u ∙ stays.bodies) i ++ added.body ∷ inner.bodies i;
-      made = λ rest. (first, others rest);
+      closures = λ k d at. kept k d (subst (λ cs. slice_get cs k ≡ Some d) (sym (closures_u ∙ ap (λ cs. cs ++ def ∷ [])
+          stays.closures)) (slice_get-append_left s.items.closures (def ∷ []) k d at));
+      made = λ rest. ((first, its_body), others rest);
     }
   where
     inner : Met f (record u { bodies = []; next_node = 0; breaks = [] }) added.inner
@@ -352,16 +360,28 @@ closure_met {f} n s t u v around params answer ty def stays types_u adts_u heads
         subst (λ tys. AreTypesOf v.items (length s.items.closures) (Closure head) tys added.body.answer) (sym
         added.is.0.1) (self, types_later added.inner.items v.items later head added.is.0.0 added.body.answer added.is.0.2)
 
+    kept : HaveClosures u.items v.items
+    kept = subst (HaveClosures u.items) (sym added.items) inner.closures
+
+    its_body : HasBody v.items (length s.items.closures) (Closure head) added.body.number
+    its_body = (
+      def,
+      kept (length s.items.closures) def (subst (λ cs. slice_get cs (length s.items.closures) ≡ Some def) (sym (closures_u
+          ∙ ap (λ cs. cs ++ def ∷ []) stays.closures)) (slice_get-last s.items.closures def)),
+      at_n ∙ sym added.is_number,
+    )
+
     as_many : length u.items.closures ≡ suc (length s.items.closures)
     as_many =
         ap length (closures_u ∙ ap (λ cs. cs ++ def ∷ []) stays.closures) ∙ (length-append s.items.closures (def ∷ []) ∙ omega
         arith)
 
-    others : (rest : List BodySyn) → AreMade v.items (suc (length s.items.closures)) (length v.items.closures) (f rest)
+    others : (rest : List BodySyn) → AreMade (IsBodyOf v.items) (suc (length
+        s.items.closures)) (length v.items.closures) (f rest)
         rest inner.new
     others rest =
-        subst (λ n. AreMade v.items n (length v.items.closures) (f rest) rest inner.new) as_many (subst (λ (i : ItemTable).
-        AreMade i (length u.items.closures) (length i.closures) (f rest) rest inner.new) (sym added.items) (inner.made
+        subst (λ n. AreMade (IsBodyOf v.items) n (length v.items.closures) (f rest) rest inner.new) as_many (subst (λ (i : ItemTable).
+        AreMade (IsBodyOf i) (length u.items.closures) (length i.closures) (f rest) rest inner.new) (sym added.items) (inner.made
         rest))
 
 closure_walks : {f : Tape} (env : Env) (at : Pos) (captures params : Syns) (answer : MaybeSyn) (block : Env → Typer) →
@@ -386,7 +406,7 @@ closure_walks {f} env at captures params answer block good want s =
     (closure_met s.next_body s' t u v (bodies.all_rules env) params answer ty (record {
       captures = bodies.types_of caps.1;
       body = s.next_body;
-    }) w.1 e.stays.types e.stays.adts e.stays.heads e.stays.bodies e.stays.closures is g)) w.0))
+    }) refl w.1 e.stays.types e.stays.distinct e.stays.adts e.stays.heads e.stays.bodies e.stays.closures is g)) w.0))
   where
     s' : State
     s' = record (numbered s) { next_body = suc s.next_body }
@@ -398,8 +418,10 @@ closure_walks {f} env at captures params answer block good want s =
     on_bodies : {g : Tape} {v : State} → Met g s' v → Met g (numbered s) v
     on_bodies m = record {
       types = m.types;
+      distinct = m.distinct;
       adts = m.adts;
       heads = m.heads;
+      closures = m.closures;
       new = m.new;
       bodies = m.bodies;
       made = m.made;

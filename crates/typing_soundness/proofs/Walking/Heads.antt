@@ -24,21 +24,10 @@ use Rattle.typing_soundness.proofs.Bodies.Meanings.{have_refl, interned_means, w
 use Rattle.typing_soundness.proofs.Walking.Adding.{stays_refl}
 use Rattle.typing_soundness.proofs.Walking.Later.{means_later, param_later}
 use Rattle.typing_soundness.proofs.Walking.Patterns.{pattern_walks}
-use Rattle.typing_soundness.proofs.Walking.Steps.{walk, walk_map, walk_obeyed, walk_found, walk_ends, with_type_stays, SameWalk}
+use Rattle.typing_soundness.proofs.Walking.Steps.{walk, walk_map, walk_obeyed, walk_found, walk_ends}
 
 have_both : (a b c : ItemTable) → HaveTypes a b → HaveTypes b c → HaveTypes a c
 have_both a b c p q = λ n ty h. q n ty (p n ty h)
-
--- a type gets a number, and has it
-pub walk_interned_as : {B : Type 0} {R : B → State → Type 0} (ty : Ty) (s : State) {f : TyId → Check B} → ((id : TyId) (t
-    : State) → SameWalk s t → type_at t.items id ≡ Some ty → Walked R (f id t)) → Walked R (and_then (interned ty s) f)
-walk_interned_as {R = R} ty s {f} k = by (position_of (is_equal ty) s.items.types) refl
-  where
-    by : (o : Option ℕ) → position_of (is_equal ty) s.items.types ≡ o → Walked R (and_then (interned_at ty o s) f)
-    by (Some n) is =
-        k _ s (record { number = refl; breaks = refl; stays = stays_refl s }) (found_at ty s.items.types n is)
-    by None is =
-        k _ _ (record { number = refl; breaks = refl; stays = with_type_stays ty s }) (slice_get-last s.items.types ty)
 
 -- ---- parameters
 

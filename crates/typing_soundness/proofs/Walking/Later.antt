@@ -9,7 +9,7 @@ use Rattle.typing_rules.specs.Check.{State}
 use Rattle.typing_rules.specs.Written as rules
 use Rattle.typing_rules.specs.Written.{Around}
 use Rattle.src_ast.specs.Syntax.{Receiver, ByValue, ByShared, ByUnique, Syn, syn, Shape, NamedType, GenericType, DynType, SelfType, ParensType, TupleType, ArrayType, NeverType, RefType, ParamOf, SelfParam, Syns, no_syn, a_syn, MaybeSyn, nothing, just}
-use Rattle.typing_soundness.specs.Closures.{BodySyn, Function, Closure, Head, Tape, IsReceiver, MeansParam, MeanParams, MeansAnswer, HasTypes, AreTypesOf, AreMade, Met, types_of, behind}
+use Rattle.typing_soundness.specs.Closures.{BodySyn, Function, Closure, Head, Tape, IsReceiver, MeansParam, MeanParams, MeansAnswer, HasTypes, AreTypesOf, HaveClosures, HasBody, IsBodyOf, AreMade, Met, types_of, behind}
 use Rattle.typing_soundness.specs.Types.{HaveTypes, NamesTy, IsTupleOf, Means, MeansForm, MeanAll}
 
 -- ---- types that are written
@@ -35,9 +35,9 @@ module _ (around : Around) where
       form_later (NamedType name) ty h =
           named_later old new e (rules.number_of around.adts name) (rules.scalar_named name) ty h
       form_later (GenericType name content) ty h =
-          (h.0, means_later content h.0 h.1, e ty.0 (Ty.Boxed h.0) h.2)
+          (h.0, means_later content h.0 h.1, e ty.0 (Ty.Boxed h.0) h.2, h.3)
       form_later (DynType name trait_) ty h =
-          (h.0, h.1, h.2, e h.1.0 (Ty.Dyn h.0) h.3, e ty.0 (Ty.Boxed h.1) h.4)
+          (h.0, h.1, h.2, e h.1.0 (Ty.Dyn h.0) h.3, e ty.0 (Ty.Boxed h.1) h.4, h.5)
       form_later SelfType ty h = (h.0, h.1, e ty.0 (Ty.Adt h.0) h.2)
       form_later (ParensType inside) ty h = means_later inside ty h
       form_later (TupleType parts) ty h = (h.0, all_later parts h.0 h.1, tuple_later old new e h.0 ty h.2)
@@ -91,33 +91,48 @@ module _ (old new : ItemTable) (e : HaveTypes old new) where
   text_later closure (Closure head) (self ∷ params) answer h =
       (e self.0 (Ty.Closure closure) h.0, types_later head params answer h.1)
 
-  pub made_later : (from to : ℕ) (texts rest : List BodySyn) (bodies : List BodyTree) → AreMade old from to texts rest
-      bodies → AreMade new from to texts rest bodies
-  made_later from to texts rest [] h = h
-  made_later from to [] rest (body ∷ bodies) h = h
-  made_later from to (text ∷ texts) rest (body ∷ bodies) h =
-      (text_later from text (types_of body) body.answer h.0, made_later (behind text from) to texts rest bodies h.1)
+-- a body among later items
+has_later : (old new : ItemTable) → HaveClosures old new → (closure : ℕ) (text : BodySyn) (number : ℕ) → HasBody old closure
+    text number → HasBody new closure text number
+has_later old new e closure (Function head) number h = h
+has_later old new e closure (Closure head) number h = (h.0, e closure h.0 h.1, h.2)
 
--- ---- bodies that are met
+pub body_later : (old new : ItemTable) → HaveTypes old new → HaveClosures old new → (closure : ℕ) (text : BodySyn) (body :
+    BodyTree) → IsBodyOf old closure text body → IsBodyOf new closure text body
+body_later old new e d closure text body h =
+    (text_later old new e closure text (types_of body) body.answer h.0, has_later old new d closure text body.number h.1)
 
-pub made_both : (items : ItemTable) (from between to : ℕ) (texts more rest : List BodySyn) (bodies others : List BodyTree)
-    → AreMade items from between texts more bodies → AreMade items between to more rest others → AreMade items from to
-    texts rest (bodies ++ others)
-made_both items from between to texts more rest [] others h k =
-    subst (λ n. AreMade items n to texts rest others) (sym h.1) (subst (λ ts. AreMade items between to ts rest others)
-    (sym h.0) k)
-made_both items from between to [] more rest (body ∷ bodies) others h k = absurd h
-made_both items from between to (text ∷ texts) more rest (body ∷ bodies) others h k =
-    (h.0, made_both items (behind text from) between to texts more rest bodies others h.1 k)
+-- ---- what is made of a text
+
+pub made_map : {B : Type 0} (P Q : ℕ → BodySyn → B → Type 0) → ((closure : ℕ) (text : BodySyn) (body : B) → P closure text
+    body → Q closure text body) → (from to : ℕ) (texts rest : List BodySyn) (bodies : List B) → AreMade P from to texts
+    rest bodies → AreMade Q from to texts rest bodies
+made_map P Q so from to texts rest [] h = h
+made_map P Q so from to [] rest (body ∷ bodies) h = h
+made_map P Q so from to (text ∷ texts) rest (body ∷ bodies) h =
+    (so from text body h.0, made_map P Q so (behind text from) to texts rest bodies h.1)
+
+pub made_both : {B : Type 0} (P : ℕ → BodySyn → B → Type 0) (from between to : ℕ) (texts more rest : List BodySyn) (bodies
+    others : List B) → AreMade P from between texts more bodies → AreMade P between to more rest others → AreMade P from
+    to texts rest (bodies ++ others)
+made_both P from between to texts more rest [] others h k =
+    subst (λ n. AreMade P n to texts rest others) (sym h.1) (subst (λ ts. AreMade P between to ts rest others) (sym h.0)
+    k)
+made_both P from between to [] more rest (body ∷ bodies) others h k = absurd h
+made_both P from between to (text ∷ texts) more rest (body ∷ bodies) others h k =
+    (h.0, made_both P (behind text from) between to texts more rest bodies others h.1 k)
 
 pub met_both : {f g : Tape} {s t u : State} → Met f s t → Met g t u → Met (λ rest. f (g rest)) s u
 met_both {f} {g} {s} {t} {u} p q = record {
   types = λ n ty h. q.types n ty (p.types n ty h);
+  distinct = λ h. q.distinct (p.distinct h);
   adts = q.adts ∙ p.adts;
   heads = q.heads ∙ p.heads;
+  closures = λ n def h. q.closures n def (p.closures n def h);
   new = p.new ++ q.new;
   bodies = q.bodies ∙ (ap (λ bs. bs ++ q.new) p.bodies ∙ append_assoc s.bodies p.new q.new);
-  made = λ rest. made_both u.items (length s.items.closures) (length t.items.closures) (length u.items.closures) (f (g
-      rest)) (g rest) rest p.new q.new (made_later t.items u.items q.types (length s.items.closures) (length
-      t.items.closures) (f (g rest)) (g rest) p.new (p.made (g rest))) (q.made rest);
+  made = λ rest. made_both (IsBodyOf u.items) (length s.items.closures) (length t.items.closures) (length
+      u.items.closures) (f (g rest)) (g rest) rest p.new q.new (made_map (IsBodyOf t.items) (IsBodyOf u.items)
+      (body_later t.items u.items q.types q.closures) (length s.items.closures) (length t.items.closures) (f (g rest)) (g
+      rest) p.new (p.made (g rest))) (q.made rest);
 }

@@ -24,7 +24,7 @@ use Rattle.typing_soundness.specs.Walks.{Walked}
 use Rattle.typing_soundness.specs.Walks as walking
 use Rattle.typing_soundness.proofs.Walking.Adding.{stays_refl, stays_both, walks_none, walks_both, walks_node}
 use Rattle.typing_soundness.proofs.Walking.Patterns.{Walks, pattern_walks}
-use Rattle.typing_soundness.proofs.Walking.Steps.{walk, walk_obeyed, walk_found, walk_ends, walk_interned, with_type_stays, SameWalk, on_same}
+use Rattle.typing_soundness.proofs.Walking.Steps.{walk, walk_obeyed, walk_found, walk_ends, walk_interned, interned_ends, SameWalk, on_same}
 
 -- ---- written types, which have no nodes
 
@@ -42,15 +42,7 @@ onward p q = record {
 }
 
 pub interned_still : (ty : Ty) (s : State) {t : State} → SameWalk t s → Walked (λ id u. SameWalk t u) (interned ty s)
-interned_still ty s {t} e = by (position_of (is_equal ty) s.items.types)
-  where
-    by : (o : Option ℕ) → Walked (λ id u. SameWalk t u) (interned_at ty o s)
-    by (Some n) = walk_ends e
-    by None = walk_ends (record {
-      number = e.number;
-      breaks = e.breaks;
-      stays = stays_both e.stays (with_type_stays ty s);
-    })
+interned_still ty s e = interned_ends ty s λ id u f. onward e f
 
 module _ (around : types.Around) where
   named_still : (at : Pos) (adt : Option ℕ) (scalar : Option TyId) (s : State) → Walked (Still s) (types.named_by at adt
