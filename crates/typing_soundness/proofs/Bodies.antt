@@ -1,5 +1,6 @@
 -- Bodies that are whole.
 pub mod Closures
+pub mod Collected
 pub mod Functions
 pub mod Inner
 pub mod Meanings

@@ -1,5 +1,6 @@
 pub mod Closures
 pub mod Expressions
+pub mod Heads
 pub mod Numbers
 pub mod Program
 pub mod Shapes

@@ -1,0 +1,81 @@
+-- The heads that are collected for the bodies of a text, before any body is looked at.
+use Rattle.std.specs.Prelude.{◌≡◌, ℕ, Bool, true, false, List, [], ◌∷◌, map, Option, Some, None}
+use Rattle.mir_base.specs.declared.place_in_text.Pos.{Pos}
+use Rattle.mir_ty.specs.declared.adt.Adt.{Adt}
+use Rattle.mir_ty.specs.declared.def.Sig.{Sig}
+use Rattle.mir_ty.specs.declared.ty.Ty.{Ty}
+use Rattle.mir_ty.specs.declared.ty.TyId.{TyId}
+use Rattle.mir_ty.specs.ItemTable.{ItemTable, type_at}
+use Rattle.src_tree.specs.Layout.{Parts}
+use Rattle.typing_rules.specs.Items.{ItemSyn, items_of, impl_owner}
+use Rattle.typing_rules.specs.Places.{unit}
+use Rattle.typing_rules.specs.Written.{Around}
+use Rattle.src_ast.specs.Syntax.{Word, Syn, syn, MoveOf, ImplItem, FnItem, ParamOf, SelfParam, Syns, no_syn, a_syn, list_of, MaybeSyn, nothing, just}
+use Rattle.typing_soundness.specs.Closures.{BodySyn, Function, Closure, Head, Tape, HasTypes, around_impl, functions_text, function_text}
+use Rattle.typing_soundness.specs.Types.{Means}
+
+-- ---- the types of a head
+
+-- a type that is written, where it can be written at all
+module _ (around : Around) (items : ItemTable) where
+  abbrev pub MeansIfAny : Syn → TyId → Type 0
+  MeansIfAny written ty = (others : ItemTable) (t : TyId) → Means around others written t → Means around items written ty
+
+  abbrev pub MeansClosureParam : Syn → TyId → Type 0
+  MeansClosureParam (syn at (ParamOf p written)) ty = MeansIfAny written ty
+  MeansClosureParam _ ty = Unit {0}
+
+  abbrev pub MeanClosureParams : Syns → List TyId → Type 0
+  MeanClosureParams no_syn [] = Unit {0}
+  MeanClosureParams no_syn (ty ∷ tys) = ⊥
+  MeanClosureParams (a_syn first rest) [] = ⊥
+  MeanClosureParams (a_syn first rest) (ty ∷ tys) = MeansClosureParam first ty × MeanClosureParams rest tys
+
+  abbrev pub MeansClosureAnswer : MaybeSyn → TyId → Type 0
+  MeansClosureAnswer nothing ty = unit ≡ ty
+  MeansClosureAnswer (just written) ty = MeansIfAny written ty
+
+abbrev pub AreHeadTypes : ItemTable → ℕ → BodySyn → List TyId → TyId → Type 0
+AreHeadTypes items closure (Function head) params answer = HasTypes items head params answer
+AreHeadTypes items closure (Closure head) [] answer = ⊥
+AreHeadTypes items closure (Closure head) (self ∷ params) answer =
+    (type_at items self ≡ Some (Ty.Closure closure)) × MeanClosureParams head.around items head.params
+    params × MeansClosureAnswer head.around items head.answer answer
+
+abbrev pub IsHeadOf : ItemTable → ℕ → BodySyn → Sig → Type 0
+IsHeadOf items closure text head = AreHeadTypes items closure text head.params head.result
+
+-- ---- the bodies that are listed for an item
+
+module _ (around : Around) where
+  abbrev pub body_text : Syn → Tape
+  body_text (syn at (FnItem name params answer block)) =
+      λ rest. Function (record { around = around; params = params; answer = answer }) ∷ rest
+  body_text (syn at (MoveOf captures params answer body)) =
+      λ rest. Closure (record { around = around; params = params; answer = answer }) ∷ rest
+  body_text _ = λ rest. rest
+
+  abbrev pub bodies_text : List Syn → Tape
+  bodies_text [] = λ rest. rest
+  bodies_text (b ∷ bs) = λ rest. body_text b (bodies_text bs rest)
+
+  -- the bodies of an item, in the order of the text
+  abbrev pub inner_text : Syn → Tape
+  inner_text (syn at (ImplItem trait_ name methods)) = functions_text around (list_of methods)
+  inner_text (syn at (FnItem name params answer block)) =
+      function_text around (syn at (FnItem name params answer block))
+  inner_text _ = λ rest. rest
+
+-- an item is listed with all its bodies
+abbrev pub TellsBodies : ItemSyn → Type 0
+TellsBodies i = (around : Around) → bodies_text around i.bodies ≡ inner_text around i.item
+
+abbrev pub TellBodies : List ItemSyn → Type 0
+TellBodies [] = Unit {0}
+TellBodies (i ∷ is) = TellsBodies i × TellBodies is
+
+-- no closure has a parameter `self`
+abbrev pub no_receiver : Syns → Bool
+no_receiver no_syn = true
+no_receiver (a_syn (syn at (SelfParam receiver)) rest) = false
+no_receiver (a_syn first rest) = no_receiver rest
