@@ -2,6 +2,7 @@
 pub mod Closures
 pub mod Collected
 pub mod Functions
+pub mod Headed
 pub mod Inner
 pub mod Meanings
 pub mod Order

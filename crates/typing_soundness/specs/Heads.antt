@@ -12,6 +12,8 @@ use Rattle.typing_rules.specs.Places.{unit}
 use Rattle.typing_rules.specs.Written.{Around}
 use Rattle.src_ast.specs.Syntax.{Word, Syn, syn, MoveOf, ImplItem, FnItem, ParamOf, SelfParam, Syns, no_syn, a_syn, list_of, MaybeSyn, nothing, just}
 use Rattle.typing_soundness.specs.Closures.{BodySyn, Function, Closure, Head, Tape, HasTypes, around_impl, functions_text, function_text}
+use Rattle.well_typed.specs.Claim.{Claim, fact}
+use Rattle.typing_soundness.specs.Shapes.{no_self}
 use Rattle.typing_soundness.specs.Types.{Means}
 
 -- ---- the types of a head
@@ -75,7 +77,6 @@ TellBodies [] = Unit {0}
 TellBodies (i ∷ is) = TellsBodies i × TellBodies is
 
 -- no closure has a parameter `self`
-abbrev pub no_receiver : Syns → Bool
-no_receiver no_syn = true
-no_receiver (a_syn (syn at (SelfParam receiver)) rest) = false
-no_receiver (a_syn first rest) = no_receiver rest
+abbrev pub has_no_self : BodySyn → Claim
+has_no_self (Function head) = fact true
+has_no_self (Closure head) = fact (no_self head.params)

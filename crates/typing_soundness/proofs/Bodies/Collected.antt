@@ -19,7 +19,7 @@ use Rattle.well_typed.specs.Items.{is_equal}
 use Rattle.well_typed.specs.Names.{is_among, built_in}
 use Rattle.typing_rules.specs.Check.{Check, State, Broken, and_then, breaks, obeys, known, each_checked, interned, interned_at}
 use Rattle.typing_rules.specs.Collected as rules
-use Rattle.typing_rules.specs.Items.{ItemSyn, items_of, item_syns, adt_name, adt_names, impl_owner, full_name, closure_name}
+use Rattle.typing_rules.specs.Items.{ItemSyn, items_of, item_syns, adt_name, adt_names, body_paths, impl_owner, full_name, closure_name}
 use Rattle.typing_rules.specs.Places.{unit}
 use Rattle.typing_rules.specs.Written as types
 use Rattle.src_ast.specs.Syntax.{Word, Named, Receiver, ByValue, ByShared, ByUnique, Syn, syn, Shape, NamedType, GenericType, DynType, SelfType, ParensType, TupleType, ArrayType, NeverType, RefType, MoveOf, StructItem, EnumItem, FieldDecl, VariantDecl, TraitItem, ImplItem, FnItem, ParamOf, SelfParam, Syns, no_syn, a_syn, list_of, MaybeSyn, nothing, just}
@@ -123,19 +123,19 @@ module _ (around : types.Around) (items : ItemTable) where
 
 -- ---- what a step of the collection adds
 
-abbrev adt_words : State → List Word
+abbrev pub adt_words : State → List Word
 adt_words s = map (λ (adt : Adt). adt.name) s.items.adts
 
 -- From one state to a later one come heads of these bodies, and structs and enums of these names; closures among the
 -- bodies have the numbers from one up to another.
-record Collects (f : Tape) (ns : List Word) (from to : ℕ) (s t : State) : Type 0 where
-  adts : adt_words t ≡ adt_words s ++ ns
-  types : HaveTypes s.items t.items
-  distinct : AreDistinct s.items.types → AreDistinct t.items.types
-  closures : t.items.closures ≡ s.items.closures
-  new : List Sig
-  heads : t.items.bodies ≡ s.items.bodies ++ new
-  made : (rest : List BodySyn) → AreMade (IsHeadOf t.items) from to (f rest) rest new
+pub record Collects (f : Tape) (ns : List Word) (from to : ℕ) (s t : State) : Type 0 where
+  pub adts : adt_words t ≡ adt_words s ++ ns
+  pub types : HaveTypes s.items t.items
+  pub distinct : AreDistinct s.items.types → AreDistinct t.items.types
+  pub closures : t.items.closures ≡ s.items.closures
+  pub new : List Sig
+  pub heads : t.items.bodies ≡ s.items.bodies ++ new
+  pub made : (rest : List BodySyn) → AreMade (IsHeadOf t.items) from to (f rest) rest new
 
 -- nothing but types
 collects_none : (n : ℕ) (s t : State) → t.items.adts ≡ s.items.adts → HaveTypes s.items t.items → (AreDistinct s.items.types → AreDistinct
@@ -335,7 +335,7 @@ module _ (around : types.Around) where
       )
 
 -- what is known of all items, within an impl or outside
-abbrev all_names : rules.Known → Option Word → types.Around
+abbrev pub all_names : rules.Known → Option Word → types.Around
 all_names k owner = record {
   has_limits = true;
   self_adt = option_and_then (types.number_of k.adts) owner;
@@ -467,7 +467,7 @@ trait_head_still around own (syn at (FnItem name params answer block)) s = by (r
         name.1 (rules.behind_self params) answer t) λ sig u g. walk_ends (onward e g)
 trait_head_still around own (syn at _) s = record { so = tt }
 
-abbrev adt_words_of : Syn → List Word
+abbrev pub adt_words_of : Syn → List Word
 adt_words_of (syn at (StructItem derives name kind fields)) = name.1 ∷ []
 adt_words_of (syn at (EnumItem derives name variants)) = name.1 ∷ []
 adt_words_of _ = []
@@ -509,11 +509,11 @@ item_head_collected k n (syn at _) s = walk_ends (collects_refl n s)
 -- ---- the whole
 
 -- the bodies that are listed for all items, and the names of structs and enums
-abbrev listed_text : rules.Known → List ItemSyn → Tape
+abbrev pub listed_text : rules.Known → List ItemSyn → Tape
 listed_text k [] = no_closure
 listed_text k (i ∷ is) = bodies_text (all_names k (impl_owner i.item)) i.bodies ⨾ listed_text k is
 
-abbrev all_adt_words : List ItemSyn → List Word
+abbrev pub all_adt_words : List ItemSyn → List Word
 all_adt_words [] = []
 all_adt_words (i ∷ is) = adt_words_of i.item ++ all_adt_words is
 
@@ -525,12 +525,12 @@ heads_collected k c (i ∷ is) s =
     d u g. walk_map (heads_collected k d is u) λ _ v f. (f.0, collects_both h (collects_both g f.1))
 
 -- what only makes types and impls
-record SameHeads (s t : State) : Type 0 where
-  types : HaveTypes s.items t.items
-  distinct : AreDistinct s.items.types → AreDistinct t.items.types
-  adts : t.items.adts ≡ s.items.adts
-  closures : t.items.closures ≡ s.items.closures
-  heads : t.items.bodies ≡ s.items.bodies
+pub record SameHeads (s t : State) : Type 0 where
+  pub types : HaveTypes s.items t.items
+  pub distinct : AreDistinct s.items.types → AreDistinct t.items.types
+  pub adts : t.items.adts ≡ s.items.adts
+  pub closures : t.items.closures ≡ s.items.closures
+  pub heads : t.items.bodies ≡ s.items.bodies
 
 same_heads : {s t : State} → SameWalk s t → SameHeads s t
 same_heads e = record {
@@ -605,3 +605,27 @@ pub record AreHeads (parts : Parts Pos) (items : ItemTable) : Type 0 where
   pub count : ℕ
   pub made : AreMade (IsHeadOf items) 0 count (listed_text (rules.known_of (items_of parts)) (items_of parts) []) []
       items.bodies
+
+pub heads_later : (old new : ItemTable) → HaveTypes old new → (from to : ℕ) (texts rest : List BodySyn) (heads : List Sig) →
+    AreMade (IsHeadOf old) from to texts rest heads → AreMade (IsHeadOf new) from to texts rest heads
+heads_later old new e from to texts rest heads =
+    made_map (IsHeadOf old) (IsHeadOf new) (λ closure text head h. head_later old new e closure text head.params
+    head.result h) from to texts rest heads
+
+pub collecting_collects : (is : List ItemSyn) (end : Pos) → Walked (λ _ t. (u : State) × (n : ℕ) × Collects (listed_text
+    (rules.known_of is) is) (all_adt_words is) 0 n (rules.starting_with rules.no_items) u × SameHeads u t)
+    (rules.collecting is end (rules.starting_with rules.no_items))
+collecting_collects is end =
+    walk (names_still (filter_map rules.item_name (item_syns is)) [] start) λ _ t e. walk (heads_collected (rules.known_of
+    is) (record { outer = []; in_outer = 0; closures = 0 }) is t) λ _ u h. walk (impls_same (rules.known_of is) (item_syns
+    is) u) λ _ v f. walk (finite_still 0 (filter_map rules.adt_item (item_syns is)) v) λ _ w g. walk (derive_still 0
+    (filter_map rules.adt_item (item_syns is)) w) λ _ x d. walk_map (obeyed_still Rule.T01 end (is_some (types.number_of
+    (body_paths is) (codes "main"))) x) λ _ y o. (
+      u,
+      h.0,
+      collects_both (collects_still 0 e) h.1,
+      same_both f (same_heads (onward g (onward d o))),
+    )
+  where
+    start : State
+    start = rules.starting_with rules.no_items

@@ -25,7 +25,7 @@ module _ (around : Around) where
   -- ---- one number
 
   module _ (items : ItemTable) (distinct : AreDistinct items.types) where
-    same_type : (a b : TyId) (t u : Ty) → type_at items a ≡ Some t → type_at items b ≡ Some u → t ≡ u → a ≡ b
+    pub same_type : (a b : TyId) (t u : Ty) → type_at items a ≡ Some t → type_at items b ≡ Some u → t ≡ u → a ≡ b
     same_type a b t u at_a at_b e =
         let n = distinct a.0 b.0 u (at_a ∙ ap Some e) at_b in λ i. record { 0 = n i }
 
@@ -40,7 +40,7 @@ module _ (around : Around) where
     tuple_once (t ∷ ts) a b h g = same_type a b (Ty.Tuple (t ∷ ts)) (Ty.Tuple (t ∷ ts)) h g refl
 
     mutual
-      means_once : (x : Syn) (a b : TyId) → Means around items x a → Means around items x b → a ≡ b
+      pub means_once : (x : Syn) (a b : TyId) → Means around items x a → Means around items x b → a ≡ b
       means_once (syn at form) a b h g = form_once form a b h g
 
       form_once : (form : Shape) (a b : TyId) → MeansForm around items form a → MeansForm around items form b → a ≡ b

@@ -245,15 +245,15 @@ bodies_typed parts items p c e =
 
 -- ---- programs
 
-abbrev first_of : List ℕ → ℕ
+abbrev pub first_of : List ℕ → ℕ
 first_of [] = 0
 first_of (n ∷ ns) = n
 
-abbrev others_of : List ℕ → List ℕ
+abbrev pub others_of : List ℕ → List ℕ
 others_of [] = []
 others_of (n ∷ ns) = ns
 
-heads_typed : (items : ItemTable) (n : ℕ) (heads : List Sig) (bs : List BodyTree) → ((k : ℕ) (head : Sig) → slice_get
+pub heads_typed : (items : ItemTable) (n : ℕ) (heads : List Sig) (bs : List BodyTree) → ((k : ℕ) (head : Sig) → slice_get
     heads k ≡ Some head → slice_get items.bodies (n + k) ≡ Some head) → ((body : BodyTree) → Contains bs body → IsBodyIn
     items body) → map (λ (b : BodyTree). b.number) bs ≡ counted n (length bs) → HaveHeads heads bs → Holds (are_bodies
     items n heads bs)
@@ -267,12 +267,3 @@ heads_typed items n (head ∷ heads) (body ∷ bs) at good order h =
     )
 heads_typed items n [] (body ∷ bs) at good order h = absurd h
 heads_typed items n (head ∷ heads) [] at good order h = absurd h
-
-pub programs_typed : (parts : Parts Pos) (items : ItemTable) (p : ProgramTree) → AreCollected parts items →
-    rules.checked parts items ≡ Ok p → Holds (are_items p.items) → AreClosures p.items → HaveHeads p.items.bodies
-    p.bodies → WellTyped p
-programs_typed parts items p c e are heads have = (
-  are,
-  heads_typed p.items 0 p.items.bodies p.bodies (λ k head is. ap (slice_get p.items.bodies) (omega arith) ∙ is)
-      ((bodies_typed parts items p c e).2 heads) (bodies_in_order parts items p e) have,
-)

@@ -66,7 +66,7 @@ pub on_same : {f : Tape} {s t u : State} {xs : List Node} → SameWalk t u → W
 on_same {u = u} e p = walks_same u e.number e.breaks e.stays p
 
 -- a type that is new
-with_type_distinct : (ty : Ty) (tys : List Ty) → ((k : ℕ) → slice_get tys k ≡ Some ty → ⊥) → AreDistinct tys → AreDistinct
+pub with_type_distinct : (ty : Ty) (tys : List Ty) → ((k : ℕ) → slice_get tys k ≡ Some ty → ⊥) → AreDistinct tys → AreDistinct
     (tys ++ ty ∷ [])
 with_type_distinct ty tys absent all i j t a b =
     by (slice_get-push_cases tys ty i t a) (slice_get-push_cases tys ty j t b)
