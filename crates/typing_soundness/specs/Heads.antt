@@ -1,17 +1,14 @@
 -- The heads that are collected for the bodies of a text, before any body is looked at.
-use Rattle.std.specs.Prelude.{◌≡◌, ℕ, Bool, true, false, List, [], ◌∷◌, map, Option, Some, None}
-use Rattle.mir_base.specs.declared.place_in_text.Pos.{Pos}
-use Rattle.mir_ty.specs.declared.adt.Adt.{Adt}
+use Rattle.std.specs.Prelude.{◌≡◌, ℕ, true, List, [], ◌∷◌, Some}
 use Rattle.mir_ty.specs.declared.def.Sig.{Sig}
 use Rattle.mir_ty.specs.declared.ty.Ty.{Ty}
 use Rattle.mir_ty.specs.declared.ty.TyId.{TyId}
 use Rattle.mir_ty.specs.ItemTable.{ItemTable, type_at}
-use Rattle.src_tree.specs.Layout.{Parts}
-use Rattle.typing_rules.specs.Items.{ItemSyn, items_of, impl_owner}
+use Rattle.typing_rules.specs.Items.{ItemSyn}
 use Rattle.typing_rules.specs.Places.{unit}
 use Rattle.typing_rules.specs.Written.{Around}
-use Rattle.src_ast.specs.Syntax.{Word, Syn, syn, MoveOf, ImplItem, FnItem, ParamOf, SelfParam, Syns, no_syn, a_syn, list_of, MaybeSyn, nothing, just}
-use Rattle.typing_soundness.specs.Closures.{BodySyn, Function, Closure, Head, Tape, HasTypes, around_impl, functions_text, function_text}
+use Rattle.src_ast.specs.Syntax.{Syn, syn, MoveOf, ImplItem, FnItem, ParamOf, Syns, no_syn, a_syn, list_of, MaybeSyn, nothing, just}
+use Rattle.typing_soundness.specs.Closures.{BodySyn, Function, Closure, Tape, HasTypes, functions_text, function_text}
 use Rattle.well_typed.specs.Claim.{Claim, fact}
 use Rattle.typing_soundness.specs.Shapes.{no_self}
 use Rattle.typing_soundness.specs.Types.{Means}

@@ -14,7 +14,6 @@ use Rattle.typing_rules.specs.Rows.{Expected, ty_carried}
 use Rattle.typing_rules.specs.Scope.{Env}
 use Rattle.typing_rules.specs.Typed.{typed}
 use Rattle.typing_rules.specs.Bodies.{all_rules}
-use Rattle.typing_rules.specs.Written.{Around}
 use Rattle.src_ast.specs.Syntax.{Syn}
 use Rattle.typing_soundness.specs.Closures.{Tape, closures_of, Met}
 

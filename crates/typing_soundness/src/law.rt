@@ -2,7 +2,10 @@
 ghost use Rattle.typing_soundness.specs.Expressions.{Loops, Paths, Callees, AreSound, Closures, Functions};
 ghost use Rattle.typing_soundness.specs.Numbers.{StaysTyped, AreInOrder};
 ghost use Rattle.typing_soundness.specs.Program.{
-    AreInTextOrder, BodiesAreTyped, BodiesHaveHeads, ProgramsAreTyped,
+  AreInTextOrder,
+  BodiesAreTyped,
+  BodiesHaveHeads,
+  ProgramsAreTyped,
 };
 ghost use Rattle.typing_soundness.specs.Types.{OneNumber, OneParamNumber};
 ghost use Rattle.typing_soundness.specs.Walks.{Expressions, Patterns};

@@ -1,15 +1,13 @@
 -- Each body of a typed text has its own head, and each closure its own body.
-use Rattle.std.proofs.Common.{◌≡◌, ℕ, zero, suc, ◌+◌, ◌<◌, ◌≤◌, Bool, true, false, cond, not, nat_lt, if◌then◌else◌, List, [], ◌∷◌, ◌++◌, map, length, take, slice_get, Option, Some, None, Result, Ok, Err, IsTrue, ◌⊎◌, inl, inr, refl, ap, sym, subst, ◌∙◌, arith}
-use Rattle.std.specs.Prelude.{is_some, codes}
+use Rattle.std.proofs.Common.{◌≡◌, ℕ, zero, suc, ◌+◌, ◌<◌, ◌≤◌, Bool, true, false, cond, not, nat_lt, if◌then◌else◌, List, [], ◌∷◌, ◌++◌, map, length, take, slice_get, Some, None, Result, Ok, Err, IsTrue, ◌⊎◌, inl, inr, refl, ap, sym, subst, ◌∙◌, arith}
 use Rattle.std.specs.Cmp.Lexicographic.{nat_list_eq_equiv}
-use Rattle.std.specs.List.{position as position_of, prefix_len, filter_map}
+use Rattle.std.specs.List.{position as position_of, prefix_len}
 use Rattle.std.specs.Str.{bytes_eq}
 use Rattle.std.proofs.lemmas.Bool.{false≢true, cases_order}
 use Rattle.std.proofs.lemmas.List.{length-map}
 use Rattle.std.proofs.lemmas.Option.{same_Some, none-some, slice_get_within}
 use Rattle.mir_base.specs.declared.int_kind.IntKind.{IntKind}
 use Rattle.mir_base.specs.declared.place_in_text.Pos.{Pos}
-use Rattle.mir_base.specs.declared.rule.Rule.{Rule}
 use Rattle.mir_ty.specs.AreItems.{AreDistinct}
 use Rattle.mir_ty.specs.declared.adt.Adt.{Adt}
 use Rattle.mir_ty.specs.declared.def.ClosureDef.{ClosureDef}
@@ -25,18 +23,17 @@ use Rattle.well_typed.specs.Program.{WellTyped}
 use Rattle.typing_rules.specs.Bodies.{all_rules}
 use Rattle.typing_rules.specs.Check.{State, Broken}
 use Rattle.typing_rules.specs.Collected as rules
-use Rattle.typing_rules.specs.Items.{ItemSyn, items_of, item_syns, adt_name, adt_names, trait_names, impl_owner}
+use Rattle.typing_rules.specs.Items.{ItemSyn, items_of, item_syns, adt_names, impl_owner}
 use Rattle.typing_rules.specs.Places.{scalars}
 use Rattle.typing_rules.specs.Program.{checked, outermost}
 use Rattle.typing_rules.specs.Promises.{AreClosures}
 use Rattle.typing_rules.specs.Written as types
-use Rattle.src_ast.specs.Syntax.{Word, Named, Receiver, ByValue, ByShared, ByUnique, Syn, syn, Shape, Minus, Bang, Star, Ampersand, Calculate, Compare, Both, Either, Store, CallOf, MethodOf, FieldOf, PartOf, ElementOf, StructOf, FieldInit, Parens, TupleOf, ArrayOf, Braces, IfElse, IfLetElse, MatchOn, ArmOf, LoopOf, WhileOf, WhileLetOf, BreakOf, ReturnOf, MoveOf, LetOf, Semi, StructItem, EnumItem, TraitItem, ImplItem, FnItem, ParamOf, SelfParam, Syns, no_syn, a_syn, list_of, MaybeSyn, nothing, just}
+use Rattle.src_ast.specs.Syntax.{Word, Receiver, ByValue, ByShared, ByUnique, Syn, syn, Shape, Minus, Bang, Star, Ampersand, Calculate, Compare, Both, Either, Store, CallOf, MethodOf, FieldOf, PartOf, ElementOf, StructOf, FieldInit, Parens, TupleOf, ArrayOf, Braces, IfElse, IfLetElse, MatchOn, ArmOf, LoopOf, WhileOf, WhileLetOf, BreakOf, ReturnOf, MoveOf, LetOf, Semi, StructItem, EnumItem, ImplItem, FnItem, ParamOf, SelfParam, Syns, no_syn, a_syn, list_of, MaybeSyn, nothing, just}
 use Rattle.typing_rules.proofs.Sound.Interned.{not_there}
-use Rattle.typing_soundness.specs.Closures.{BodySyn, Function, Closure, Head, Tape, IsReceiver, MeansParam, MeanParams, MeansAnswer, HasTypes, AreTypesOf, HasBody, IsBodyOf, AreMade, Met, types_of, behind, closures_of, closures_in, closures_among, closures_if_any, function_text, functions_text, around_impl, item_text, items_text, program_text}
-use Rattle.typing_soundness.specs.Heads.{MeansIfAny, MeansClosureParam, MeanClosureParams, MeansClosureAnswer, AreHeadTypes, IsHeadOf, bodies_text, inner_text, TellsBodies, TellBodies, has_no_self}
+use Rattle.typing_soundness.specs.Closures.{BodySyn, Function, Closure, Head, Tape, IsReceiver, MeansParam, MeanParams, MeansAnswer, AreTypesOf, IsBodyOf, AreMade, Met, types_of, behind, closures_of, closures_in, closures_among, closures_if_any, function_text, functions_text, around_impl, item_text, items_text, program_text}
+use Rattle.typing_soundness.specs.Heads.{MeanClosureParams, MeansClosureAnswer, AreHeadTypes, IsHeadOf, inner_text, TellBodies, has_no_self}
 use Rattle.typing_soundness.specs.Program.{AreCollected, HaveHeads}
 use Rattle.typing_soundness.specs.Shapes.{shaped, shaped_form, all_shaped, maybe_shaped, body_shaped, function_shaped, item_shaped, no_self}
-use Rattle.typing_soundness.specs.Types.{HaveTypes, Means}
 use Rattle.typing_soundness.specs.Walks.{Walked}
 use Rattle.typing_soundness.proofs.Bodies.Collected as collected
 use Rattle.typing_soundness.proofs.Bodies.Collected.{AreHeads, SameHeads, all_names, listed_text, all_adt_words, adt_words_of, Collects}
@@ -44,10 +41,7 @@ use Rattle.typing_soundness.proofs.Bodies.Meanings.{same_type, means_once}
 use Rattle.typing_soundness.specs.Walks.{counted}
 use Rattle.typing_soundness.proofs.Bodies.Order.{walk_adds, bodies_in_order}
 use Rattle.typing_soundness.proofs.Bodies.Program.{first_of, others_of, bodies_typed, heads_typed}
-use Rattle.typing_soundness.proofs.Walking.Later.{made_map}
-use Rattle.typing_soundness.proofs.Walking.Params.{onward}
-use Rattle.typing_soundness.proofs.Walking.Rows.{no_closure, ◌⨾◌}
-use Rattle.typing_soundness.proofs.Walking.Steps.{walk, walk_map, with_type_distinct}
+use Rattle.typing_soundness.proofs.Walking.Steps.{with_type_distinct}
 
 -- ---- no closure has a parameter `self`
 
@@ -156,23 +150,23 @@ number_found words adts name is =
     position_of (λ (adt : Adt). nat_list_eq_equiv.symm name adt.name i) adts))
 
 module _ (all : List ItemSyn) (adts : List Adt) (words : map (λ (adt : Adt). adt.name) adts ≡ adt_names (item_syns all))
-    where
-  abbrev outer : types.Around
-  outer = all_rules (outermost (item_syns all))
+  where
+    abbrev outer : types.Around
+    outer = all_rules (outermost (item_syns all))
 
-  item_listed : (i : Syn) → inner_text (all_names (rules.known_of all) (impl_owner i)) i ≡ item_text outer adts i
-  item_listed (syn at (ImplItem trait_ name methods)) =
-      λ j. functions_text (record outer { self_adt = number_found (adt_names (item_syns all)) adts name.1 words j })
-      (list_of methods)
-  item_listed (syn at (FnItem name params answer block)) = refl
-  item_listed (syn at _) = refl
+    item_listed : (i : Syn) → inner_text (all_names (rules.known_of all) (impl_owner i)) i ≡ item_text outer adts i
+    item_listed (syn at (ImplItem trait_ name methods)) =
+        λ j. functions_text (record outer { self_adt = number_found (adt_names (item_syns all)) adts name.1 words j })
+        (list_of methods)
+    item_listed (syn at (FnItem name params answer block)) = refl
+    item_listed (syn at _) = refl
 
-  items_listed : (is : List ItemSyn) → TellBodies is → listed_text (rules.known_of all) is ≡ items_text outer adts
-      (item_syns is)
-  items_listed [] h = refl
-  items_listed (i ∷ is) h =
-      λ j. λ rest. (h.0 (all_names (rules.known_of all) (impl_owner i.item)) ∙ item_listed i.item) j (items_listed is h.1
-      j rest)
+    items_listed : (is : List ItemSyn) → TellBodies is → listed_text (rules.known_of all) is ≡ items_text outer adts
+        (item_syns is)
+    items_listed [] h = refl
+    items_listed (i ∷ is) h =
+        λ j. λ rest. (h.0 (all_names (rules.known_of all) (impl_owner i.item)) ∙ item_listed i.item) j (items_listed is h.1
+        j rest)
 
 words_with : (x : Syn) (is : List ItemSyn) → all_adt_words is ≡ adt_names (item_syns is) → adt_words_of x ++ all_adt_words is
     ≡ adt_names (x ∷ item_syns is)
@@ -248,7 +242,7 @@ module _ (items : ItemTable) (distinct : AreDistinct items.types) where
   head_once closure (Closure head) plain (self ∷ params) answer [] result h g = absurd g
   head_once closure (Closure head) plain (self ∷ params) answer (own ∷ tys) result h g =
       let one : own ≡ self = same_type head.around items distinct own self (Ty.Closure closure) (Ty.Closure closure) g.0 h.0
-          refl in
+      refl in
       let others : params ≡ tys = closure_params_once head.around head.params plain params tys h.1.0 g.1 in (
         λ i. one i ∷ sym others i,
         sym (closure_answer_once head.around head.answer answer result h.1.1 g.2),
@@ -430,9 +424,9 @@ closures_headed : (p : ProgramTree) → IsHeaded p → map (λ (b : BodyTree). b
     → AreClosures p.items
 closures_headed p h order k def head at_k at_head =
     let f = made_closure p.items k 0 (length p.items.closures) h.texts [] p.bodies (omega arith) (slice_get_within
-        p.items.closures k def at_k) h.made in
+    p.items.closures k def at_k) h.made in
     let b : def.body ≡ f.0 = ap (λ (d : ClosureDef). d.body) (same_Some def f.4.1.0 (sym at_k ∙ f.4.1.1)) ∙ (f.4.1.2 ∙
-        own_place p.bodies f.0 f.1 order f.3) in
+    own_place p.bodies f.0 f.1 order f.3) in
     let e = have_at p.items.bodies p.bodies f.0 head f.1 h.heads (ap (slice_get p.items.bodies) (sym b) ∙ at_head) f.3 in
     begins (types_of f.1) f.2 f.1.answer f.4.0 e
   where

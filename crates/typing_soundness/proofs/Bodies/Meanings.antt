@@ -11,7 +11,6 @@ use Rattle.mir_ty.specs.ItemTable.{ItemTable, type_at}
 use Rattle.mir_ty.proofs.ListLemmas.{slice_get-append_left, slice_get-last}
 use Rattle.well_typed.specs.Items.{is_equal}
 use Rattle.typing_rules.specs.Check.{State, Broken, interned, interned_at}
-use Rattle.typing_rules.specs.Places.{unit, never}
 use Rattle.typing_rules.specs.Written as rules
 use Rattle.typing_rules.specs.Written.{Around}
 use Rattle.src_ast.specs.Syntax.{Syn, syn, Shape, NamedType, GenericType, DynType, SelfType, ParensType, TupleType, ArrayType, NeverType, RefType, Syns, no_syn, a_syn}

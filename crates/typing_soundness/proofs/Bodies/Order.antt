@@ -280,8 +280,12 @@ module _ (env : Env) (params : Syns) (answer : MaybeSyn) (block : MaybeSyn) wher
   function_keeps at s =
       walk_map (body_added {Q = IsOf (bodies.all_rules env) params answer [] (closures_if_any (bodies.all_rules env)
       block) (record s' { bodies = []; next_node = 0; breaks = [] })} s.next_body (in_function env at s.next_body params
-      answer (rules.block_of block at)) s' (function_inner env at s.next_body params answer block (record s' { bodies =
-      []; next_node = 0; breaks = [] }))) λ b v added. added_text s v added
+      answer (rules.block_of block at)) s' (function_inner env at s.next_body params answer block (record s' {
+        bodies =
+            [];
+        next_node = 0;
+        breaks = [];
+      }))) λ b v added. added_text s v added
     where
       s' : State
       s' = record s { next_body = suc s.next_body }

@@ -18,9 +18,8 @@ use Rattle.typing_rules.specs.Program as rules
 use Rattle.typing_rules.specs.Promises.{AreReady, AreClosures, IsBodyIn, IsWhole, Extends, Grows, Gives, KnowsItems}
 use Rattle.typing_rules.specs.Scope.{Env, Entry, adt_named, body_named}
 use Rattle.typing_rules.specs.Written as types
-use Rattle.well_typed.specs.Items.{are_items}
 use Rattle.well_typed.specs.Names.{is_among}
-use Rattle.well_typed.specs.Program.{WellTyped, are_bodies, is_body}
+use Rattle.well_typed.specs.Program.{are_bodies, is_body}
 use Rattle.typing_soundness.specs.Program.{AreCollected, HaveHeads}
 use Rattle.src_ast.specs.Syntax.{Word, Named, Kind, Syn, syn, StructItem, EnumItem, FieldDecl, VariantDecl, TraitItem, ImplItem, FnItem, SelfParam, Syns, no_syn, a_syn, list_of, MaybeSyn, nothing, just}
 use Rattle.typing_rules.proofs.Sound.Gives.{bind, weaker, obeyed, given, then_map, grows_trans, items_later}
@@ -33,7 +32,7 @@ use Rattle.typing_soundness.proofs.Bodies.Inner.{inner_state, new_body_sound, an
 use Rattle.typing_soundness.proofs.Bodies.Params.{params_bound}
 use Rattle.typing_soundness.proofs.Bodies.Types.{written_param_sound}
 use Rattle.typing_soundness.specs.Walks.{counted}
-use Rattle.typing_soundness.proofs.Bodies.Order.{same_ok, no_ok, bodies_in_order}
+use Rattle.typing_soundness.proofs.Bodies.Order.{same_ok, no_ok}
 use Rattle.typing_soundness.proofs.Sound.Names.{found_there}
 
 -- a check that only adds what is well typed

@@ -249,18 +249,19 @@ pub record IsAdded (n : ℕ) (Q : BodyTree → State → Type 0) (s t : State) :
 
 pub body_added : {Q : BodyTree → State → Type 0} (n : ℕ) (check : Check BodyTree) (s : State) → Walked (λ b t. (b.number
     ≡ n) × Ordered (record s { bodies = []; next_node = 0; breaks = [] }) t × Q b t) (check (record s {
-  bodies = [];
-  next_node = 0;
-  breaks = [];
-})) → Walked (λ b t. IsAdded n Q s t) (with_body (λ b. b) (in_new_body check) s)
+      bodies = [];
+      next_node = 0;
+      breaks = [];
+    })) → Walked (λ b t. IsAdded n Q s t) (with_body (λ b. b) (in_new_body check) s)
 body_added {Q} n check s h = by (check (record s { bodies = []; next_node = 0; breaks = [] })) h
   where
     by : (r : Result (BodyTree × State) Broken) → Walked (λ b t. (b.number ≡ n) × Ordered (record s {
       bodies = [];
       next_node = 0;
       breaks = [];
-    }) t × Q b t) r → Walked (λ b t. IsAdded n Q s t) (put_before s.bodies (λ b. b) (within_body (record s { bodies = []
-        }) r))
+    }) t × Q b t) r → Walked (λ b t. IsAdded n Q s t) (put_before s.bodies (λ b. b) (within_body (record s {
+      bodies = [];
+    }) r))
     by (Ok a) h =
         walk_ends (record {
           number = refl;
@@ -322,10 +323,10 @@ closure_met : {f : Tape} (n : ℕ) (s t u v : State) (around : types.Around) (pa
     u.items.types) → u.items.adts ≡ t.items.adts → u.items.bodies ≡ t.items.bodies →
     u.bodies ≡ t.bodies → u.items.closures ≡ t.items.closures ++ def ∷ [] → type_at u.items ty ≡ Some
     (Ty.Closure (length t.items.closures)) → IsAdded n (IsOf around params answer (ty ∷ []) f (record u {
-  bodies = [];
-  next_node = 0;
-  breaks = [];
-})) u v → Met (λ rest. Closure (record { around = around; params = params; answer = answer }) ∷ f rest) s v
+      bodies = [];
+      next_node = 0;
+      breaks = [];
+    })) u v → Met (λ rest. Closure (record { around = around; params = params; answer = answer }) ∷ f rest) s v
 closure_met {f} n s t u v around params answer ty def at_n stays types_u distinct_u adts_u heads_u bodies_u closures_u is_ty added =
     record {
       types = λ n x h. later n x (inner.types n x (types_u n x (stays.types n x h)));

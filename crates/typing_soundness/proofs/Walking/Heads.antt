@@ -1,27 +1,22 @@
 -- The types of a body mean what is written.
-use Rattle.std.proofs.Common.{◌≡◌, ℕ, ◌||◌, not, List, [], ◌∷◌, ◌++◌, map, Option, Some, None, Ok, refl, ap}
-use Rattle.std.specs.List.{position as position_of}
+use Rattle.std.proofs.Common.{◌≡◌, ℕ, ◌||◌, not, List, [], ◌∷◌, map, Some, refl, ap}
 use Rattle.mir_base.specs.declared.place_in_text.Pos.{Pos}
 use Rattle.mir_base.specs.declared.rule.Rule.{Rule}
 use Rattle.mir_ty.specs.declared.ty.Ty.{Ty}
 use Rattle.mir_ty.specs.declared.ty.TyId.{TyId}
 use Rattle.mir_ty.specs.ItemTable.{ItemTable, type_at}
-use Rattle.mir_ty.proofs.ListLemmas.{slice_get-last}
-use Rattle.typed_tree.specs.Tree.{Node, ParamTree, BodyTree}
-use Rattle.well_typed.specs.Items.{is_equal}
+use Rattle.typed_tree.specs.Tree.{ParamTree}
 use Rattle.well_typed.specs.Types.{is_reference}
 use Rattle.typing_rules.specs.Bodies as bodies
 use Rattle.typing_rules.specs.Bodies.{param_expected, is_name_or_wildcard}
-use Rattle.typing_rules.specs.Check.{Check, State, and_then, interned, interned_at}
-use Rattle.typing_rules.specs.Numbered.{param_renumbered, in_text_order}
+use Rattle.typing_rules.specs.Check.{Check, State}
+use Rattle.typing_rules.specs.Numbered.{param_renumbered}
 use Rattle.typing_rules.specs.Scope.{Env, Entry}
 use Rattle.src_ast.specs.Syntax.{Receiver, ByValue, ByShared, ByUnique, Syn, syn, ParamOf, SelfParam, Syns, no_syn, a_syn, MaybeSyn, nothing, just}
-use Rattle.typing_rules.proofs.Sound.Interned.{found_at}
-use Rattle.typing_soundness.specs.Closures.{IsReceiver, MeansParam, MeanParams, MeansAnswer, types_of}
+use Rattle.typing_soundness.specs.Closures.{IsReceiver, MeansParam, MeanParams, MeansAnswer}
 use Rattle.typing_soundness.specs.Types.{HaveTypes, Means}
 use Rattle.typing_soundness.specs.Walks.{Walked}
 use Rattle.typing_soundness.proofs.Bodies.Meanings.{have_refl, interned_means, written_given}
-use Rattle.typing_soundness.proofs.Walking.Adding.{stays_refl}
 use Rattle.typing_soundness.proofs.Walking.Later.{means_later, param_later}
 use Rattle.typing_soundness.proofs.Walking.Patterns.{pattern_walks}
 use Rattle.typing_soundness.proofs.Walking.Steps.{walk, walk_map, walk_obeyed, walk_found, walk_ends}

@@ -1,9 +1,9 @@
 -- What types mean among later items, and so of which texts bodies are made.
-use Rattle.std.proofs.Common.{◌≡◌, ℕ, suc, ◌+◌, List, [], ◌∷◌, ◌++◌, length, Option, Some, None, refl, ap, sym, subst, ◌∙◌}
-use Rattle.std.proofs.lemmas.List.{append_assoc, append-nil}
+use Rattle.std.proofs.Common.{ℕ, List, [], ◌∷◌, ◌++◌, length, Option, Some, None, ap, sym, subst, ◌∙◌}
+use Rattle.std.proofs.lemmas.List.{append_assoc}
 use Rattle.mir_ty.specs.declared.ty.Ty.{Ty}
 use Rattle.mir_ty.specs.declared.ty.TyId.{TyId}
-use Rattle.mir_ty.specs.ItemTable.{ItemTable, type_at}
+use Rattle.mir_ty.specs.ItemTable.{ItemTable}
 use Rattle.typed_tree.specs.Tree.{BodyTree}
 use Rattle.typing_rules.specs.Check.{State}
 use Rattle.typing_rules.specs.Written as rules

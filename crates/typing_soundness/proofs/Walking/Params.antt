@@ -1,6 +1,5 @@
 -- Written types and parameters in a walk.
 use Rattle.std.proofs.Common.{ℕ, Bool, ◌||◌, not, nat_le, List, [], ◌∷◌, length, Option, Some, None, refl, ◌∙◌}
-use Rattle.std.specs.List.{position as position_of}
 use Rattle.mir_base.specs.declared.place_in_text.Pos.{Pos}
 use Rattle.mir_base.specs.declared.rule.Rule.{Rule}
 use Rattle.mir_ty.specs.declared.ty.Ty.{Ty}
@@ -8,11 +7,10 @@ use Rattle.mir_ty.specs.declared.ty.TyId.{TyId}
 use Rattle.typed_tree.specs.Nodes.{nodes_of, param_nodes}
 use Rattle.typed_tree.specs.Tree as tree
 use Rattle.typed_tree.specs.Tree.{Node, BodyTree}
-use Rattle.well_typed.specs.Items.{is_equal}
 use Rattle.well_typed.specs.Types.{is_reference}
 use Rattle.typing_rules.specs.Bodies as bodies
 use Rattle.typing_rules.specs.Bodies.{param_expected, is_name_or_wildcard}
-use Rattle.typing_rules.specs.Check.{Check, State, interned, interned_at, ◌>>=◌}
+use Rattle.typing_rules.specs.Check.{Check, State, interned, ◌>>=◌}
 use Rattle.typing_rules.specs.Rows.{Typer}
 use Rattle.typing_rules.specs.Scope.{Env, Entry}
 use Rattle.typing_rules.specs.Written as types

@@ -165,6 +165,7 @@ operands_walk true (Some ty) left right alone good_l good_r s =
     v)
 operands_walk false want left right alone good_l good_r s =
     walk (good_l want s) λ l t w. walk (good_r (rows.if_int t.items (ty_of l)) t) λ r u v. walk_ends (walks_both w v)
+
 pub arithmetic_walks : {f g : Tape} (at : Pos) (operator : Math) (is_literal : Bool) (left right : Typer) → (IsTrue is_literal → f ≡ no_closure) → WalksTyper f left →
     WalksTyper g right → WalksTyper (f ⨾ g) (rows.arithmetic at operator is_literal left right)
 arithmetic_walks at operator is_literal left right alone good_l good_r want s =
@@ -473,8 +474,10 @@ break_walks {f} at to value good want s =
     walk (good _ (numbered s)) λ v t w. walk_found Rule.T06 at to _ λ a is. walk_obeyed Rule.T06 at (rows.may_carry v a) _ λ _.
     walk_settled want (a_node_of s.next_node at never (Break a.loop v)) (carries v a.loop t (walks_node at never None (Break a.loop v) w))
   where
-    broken_off : (t : State) (loop : ℕ) (v : MaybeNode) → Stays t (record t { breaks = t.breaks ++ (loop, ty_carried v) ∷
-        [] })
+    broken_off : (t : State) (loop : ℕ) (v : MaybeNode) → Stays t (record t {
+      breaks = t.breaks ++ (loop, ty_carried v) ∷
+          [];
+    })
     broken_off t loop v = record { types = λ n ty h. h; distinct = λ h. h; adts = refl; heads = refl; next_body = refl; bodies = refl; closures = refl }
 
     carries : (v : MaybeNode) (loop : ℕ) (t : State) → Walks f s t (nodes_of (node s.next_node at never None (Break loop
@@ -538,8 +541,11 @@ pub let_walks : {f : Tape} (P : Env → Type 0) (at : Pos) (env : Env) (one : Bo
     (rows.let_row at env one written value matcher behind s)
 let_walks P at env one written value matcher behind stays good_w good_v good_m s =
     walk (good_w (numbered s)) λ ty t e. walk (good_v ty t) λ v u w. walk_found Rule.T16 at (rows.let_ty ty v) _ λ t is. walk (good_m _ _
-    u) λ p x y. walk_ends (walks_node at unit None (tree.Let p.0 v) (walks_both (on_same e (walks_none (numbered s)))
-    (walks_swapped w y)), stays p.1)
+    u) λ p x y. walk_ends (
+      walks_node at unit None (tree.Let p.0 v) (walks_both (on_same e (walks_none (numbered s)))
+          (walks_swapped w y)),
+      stays p.1,
+    )
 
 pub evaluate_walks : {f : Tape} (P : Env → Type 0) (at : Pos) (env : Env) (has_semicolon : Bool) (e : Typer) → P env → WalksTyper f e → (s : State) →
     Walked (λ done t. Walks f s t (nodes_of done.0) × P done.2) (rows.evaluate at env has_semicolon e s)

@@ -78,8 +78,10 @@ with_type_distinct ty tys absent all i j t a b =
     by (inr a) (inl b) = absurd (absent j (b ∙ ap Some (sym a.1)))
     by (inr a) (inr b) = a.0 ∙ sym b.0
 
-with_type_stays : (ty : Ty) (s : State) → position_of (is_equal ty) s.items.types ≡ None → Stays s (record s { items =
-    with_type s.items ty })
+with_type_stays : (ty : Ty) (s : State) → position_of (is_equal ty) s.items.types ≡ None → Stays s (record s {
+  items =
+      with_type s.items ty;
+})
 with_type_stays ty s is = record {
   types = λ n t h. slice_get-append_left s.items.types (ty ∷ []) n t h;
   distinct = with_type_distinct ty s.items.types (not_there ty s.items.types is);
