@@ -3,6 +3,7 @@ pub mod Adding
 pub mod Expressions
 pub mod Heads
 pub mod Later
+pub mod Lawful
 pub mod Params
 pub mod Patterns
 pub mod Rows
