@@ -8,5 +8,6 @@ pub mod Meanings
 pub mod Order
 pub mod Params
 pub mod Program
+pub mod Ready
 pub mod Types
 pub mod Whole

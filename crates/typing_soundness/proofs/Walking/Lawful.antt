@@ -57,7 +57,7 @@ module _ (around : types.Around) where
         walk (whatever {P = Unit {0}} (types.written full to s) tt) λ ty t _. record { so = tt }
     form_is_legal at _ s = record { so = tt }
 
-    all_are_legal : (xs : Syns) (s : State) → Walked (λ tys t. IsTrue (all_legal xs) × (length tys ≡ length (list_of xs)))
+    pub all_are_legal : (xs : Syns) (s : State) → Walked (λ tys t. IsTrue (all_legal xs) × (length tys ≡ length (list_of xs)))
         (types.all_written full xs s)
     all_are_legal no_syn s = walk_ends (refl, refl)
     all_are_legal (a_syn first rest) s =
