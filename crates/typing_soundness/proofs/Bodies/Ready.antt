@@ -22,6 +22,7 @@ use Rattle.typing_rules.specs.Collected as rules
 use Rattle.well_typed.specs.Types.{closure_in, reference_in, is_reference}
 use Rattle.typing_rules.specs.Program.{behind_self}
 use Rattle.typing_rules.proofs.Sound.References.{reference_made}
+use Rattle.typing_rules.proofs.Sound.Written.{dyn_made}
 use Rattle.typing_rules.specs.Places.{unit, scalars}
 use Rattle.typing_rules.specs.Promises.{IsAlone, IsKnown, IsReady, IsThere, AreReady, Gives, Extends}
 use Rattle.typing_rules.specs.Written as types
@@ -350,7 +351,8 @@ module _ (items : ItemTable) (adt : Adt) (all : AreReady items) (h : AreFields i
       parts_at id part variant n None at is = absurd (none-some part is)
       parts_at id part variant n (Some ty) at is = part_of ty id part variant n at is
 
-ready_with_trait : (items : ItemTable) (def : TraitDef) → AreReady items → All (HasParams items) def.methods → AreReady
+ready_with_trait : (items : ItemTable) (def : TraitDef) → AreReady items → All (λ sig. All (IsKnown items)
+    sig.params × IsPlain items sig.result) def.methods → AreReady
     (with_trait items def)
 ready_with_trait items def all h = record {
   begins = all.begins;
@@ -366,9 +368,10 @@ ready_with_trait items def all h = record {
   method_params = λ n k d sig ty at is has. param_by n k d sig ty is has (slice_get-push_cases items.traits def n d at);
 }
   where
-    method : (d : TraitDef) (k : ℕ) (sig : Sig) → def ≡ d → slice_get d.methods k ≡ Some sig → HasParams items sig
+    method : (d : TraitDef) (k : ℕ) (sig : Sig) → def ≡ d → slice_get d.methods k ≡ Some sig → All (IsKnown items)
+        sig.params × IsPlain items sig.result
     method d k sig same is =
-        all_at (HasParams items) def.methods k sig h (ap (λ (x : TraitDef). slice_get x.methods k) same ∙ is)
+        all_at (λ x. All (IsKnown items) x.params × IsPlain items x.result) def.methods k sig h (ap (λ (x : TraitDef). slice_get x.methods k) same ∙ is)
 
     by : (n k : ℕ) (d : TraitDef) (sig : Sig) → slice_get d.methods k ≡ Some sig → (slice_get items.traits n ≡ Some d) ⊎ ((n
         ≡ length items.traits) × (def ≡ d)) → IsAlone items sig.result
@@ -379,7 +382,7 @@ ready_with_trait items def all h = record {
         (slice_get items.traits n ≡ Some d) ⊎ ((n ≡ length items.traits) × (def ≡ d)) → IsKnown items ty
     param_by n k d sig ty is has (inl at) = all.method_params n k d sig ty at is has
     param_by n k d sig ty is has (inr last) =
-        let p = all_in (IsParamTy items) sig.params ty (method d k sig last.1 is).0 has in (p.0, p.1)
+        all_in (IsKnown items) sig.params ty (method d k sig last.1 is).0 has
 
 ready_with_body : (items : ItemTable) (sig : Sig) → AreReady items → All (IsKnown items) sig.params → IsAlone items sig.result
     → AreReady (with_body items sig)
@@ -549,3 +552,72 @@ module _ (around : types.Around) (own : TyId) where
           (borrowed_later s.items t.items g.items b)) λ sig u k d. given _ λ ready w l.
           let e = d w l in (((Ty.Shared own, is w (grows_trans k l)), e.0), e.1)
   trait_head_ready (syn at _) s h b = absurd (false≢true h)
+
+-- ---- items
+
+obeyed_ready : (rule : Rule) (at : Pos) (holds : Bool) (s : State) → Gives s (λ w u. Unit {0}) (obeys rule at holds s)
+obeyed_ready rule at true s = given tt λ ready w g. tt
+obeyed_ready rule at false s = gives_nothing rule at
+
+-- one more struct or enum behind a check
+with_fields : (s t : State) (adt : Adt) → (AreReady s.items → AreReady t.items × AreFields t.items adt.variants) → AreReady
+    s.items → AreReady (with_adt t.items adt) × Unit {0}
+with_fields s t adt h ready = let r = h ready in (ready_with_adt t.items adt r.0 r.1, tt)
+
+item_head_ready : (k : rules.Known) (i : Syn) (s : State) → IsTrue (item_legal i) → Readies s Kept (rules.item_head k i s)
+item_head_ready k (syn at (StructItem ds name kind fields)) s h =
+    walk (ready_of (λ items u. Unit {0}) (rules.derives_known ds s) (derives_ready ds s)) λ _ t e. walk (ready_of (λ items v.
+    All (IsPlain items) v.fields) _ (variant_ready (around k name.1) name.1 fields t h)) λ v u g. walk_ends (with_fields
+    s u (rules.adt_of k ds name.1 false (v ∷ [])) (λ ready. let r = g (e ready).0 in (r.0, (r.1, tt))))
+  where
+    around : rules.Known → Word → types.Around
+    around k name = rules.names_alone k (types.number_of k.adts name)
+item_head_ready k (syn at (EnumItem ds name variants)) s h =
+    walk (ready_of (λ items u. Unit {0}) (rules.derives_known ds s) (derives_ready ds s)) λ _ t e. walk (ready_of (λ items
+    vs. AreFields items vs) _ (each_gives (rules.declared_variant (rules.names_alone k (types.number_of k.adts name.1))) (λ
+    v. IsTrue (variant_legal v)) (λ items v. All (IsPlain items) v.fields) fields_later (λ v u legal_v. declared_ready
+    (rules.names_alone k (types.number_of k.adts name.1)) v u legal_v) (list_of variants) t (variants_all (list_of variants)
+    h))) λ vs u g. walk_ends (with_fields s u (rules.adt_of k ds name.1 true vs) (λ ready. g (e ready).0))
+item_head_ready k (syn at (TraitItem name heads)) s h =
+    walk (ready_of (λ items own. type_at items own ≡ Some (Ty.Dyn (length s.items.traits))) (interned (Ty.Dyn (length
+    s.items.traits)) s) (interned_sound (Ty.Dyn (length s.items.traits)) s (dyn_made s.items (length s.items.traits)))) λ own
+    t e. walk_ready own t e
+  where
+    borrowed : (items : ItemTable) (own : TyId) → type_at items own ≡ Some (Ty.Dyn (length s.items.traits)) → MayBeBorrowed
+        items own
+    borrowed items own is = (
+      (Ty.Dyn (length s.items.traits), is, tt),
+      subst (λ o. IsTrue (not (is_some (option_and_then reference_in o)))) (sym is) refl,
+    )
+
+    sigs_ready : (own : TyId) (xs : List Syn) (t : State) → All (λ x. IsTrue (trait_head_legal x)) xs → MayBeBorrowed t.items
+        own → Gives t (λ w sigs. All (HasKnown w.items) sigs) (each_checked (rules.trait_head (rules.names_alone k None) own)
+        xs t)
+    sigs_ready own [] t h b = given [] λ ready w g. tt
+    sigs_ready own (x ∷ xs) t h b =
+        bind (trait_head_ready (rules.names_alone k None) own x t h.0 b) λ sig u g d. bind (sigs_ready own xs u h.1
+        (borrowed_later (rules.names_alone k None) own t.items u.items g.items b)) λ sigs v l e. given (sig ∷ sigs) λ ready w
+        m. (d w (grows_trans l m), e w m)
+
+    walk_ready : (own : TyId) (t : State) → (AreReady s.items → AreReady t.items × (type_at t.items own ≡ Some (Ty.Dyn (length
+        s.items.traits)))) → Readies s Kept (and_then (each_checked (rules.trait_head (rules.names_alone k None) own) (list_of
+        heads) t) (λ sigs. rules.added (λ items. with_trait items (record { name = name.1; methods = sigs }))))
+    walk_ready own t e = by (each_checked (rules.trait_head (rules.names_alone k None) own) (list_of heads) t) (λ b. sigs_ready
+        own (list_of heads) t (heads_all (list_of heads) h) b)
+      where
+        by : (r : Result (List Sig × State) Broken) → (MayBeBorrowed t.items own → Gives t (λ w sigs. All (HasKnown w.items)
+            sigs) r) → Readies s Kept (and_then r (λ sigs. rules.added (λ items. with_trait items (record { name =
+            name.1; methods = sigs }))))
+        by (Err x) g = record { so = tt }
+        by (Ok a) g =
+            walk_ends (λ ready.
+            let r = e ready in
+            let m = (g (borrowed t.items own r.1)).so r.0 in
+            (ready_with_trait a.1.items (record { name = name.1; methods = a.0 }) (m.0.ready r.0) (m.1 a.1 (grows_refl a.1)),
+              tt))
+item_head_ready k (syn at (ImplItem None name methods)) s h =
+    ready_of (λ items u. Unit {0}) _ (obeyed_ready Rule.T01 name.0 (is_some (types.number_of k.adts name.1)) s)
+item_head_ready k (syn at (ImplItem (Some trait_) name methods)) s h =
+    ready_of (λ items u. Unit {0}) _ (obeyed Rule.T01 trait_.0 (rules.is_drop trait_.1 || is_some (types.number_of k.traits
+    trait_.1)) _ λ _. obeyed_ready Rule.T01 name.0 (is_some (types.number_of k.adts name.1)) s)
+item_head_ready k (syn at _) s h = walk_ends (λ ready. (ready, tt))
