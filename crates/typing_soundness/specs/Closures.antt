@@ -1,5 +1,5 @@
 -- The bodies that a text has, in the order of the text, and what is met of them as it is typed.
-use Rattle.std.specs.Prelude.{◌≡◌, ℕ, suc, List, [], ◌∷◌, ◌++◌, length, map, Some, slice_get}
+use Rattle.std.specs.Prelude.{◌≡◌, ℕ, suc, List, [], ◌∷◌, ◌++◌, length, map, Some, slice_get, Bool, IsTrue}
 use Rattle.std.specs.List.{position as position_of}
 use Rattle.std.specs.Str.{bytes_eq}
 use Rattle.mir_base.specs.declared.place_in_text.Pos.{Pos}
@@ -18,6 +18,7 @@ use Rattle.typing_rules.specs.Places.{unit}
 use Rattle.typing_rules.specs.Program.{outermost}
 use Rattle.typing_rules.specs.Written.{Around}
 use Rattle.src_ast.specs.Syntax.{Receiver, ByValue, ByShared, ByUnique, Syn, syn, Shape, Minus, Bang, Star, Ampersand, Calculate, Compare, Both, Either, Store, CallOf, MethodOf, FieldOf, PartOf, ElementOf, StructOf, FieldInit, Parens, TupleOf, ArrayOf, Braces, IfElse, IfLetElse, MatchOn, ArmOf, LoopOf, WhileOf, WhileLetOf, BreakOf, ReturnOf, MoveOf, LetOf, Semi, ImplItem, FnItem, ParamOf, SelfParam, Syns, no_syn, a_syn, list_of, MaybeSyn, nothing, just, Word}
+use Rattle.typing_soundness.specs.Legal.{legal, legal_param, head_legal}
 use Rattle.typing_soundness.specs.Types.{HaveTypes, Means}
 
 -- ---- bodies in the order of the text
@@ -175,10 +176,16 @@ HasBody items closure (Function head) number = Unit {0}
 HasBody items closure (Closure head) number =
     (def : ClosureDef) × (slice_get items.closures closure ≡ Some def) × (def.body ≡ number)
 
+-- the types of a text keep all rules
+abbrev pub text_legal : BodySyn → Bool
+text_legal (Function head) = head_legal legal_param head.params head.answer
+text_legal (Closure head) = head_legal legal head.params head.answer
+
 -- a body is made of a text; a closure has the next number of closures
 abbrev pub IsBodyOf : ItemTable → ℕ → BodySyn → BodyTree → Type 0
 IsBodyOf items closure text body =
-    AreTypesOf items closure text (types_of body) body.answer × HasBody items closure text body.number
+    AreTypesOf items closure text (types_of body) body.answer × HasBody items closure text body.number × IsTrue (text_legal
+    text)
 
 -- the number of the closure behind a body
 abbrev pub behind : BodySyn → ℕ → ℕ

@@ -4,8 +4,7 @@ use Rattle.std.specs.Prelude.{ℕ, suc, Bool, true, false, ◌&&◌, nat_le, Lis
 use Rattle.well_typed.specs.Claim.{Claim, fact, ◌&◌, each}
 use Rattle.typing_rules.specs.Program.{behind_self}
 use Rattle.typing_rules.specs.Written.{is_usize}
-use Rattle.src_ast.specs.Syntax.{Syn, syn, Shape, NamedType, GenericType, DynType, SelfType, ParensType, TupleType, ArrayType, NeverType, RefType, StructItem, EnumItem, FieldDecl, VariantDecl, TraitItem, FnItem, ParamOf, SelfParam, Syns, no_syn, a_syn, list_of, MaybeSyn, nothing, just}
-use Rattle.typing_soundness.specs.Closures.{BodySyn, Function, Closure, Head}
+use Rattle.src_ast.specs.Syntax.{Syn, syn, Shape, NamedType, GenericType, DynType, SelfType, ParensType, TupleType, ArrayType, NeverType, RefType, StructItem, EnumItem, FieldDecl, VariantDecl, TraitItem, FnItem, MoveOf, ParamOf, SelfParam, Syns, no_syn, a_syn, list_of, MaybeSyn, nothing, just}
 
 abbrev mutual
   pub legal : Syn → Bool
@@ -55,9 +54,11 @@ answer_legal (just ty) = legal ty
 abbrev pub head_legal : (Syn → Bool) → Syns → MaybeSyn → Bool
 head_legal test params answer = params_legal test params && answer_legal answer
 
-abbrev pub text_legal : BodySyn → Bool
-text_legal (Function head) = head_legal legal_param head.params head.answer
-text_legal (Closure head) = head_legal legal head.params head.answer
+-- of a body as it is listed
+abbrev pub body_legal : Syn → Bool
+body_legal (syn at (FnItem name params answer block)) = head_legal legal_param params answer
+body_legal (syn at (MoveOf captures params answer body)) = head_legal legal params answer
+body_legal _ = true
 
 -- ---- items, but for the heads of bodies
 

@@ -31,6 +31,8 @@ use Rattle.typing_soundness.proofs.Bodies.Closures.{both_walk}
 use Rattle.typing_soundness.proofs.Bodies.Meanings.{param_given}
 use Rattle.typing_soundness.proofs.Walking.Adding.{Stays, stays_refl, met_none, ordered_of, ordered_both, counted_join}
 use Rattle.typing_soundness.proofs.Walking.Heads.{params_given, answer_given, types_kept}
+use Rattle.typing_soundness.specs.Legal.{legal_param, params_legal, head_legal}
+use Rattle.typing_soundness.proofs.Walking.Lawful.{written_param_legal, params_are_legal, answer_is_legal, and_so}
 use Rattle.typing_soundness.proofs.Walking.Later.{params_later, answer_later, types_later, met_both}
 use Rattle.typing_soundness.proofs.Walking.Rows.{no_closure, ◌⨾◌}
 use Rattle.typing_soundness.proofs.Walking.Expressions.{typed_walks, IsOf, IsAdded, body_added}
@@ -200,14 +202,16 @@ item_keeps env before (syn at _) s = record { so = tt }
 -- ---- bodies
 
 function_inner : (env : Env) (at : Pos) (n : ℕ) (params : Syns) (answer : MaybeSyn) (block : MaybeSyn) (s : State) →
-    Walked (λ b t. (b.number ≡ n) × Ordered s t × IsOf (bodies.all_rules env) params answer [] (closures_if_any
+    Walked (λ b t. (b.number ≡ n) × Ordered s t × IsOf (bodies.all_rules env) (head_legal legal_param params answer) params answer [] (closures_if_any
     (bodies.all_rules env) block) s b t) (in_function env at n params answer (rules.block_of block at) s)
 function_inner env at n params answer (just body) s =
     walk (both_walk (bodies.params_of env (types.written_param (bodies.all_rules env)) params [] s) (params_walk env
     (types.written_param (bodies.all_rules env)) (λ p t. written_param_still (bodies.all_rules env) p t) params [] s)
-    (params_given env (types.written_param (bodies.all_rules env)) (λ p t. param_given (bodies.all_rules env) p t) params
-    [] s)) λ ps t w1. walk (both_walk (bodies.answer_of env answer t) (answer_still env answer t) (answer_given env answer
-    t)) λ a u e. walk (typed_walks (bodies.inside env a ps.1) body (Some a) u) λ b v w2. walk_obeyed Rule.T19 at (nat_le
+    (both_walk (bodies.params_of env (types.written_param (bodies.all_rules env)) params [] s) (params_given env
+    (types.written_param (bodies.all_rules env)) (λ p t. param_given (bodies.all_rules env) p t) params [] s)
+    (params_are_legal env legal_param (types.written_param (bodies.all_rules env)) (λ p t. written_param_legal
+    (bodies.all_rules env) p t) params [] s))) λ ps t w1. walk (both_walk (bodies.answer_of env answer t) (answer_still env answer t) (both_walk (bodies.answer_of env answer t) (answer_given env answer t) (answer_is_legal env answer t))) λ
+    a u e. walk (typed_walks (bodies.inside env a ps.1) body (Some a) u) λ b v w2. walk_obeyed Rule.T19 at (nat_le
     (length (numbers_of (bodies.body_of n ps.0 a b))) 2048) _ λ _. walk_ends (
       refl,
       ordered_both w1.0.ordered (ordered_both (ordered_of e.0.stays) w2.ordered),
@@ -216,9 +220,10 @@ function_inner env at n params answer (just body) s =
           map (λ (p : ParamTree). p.ty) ps.0,
           types_kept _ ps.0,
           (
-            params_later t.items v.items (λ k x h. w2.met.types k x (e.1.0 k x h)) (bodies.all_rules env) params _ w1.1.1,
-            answer_later u.items v.items w2.met.types (bodies.all_rules env) answer a e.1.1,
+            params_later t.items v.items (λ k x h. w2.met.types k x (e.1.0.0 k x h)) (bodies.all_rules env) params _ w1.1.0.1,
+            answer_later u.items v.items w2.met.types (bodies.all_rules env) answer a e.1.0.1,
           ),
+          and_so (params_legal legal_param params) _ w1.1.1 e.1.1,
         ),
         met_both w1.0.met (met_both (met_none e.0.stays) w2.met),
       ),
@@ -231,7 +236,7 @@ module _ (env : Env) (params : Syns) (answer : MaybeSyn) (block : MaybeSyn) wher
   abbrev head : Head
   head = record { around = bodies.all_rules env; params = params; answer = answer }
 
-  added_text : (s v : State) → IsAdded s.next_body (IsOf (bodies.all_rules env) params answer [] (closures_if_any
+  added_text : (s v : State) → IsAdded s.next_body (IsOf (bodies.all_rules env) (head_legal legal_param params answer) params answer [] (closures_if_any
       (bodies.all_rules env) block) (record s { next_body = suc s.next_body; bodies = []; next_node = 0; breaks = [] }))
       (record s { next_body = suc s.next_body }) v → Adds (λ rest. Function head ∷ closures_if_any (bodies.all_rules env)
       block rest) s v
@@ -249,7 +254,7 @@ module _ (env : Env) (params : Syns) (answer : MaybeSyn) (block : MaybeSyn) wher
       closures = subst (HaveClosures s.items) (sym added.items) inner.closures;
       new = added.body ∷ inner.new;
       bodies = added.whole ∙ ap (λ bs. s.bodies ++ added.body ∷ bs) inner.bodies;
-      made = λ rest. ((first, tt), others rest);
+      made = λ rest. ((first, tt, added.is.0.3), others rest);
     };
   }
     where
@@ -278,7 +283,7 @@ module _ (env : Env) (params : Syns) (answer : MaybeSyn) (block : MaybeSyn) wher
   function_keeps : (at : Pos) (s : State) → Keeps (λ rest. Function head ∷ closures_if_any (bodies.all_rules env) block
       rest) s (bodies.fn_body env at params answer (rules.block_of block at) s)
   function_keeps at s =
-      walk_map (body_added {Q = IsOf (bodies.all_rules env) params answer [] (closures_if_any (bodies.all_rules env)
+      walk_map (body_added {Q = IsOf (bodies.all_rules env) (head_legal legal_param params answer) params answer [] (closures_if_any (bodies.all_rules env)
       block) (record s' { bodies = []; next_node = 0; breaks = [] })} s.next_body (in_function env at s.next_body params
       answer (rules.block_of block at)) s' (function_inner env at s.next_body params answer block (record s' {
         bodies =

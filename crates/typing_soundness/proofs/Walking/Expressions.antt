@@ -41,6 +41,8 @@ use Rattle.typing_soundness.specs.Types.{HaveTypes}
 use Rattle.typing_soundness.specs.Walks.{counted, numbers_of_bodies, Ordered, Walks, Walked, WalksNode}
 use Rattle.typing_soundness.proofs.Bodies.Meanings.{written_given}
 use Rattle.typing_soundness.proofs.Walking.Heads.{params_given, answer_given, types_kept}
+use Rattle.typing_soundness.specs.Legal.{legal, params_legal, head_legal}
+use Rattle.typing_soundness.proofs.Walking.Lawful.{written_legal, params_are_legal, answer_is_legal, and_so}
 use Rattle.typing_soundness.proofs.Walking.Later.{params_later, answer_later, types_later, met_both}
 use Rattle.typing_soundness.proofs.Walking.Adding.{met_none, Stays, stays_refl, stays_both, ordered_of, ordered_both, walks_recast, walks_none, walks_both, walks_node}
 use Rattle.typing_soundness.proofs.Walking.Patterns.{pattern_walks}
@@ -187,24 +189,27 @@ both_walk (Ok a) h k = record { so = (h.so, k.so) }
 both_walk (Err e) h k = record { so = tt }
 
 -- the body of a closure has its number, and those inside it the next ones; its types are those that are written
-abbrev pub IsOf : types.Around → Syns → MaybeSyn → List TyId → Tape → State → BodyTree → State → Type 0
-IsOf around params answer selves f s b t =
+abbrev pub IsOf : types.Around → Bool → Syns → MaybeSyn → List TyId → Tape → State → BodyTree → State → Type 0
+IsOf around is_legal params answer selves f s b t =
     ((tys : List TyId) × (types_of b ≡ selves ++ tys) × HasTypes t.items (record {
       around = around;
       params = params;
       answer = answer;
-    }) tys b.answer) × Met f s t
+    }) tys b.answer × IsTrue is_legal) × Met f s t
 
 inner_walks : {f : Tape} (env : Env) (at : Pos) (n : ℕ) (ty : TyId) (captures : List Entry) (params : Syns) (answer :
     MaybeSyn) (block : Env → Typer) → ((inner : Env) → bodies.all_rules inner ≡ bodies.all_rules env → WalksTyper f (block
-    inner)) → (s : State) → Walked (λ b t. (b.number ≡ n) × Ordered s t × IsOf (bodies.all_rules env) params answer (ty ∷
+    inner)) → (s : State) → Walked (λ b t. (b.number ≡ n) × Ordered s t × IsOf (bodies.all_rules env) (head_legal legal params answer) params answer (ty ∷
     []) f s b t) (in_closure env at n ty captures params answer block s)
 inner_walks {f} env at n ty captures params answer block good s =
     walk (both_walk (params_of (numbered s)) (params_walk (bodies.inside_closure env captures) (types.written
-    (bodies.all_rules env)) (λ p t. written_still (bodies.all_rules env) p t) params [] (numbered s)) (params_given
-    (bodies.inside_closure env captures) (types.written (bodies.all_rules env)) (λ p t. written_given (bodies.all_rules
-    env) p t) params [] (numbered s))) λ ps t w1. walk (both_walk (bodies.answer_of env answer t) (answer_still env answer
-    t) (answer_given env answer t)) λ a u e. walk (good (bodies.inside (bodies.inside_closure env captures) a ps.1) refl
+    (bodies.all_rules env)) (λ p t. written_still (bodies.all_rules env) p t) params [] (numbered s)) (both_walk (params_of
+    (numbered s)) (params_given (bodies.inside_closure env captures) (types.written (bodies.all_rules env)) (λ p t.
+    written_given (bodies.all_rules env) p t) params [] (numbered s)) (params_are_legal (bodies.inside_closure env
+    captures) legal (types.written (bodies.all_rules env)) (λ p t. written_legal (bodies.all_rules env) p t) params []
+    (numbered s)))) λ ps t w1. walk (both_walk (bodies.answer_of env answer t) (answer_still env answer
+    t) (both_walk (bodies.answer_of env answer t) (answer_given env answer t) (answer_is_legal env answer t))) λ
+    a u e. walk (good (bodies.inside (bodies.inside_closure env captures) a ps.1) refl
     (Some a) u) λ b v w2. walk_obeyed Rule.T19 at (nat_le (length (numbers_of (bodies.body_of n (self_param s ∷ ps.0) a
     b))) 2048) _ λ _. walk_ends (
       refl,
@@ -215,9 +220,10 @@ inner_walks {f} env at n ty captures params answer block good s =
           map (λ (p : ParamTree). p.ty) ps.0,
           types_kept _ (self_param s ∷ ps.0),
           (
-            params_later t.items v.items (λ k x h. w2.met.types k x (e.1.0 k x h)) (bodies.all_rules env) params _ w1.1.1,
-            answer_later u.items v.items w2.met.types (bodies.all_rules env) answer a e.1.1,
+            params_later t.items v.items (λ k x h. w2.met.types k x (e.1.0.0 k x h)) (bodies.all_rules env) params _ w1.1.0.1,
+            answer_later u.items v.items w2.met.types (bodies.all_rules env) answer a e.1.0.1,
           ),
+          and_so (params_legal legal params) _ w1.1.1 e.1.1,
         ),
         met_both (met_none (first_stays s)) (met_both w1.0.met (met_both (met_none e.0.stays) w2.met)),
       ),
@@ -322,7 +328,7 @@ closure_met : {f : Tape} (n : ℕ) (s t u v : State) (around : types.Around) (pa
     ClosureDef) → def.body ≡ n → Stays s t → HaveTypes t.items u.items → (AreDistinct t.items.types → AreDistinct
     u.items.types) → u.items.adts ≡ t.items.adts → u.items.bodies ≡ t.items.bodies →
     u.bodies ≡ t.bodies → u.items.closures ≡ t.items.closures ++ def ∷ [] → type_at u.items ty ≡ Some
-    (Ty.Closure (length t.items.closures)) → IsAdded n (IsOf around params answer (ty ∷ []) f (record u {
+    (Ty.Closure (length t.items.closures)) → IsAdded n (IsOf around (head_legal legal params answer) params answer (ty ∷ []) f (record u {
       bodies = [];
       next_node = 0;
       breaks = [];
@@ -338,7 +344,7 @@ closure_met {f} n s t u v around params answer ty def at_n stays types_u distinc
       bodies = added.whole ∙ λ i. (bodies_u ∙ stays.bodies) i ++ added.body ∷ inner.bodies i;
       closures = λ k d at. kept k d (subst (λ cs. slice_get cs k ≡ Some d) (sym (closures_u ∙ ap (λ cs. cs ++ def ∷ [])
           stays.closures)) (slice_get-append_left s.items.closures (def ∷ []) k d at));
-      made = λ rest. ((first, its_body), others rest);
+      made = λ rest. ((first, its_body, added.is.0.3), others rest);
     }
   where
     inner : Met f (record u { bodies = []; next_node = 0; breaks = [] }) added.inner
@@ -392,7 +398,7 @@ closure_walks : {f : Tape} (env : Env) (at : Pos) (captures params : Syns) (answ
 closure_walks {f} env at captures params answer block good want s =
     walk (both_walk (bodies.captured env 0 captures [] s') (captured_walks env 0 captures [] s') (captured_stays env 0
     captures [] s')) λ caps t w. walk_interned_as (Ty.Closure (length t.items.closures)) (with_ caps.1 t) λ ty u e is.
-    walk (body_added {Q = IsOf (bodies.all_rules env) params answer (ty ∷ []) f (record u {
+    walk (body_added {Q = IsOf (bodies.all_rules env) (head_legal legal params answer) params answer (ty ∷ []) f (record u {
       bodies = [];
       next_node = 0;
       breaks = [];

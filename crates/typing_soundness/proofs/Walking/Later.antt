@@ -99,8 +99,11 @@ has_later old new e closure (Closure head) number h = (h.0, e closure h.0 h.1, h
 
 pub body_later : (old new : ItemTable) → HaveTypes old new → HaveClosures old new → (closure : ℕ) (text : BodySyn) (body :
     BodyTree) → IsBodyOf old closure text body → IsBodyOf new closure text body
-body_later old new e d closure text body h =
-    (text_later old new e closure text (types_of body) body.answer h.0, has_later old new d closure text body.number h.1)
+body_later old new e d closure text body h = (
+  text_later old new e closure text (types_of body) body.answer h.0,
+  has_later old new d closure text body.number h.1,
+  h.2,
+)
 
 -- ---- what is made of a text
 

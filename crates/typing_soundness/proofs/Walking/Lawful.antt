@@ -22,7 +22,7 @@ pub whatever : {A : Type 0} {P : Type 0} (r : Result (A × State) Broken) → P 
 whatever (Ok a) p = walk_ends p
 whatever (Err e) p = record { so = tt }
 
-and_so : (a b : Bool) → IsTrue a → IsTrue b → IsTrue (a && b)
+pub and_so : (a b : Bool) → IsTrue a → IsTrue b → IsTrue (a && b)
 and_so true b h k = k
 and_so false b h k = absurd (false≢true h)
 
