@@ -339,7 +339,7 @@ all_names k owner = record {
   traits = k.traits;
 }
 
-body_collected : (k : rules.Known) (owner : Option Word) (c : rules.Count) (b : Syn) (s : State) → Walked (λ d t. Collects
+pub body_collected : (k : rules.Known) (owner : Option Word) (c : rules.Count) (b : Syn) (s : State) → Walked (λ d t. Collects
     (body_text (all_names k owner) b) [] c.closures d.closures s t) (rules.body_sig k owner c b s)
 body_collected k owner c (syn at (FnItem name params answer block)) s =
     walk (sig_collected (all_names k owner) at (full_name owner name.1) params answer s) λ sig t h. walk_ends (with_head
@@ -390,7 +390,7 @@ body_collected k owner c (syn at (MoveOf captures params answer body)) s =
         )))
 body_collected k owner c (syn at _) s = record { so = tt }
 
-bodies_collected : (k : rules.Known) (owner : Option Word) (c : rules.Count) (bs : List Syn) (s : State) → Walked (λ d t.
+pub bodies_collected : (k : rules.Known) (owner : Option Word) (c : rules.Count) (bs : List Syn) (s : State) → Walked (λ d t.
     Collects (bodies_text (all_names k owner) bs) [] c.closures d.closures s t) (rules.body_sigs k owner c bs s)
 bodies_collected k owner c [] s = walk_ends (collects_refl c.closures s)
 bodies_collected k owner c (b ∷ bs) s =
@@ -481,7 +481,7 @@ with_adt_collects n {s} {t} e adt = record {
   made = λ rest. (refl, refl);
 }
 
-item_head_collected : (k : rules.Known) (n : ℕ) (i : Syn) (s : State) → Walked (λ _ t. Collects no_closure (adt_words_of i)
+pub item_head_collected : (k : rules.Known) (n : ℕ) (i : Syn) (s : State) → Walked (λ _ t. Collects no_closure (adt_words_of i)
     n n s t) (rules.item_head k i s)
 item_head_collected k n (syn at (StructItem ds name kind fields)) s =
     walk (derives_still ds s) λ _ t e. walk (variant_still (rules.names_alone k (types.number_of k.adts name.1)) name.1
@@ -587,7 +587,7 @@ derive_still n (a ∷ as_) s =
     walk (obeyed_still Rule.T10 a.0 (rules.may_derive s.items a.1 (slice_get s.items.adts n)) s) λ _ t e. walk_map
     (derive_still (suc n) as_ t) λ _ u g. onward e g
 
-names_still : (ns : List Named) (earlier : List Word) (s : State) → Walked (Still s) (rules.names_differ ns earlier s)
+pub names_still : (ns : List Named) (earlier : List Word) (s : State) → Walked (Still s) (rules.names_differ ns earlier s)
 names_still [] earlier s = walk_ends (still s)
 names_still (n ∷ ns) earlier s =
     walk (obeyed_still Rule.T02 n.0 (not (is_among n.1 earlier || is_among n.1 built_in)) s) λ _ t e. walk_map

@@ -13,12 +13,15 @@ use Rattle.mir_ty.specs.declared.def.Sig.{Sig}
 use Rattle.mir_ty.specs.declared.def.TraitDef.{TraitDef}
 use Rattle.mir_ty.specs.declared.ty.Ty.{Ty}
 use Rattle.mir_ty.specs.declared.ty.TyId.{TyId}
-use Rattle.mir_ty.specs.ItemTable.{ItemTable, type_at, with_adt, with_trait, with_body}
+use Rattle.mir_ty.specs.ItemTable.{ItemTable, type_at, with_adt, with_trait, with_impl, with_body}
 use Rattle.mir_ty.specs.Parts.{held_by, parts_of, fields_of, variants_of, captures_of, of_one_variant}
 use Rattle.mir_ty.proofs.ListLemmas.{slice_get-push_cases, slice_get-Contains}
 use Rattle.well_typed.proofs.ClaimLemmas.{true_left, true_right}
-use Rattle.typing_rules.specs.Check.{Check, State, Broken, and_then, obeys, each_checked, interned}
+use Rattle.typing_rules.specs.Check.{Check, State, Broken, and_then, obeys, known, each_checked, interned}
 use Rattle.typing_rules.specs.Collected as rules
+use Rattle.typing_rules.specs.Items.{ItemSyn, item_syns, body_paths, impl_owner, full_name, closure_name}
+use Rattle.well_typed.specs.Names.{is_among, built_in}
+use Rattle.mir_ty.specs.declared.def.ImplDef.{ImplDef}
 use Rattle.well_typed.specs.Types.{closure_in, reference_in, is_reference}
 use Rattle.typing_rules.specs.Program.{behind_self}
 use Rattle.typing_rules.proofs.Sound.References.{reference_made}
@@ -31,11 +34,13 @@ use Rattle.typing_rules.proofs.Sound.Gives.{bind, weaker, with_ready, given, giv
 use Rattle.typing_rules.specs.RowPromises.{IsMade}
 use Rattle.typing_rules.proofs.Sound.Interned.{interned_sound}
 use Rattle.typing_rules.proofs.Sound.Later.{alone_later, known_later, ready_later}
-use Rattle.typing_soundness.specs.Legal.{legal, legal_form, all_legal, legal_param, legal_param_form, param_legal, params_legal, answer_legal, head_legal, field_legal, fields_legal, variant_legal, variants_legal, trait_head_legal, trait_heads_legal, item_legal}
+use Rattle.typing_soundness.specs.Legal.{legal, legal_form, all_legal, legal_param, legal_param_form, param_legal, params_legal, answer_legal, head_legal, field_legal, fields_legal, variant_legal, variants_legal, trait_head_legal, trait_heads_legal, body_legal, item_legal}
 use Rattle.typing_soundness.specs.Walks.{Walked}
+use Rattle.typing_soundness.proofs.Bodies.Collected.{all_names, body_collected, bodies_collected, item_head_collected, names_still}
+use Rattle.std.specs.List.{filter_map}
 use Rattle.typing_soundness.proofs.Bodies.Types.{IsPlain, IsParamTy, adt_plain, ref_param, plain_alone, plain_param, value_plain, unit_plain, written_plain, written_param_sound}
 use Rattle.typing_soundness.proofs.Walking.Lawful.{all_are_legal}
-use Rattle.typing_soundness.proofs.Walking.Steps.{walk, walk_map, walk_ends}
+use Rattle.typing_soundness.proofs.Walking.Steps.{walk, walk_map, walk_found, walk_ends}
 
 -- ---- names alone and all rules give the same, of what keeps all rules
 
@@ -112,20 +117,20 @@ module _ (around : types.Around) where
 -- ---- heads
 
 -- each of some things
-abbrev All : {A : Type 0} → (A → Type 0) → List A → Type 0
+abbrev pub All : {A : Type 0} → (A → Type 0) → List A → Type 0
 All P [] = Unit {0}
 All P (x ∷ xs) = P x × All P xs
 
-all_map : {A : Type 0} (P Q : A → Type 0) → ((x : A) → P x → Q x) → (xs : List A) → All P xs → All Q xs
+pub all_map : {A : Type 0} (P Q : A → Type 0) → ((x : A) → P x → Q x) → (xs : List A) → All P xs → All Q xs
 all_map P Q so [] h = h
 all_map P Q so (x ∷ xs) h = (so x h.0, all_map P Q so xs h.1)
 
-all_at : {A : Type 0} (P : A → Type 0) (xs : List A) (k : ℕ) (x : A) → All P xs → slice_get xs k ≡ Some x → P x
+pub all_at : {A : Type 0} (P : A → Type 0) (xs : List A) (k : ℕ) (x : A) → All P xs → slice_get xs k ≡ Some x → P x
 all_at P [] k x h is = absurd (none-some x is)
 all_at P (y ∷ xs) zero x h is = subst P (same_Some y x is) h.0
 all_at P (y ∷ xs) (suc k) x h is = all_at P xs k x h.1 is
 
-all_in : {A : Type 0} (P : A → Type 0) (xs : List A) (x : A) → All P xs → Contains xs x → P x
+pub all_in : {A : Type 0} (P : A → Type 0) (xs : List A) (x : A) → All P xs → Contains xs x → P x
 all_in P xs x h has = all_at P xs has.0 x h (slice_get-Contains xs x has)
 
 -- a check of each of some things, of which something is so that stays
@@ -414,7 +419,7 @@ ready_with_body items sig all params result = record {
 -- ---- the collection of items, step by step
 
 -- what a check gives of items that are ready
-abbrev Readies : {A : Type 0} → State → (A → State → Type 0) → Result (A × State) Broken → Type 0
+abbrev pub Readies : {A : Type 0} → State → (A → State → Type 0) → Result (A × State) Broken → Type 0
 Readies s Q r = Walked (λ a t. AreReady s.items → AreReady t.items × Q a t) r
 
 ready_of : {A : Type 0} {s : State} (Q : ItemTable → A → Type 0) (r : Result (A × State) Broken) → Gives s (λ w a. Q
@@ -423,7 +428,7 @@ ready_of Q (Ok a) g = walk_ends (λ ready. ((g.so ready).0.ready ready, (g.so re
 ready_of Q (Err e) g = record { so = tt }
 
 -- of a check that only has to be ready
-abbrev Kept : {A : Type 0} → A → State → Type 0
+abbrev pub Kept : {A : Type 0} → A → State → Type 0
 Kept a t = Unit {0}
 
 fields_all : (fs : List Syn) → IsTrue (fields_legal fs) → All (λ f. IsTrue (field_legal f)) fs
@@ -621,3 +626,141 @@ item_head_ready k (syn at (ImplItem (Some trait_) name methods)) s h =
     ready_of (λ items u. Unit {0}) _ (obeyed Rule.T01 trait_.0 (rules.is_drop trait_.1 || is_some (types.number_of k.traits
     trait_.1)) _ λ _. obeyed_ready Rule.T01 name.0 (is_some (types.number_of k.adts name.1)) s)
 item_head_ready k (syn at _) s h = walk_ends (λ ready. (ready, tt))
+
+-- ---- bodies
+
+body_ready : (k : rules.Known) (owner : Option Word) (c : rules.Count) (b : Syn) (s : State) → IsTrue (body_legal b) →
+    s.items.closures ≡ [] → Readies s Kept (rules.body_sig k owner c b s)
+body_ready k owner c (syn at (FnItem name params answer block)) s h none =
+    walk (ready_of (λ items sig. HasParams items sig) _ (sig_ready (all_names k owner) at (full_name owner name.1) params
+    answer s h)) λ sig t e. walk_ends (λ ready.
+    let r = e ready in
+    (ready_with_body t.items sig r.0 (all_map (IsParamTy t.items) (IsKnown t.items) (λ ty p. (p.0, p.1)) sig.params r.1.0)
+      (plain_alone t.items sig.result r.1.1), tt))
+body_ready k owner c (syn at (MoveOf captures params answer body)) s h none =
+    walk (walk (ready_of (λ items tys. All (IsKnown items) tys) _ (closure_params_ready (all_names k owner) c.closures params
+    s none (true_left (params_legal legal params) _ h))) λ tys t e. behind tys t e) λ _ t e. walk_ends e
+  where
+    name : Word
+    name = closure_name c.outer (c.in_outer + 1)
+
+    behind : (tys : List TyId) (t : State) → (AreReady s.items → AreReady t.items × All (IsKnown t.items) tys) → Readies s Kept
+        (and_then (types.or_unit (rules.answer_ty (names (all_names k owner)) answer) t) (λ ty. rules.body_added (record {
+      name = name;
+      params = tys;
+      result = ty;
+    })))
+    behind tys t e =
+        by (types.or_unit (rules.answer_ty (names (all_names k owner)) answer) t) (closure_answer_ready (all_names k owner)
+        answer t (true_right (params_legal legal params) _ h))
+      where
+        by : (r : Result (TyId × State) Broken) → Gives t (λ w ty. IsPlain w.items ty) r → Readies s Kept (and_then r (λ ty.
+            rules.body_added (record { name = name; params = tys; result = ty })))
+        by (Err x) g = record { so = tt }
+        by (Ok a) g =
+            walk_ends (λ ready.
+            let r = e ready in
+            let m = g.so r.0 in
+            (ready_with_body a.1.items (record { name = name; params = tys; result = a.0 }) (m.0.ready r.0) (all_map (IsKnown
+              t.items) (IsKnown a.1.items) (λ ty known. known_later m.0.items ty known) tys r.1) (plain_alone a.1.items a.0
+              (m.1 a.1 (grows_refl a.1))), tt))
+body_ready k owner c (syn at _) s h none = record { so = tt }
+
+-- two facts of one check
+both_ready : {A : Type 0} {P Q : A → State → Type 0} (r : Result (A × State) Broken) → Walked P r → Walked Q r → Walked (λ a t.
+    P a t × Q a t) r
+both_ready (Ok a) h k = record { so = (h.so, k.so) }
+both_ready (Err e) h k = record { so = tt }
+
+bodies_ready : (k : rules.Known) (owner : Option Word) (c : rules.Count) (bs : List Syn) (s : State) → All (λ b. IsTrue
+    (body_legal b)) bs → s.items.closures ≡ [] → Readies s Kept (rules.body_sigs k owner c bs s)
+bodies_ready k owner c [] s h none = walk_ends (λ ready. (ready, tt))
+bodies_ready k owner c (b ∷ bs) s h none =
+    walk (both_ready (rules.body_sig k owner c b s) (body_ready k owner c b s h.0 none) (body_collected k owner c b s)) λ d t
+    e. walk_map (bodies_ready k owner d bs t h.1 (e.1.closures ∙ none)) λ x u g ready. g (e.0 ready).0
+
+-- ---- all items
+
+abbrev pub ItemKeeps : ItemSyn → Type 0
+ItemKeeps i = IsTrue (item_legal i.item) × All (λ b. IsTrue (body_legal b)) i.bodies
+
+heads_ready : (k : rules.Known) (c : rules.Count) (is : List ItemSyn) (s : State) → All ItemKeeps is → s.items.closures ≡ [] →
+    Readies s Kept (rules.heads_collected k c is s)
+heads_ready k c [] s h none = walk_ends (λ ready. (ready, tt))
+heads_ready k c (i ∷ is) s h none =
+    walk (both_ready (rules.item_head k i.item s) (item_head_ready k i.item s h.0.0) (item_head_collected k c.closures i.item
+    s)) λ _ t e. walk (both_ready (rules.body_sigs k (impl_owner i.item) c i.bodies t) (bodies_ready k (impl_owner i.item) c
+    i.bodies t h.0.1 (e.1.closures ∙ none)) (bodies_collected k (impl_owner i.item) c i.bodies t)) λ d u f. walk_map
+    (heads_ready k d is u h.1 (f.1.closures ∙ (e.1.closures ∙ none))) λ x v g ready. g (f.0 (e.0 ready).0).0
+
+with_impl_ready : (items : ItemTable) (def : ImplDef) → AreReady items → AreReady (with_impl items def)
+with_impl_ready items def all = record {
+  begins = all.begins;
+  distinct = all.distinct;
+  held = all.held;
+  parts = all.parts;
+  held_fields = all.held_fields;
+  fields = all.fields;
+  inside = all.inside;
+  results = all.results;
+  methods = all.methods;
+  params = all.params;
+  method_params = all.method_params;
+}
+
+impl_ready : (k : rules.Known) (i : Syn) (s : State) → Readies s Kept (rules.impl_of k i s)
+impl_ready k (syn at (ImplItem (Some trait_) name methods)) s = by (rules.is_drop trait_.1)
+  where
+    added : Check (Unit {0})
+    added t =
+        and_then (known Rule.T01 trait_.0 (types.number_of k.traits trait_.1) t) (λ n u. and_then (known Rule.T01 name.0
+        (types.number_of k.adts name.1) u) (λ adt. rules.impl_added k n adt trait_.1 name.1))
+
+    by : (b : Bool) → Readies s Kept ((if b then (λ t. Ok (tt, t)) else added) s)
+    by true = walk_ends (λ ready. (ready, tt))
+    by false =
+        walk_found Rule.T01 trait_.0 (types.number_of k.traits trait_.1) _ λ n is. walk_found Rule.T01 name.0
+        (types.number_of k.adts name.1) _ λ adt is. walk_ends (λ ready. (with_impl_ready s.items _ ready, tt))
+impl_ready k (syn at (ImplItem None name methods)) s = walk_ends (λ ready. (ready, tt))
+impl_ready k (syn at _) s = walk_ends (λ ready. (ready, tt))
+
+impls_ready : (k : rules.Known) (is : List Syn) (s : State) → Readies s Kept (each_checked (rules.impl_of k) is s)
+impls_ready k [] s = walk_ends (λ ready. (ready, tt))
+impls_ready k (i ∷ is) s =
+    walk (impl_ready k i s) λ _ t e. walk (impls_ready k is t) λ _ u g. walk_ends (λ ready. g (e ready).0)
+
+finite_ready : (n : ℕ) (as_ : List (Pos × List Named)) (s : State) → Readies s Kept (rules.all_finite n as_ s)
+finite_ready n [] s = walk_ends (λ ready. (ready, tt))
+finite_ready n (a ∷ as_) s =
+    walk {f = λ _. rules.all_finite (suc n) as_} (ready_of (λ items u. Unit {0}) _ one) λ _ t e. walk_map (finite_ready (suc
+    n) as_ t) λ x u g ready. g (e ready).0
+  where
+    one : Gives s (λ w u. Unit {0}) (rules.is_finite n a.0 s)
+    one =
+        bind (adt_plain n s) λ ty t g d. obeyed_ready Rule.T09 a.0 (not (rules.holds t.items ty ty)) t
+
+derive_ready : (n : ℕ) (as_ : List (Pos × List Named)) (s : State) → Readies s Kept (rules.all_derive n as_ s)
+derive_ready n [] s = walk_ends (λ ready. (ready, tt))
+derive_ready n (a ∷ as_) s =
+    walk (ready_of (λ items u. Unit {0}) _ (obeyed_ready Rule.T10 a.0 (rules.may_derive s.items a.1 (slice_get s.items.adts
+    n)) s)) λ _ t e. walk_map (derive_ready (suc n) as_ t) λ x u g ready. g (e ready).0
+
+names_ready : (ns : List Named) (earlier : List Word) (s : State) → Readies s Kept (rules.names_differ ns earlier s)
+names_ready [] earlier s = walk_ends (λ ready. (ready, tt))
+names_ready (n ∷ ns) earlier s =
+    walk (ready_of (λ items u. Unit {0}) _ (obeyed_ready Rule.T02 n.0 (not (is_among n.1 earlier || is_among n.1 built_in))
+    s)) λ _ t e. walk_map (names_ready ns (earlier ++ n.1 ∷ []) t) λ x u g ready. g (e ready).0
+
+pub collecting_ready : (is : List ItemSyn) (end : Pos) → All ItemKeeps is → Walked (λ _ t. AreReady rules.no_items → AreReady
+    t.items) (rules.collecting is end (rules.starting_with rules.no_items))
+collecting_ready is end h =
+    walk (both_ready (rules.names_differ (filter_map rules.item_name (item_syns is)) [] start) (names_ready (filter_map
+    rules.item_name (item_syns is)) [] start) (names_still (filter_map rules.item_name (item_syns is)) [] start)) λ _ t e.
+    walk (heads_ready (rules.known_of is) (record { outer = []; in_outer = 0; closures = 0 }) is t h e.1.stays.closures) λ _ u
+    f. walk (impls_ready (rules.known_of is) (item_syns is) u) λ _ v g. walk (finite_ready 0 (filter_map rules.adt_item
+    (item_syns is)) v) λ _ w l. walk (derive_ready 0 (filter_map rules.adt_item (item_syns is)) w) λ _ x m. walk_map
+    (ready_of (λ items u. Unit {0}) _ (obeyed_ready Rule.T01 end (is_some (types.number_of (body_paths is) (codes "main")))
+    x)) λ _ y o ready. (o (m (l (g (f (e.0 ready).0).0).0).0).0).0
+  where
+    start : State
+    start = rules.starting_with rules.no_items
