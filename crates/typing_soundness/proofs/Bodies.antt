@@ -1,4 +1,5 @@
 -- Bodies that are whole.
+pub mod Accepted
 pub mod Closures
 pub mod Collected
 pub mod Functions

@@ -161,7 +161,7 @@ module _ (all : List ItemSyn) (adts : List Adt) (words : map (λ (adt : Adt). ad
     item_listed (syn at (FnItem name params answer block)) = refl
     item_listed (syn at _) = refl
 
-    items_listed : (is : List ItemSyn) → TellBodies is → listed_text (rules.known_of all) is ≡ items_text outer adts
+    pub items_listed : (is : List ItemSyn) → TellBodies is → listed_text (rules.known_of all) is ≡ items_text outer adts
         (item_syns is)
     items_listed [] h = refl
     items_listed (i ∷ is) h =
@@ -174,7 +174,7 @@ words_with (syn at (StructItem derives name kind fields)) is e = ap (λ ws. name
 words_with (syn at (EnumItem derives name variants)) is e = ap (λ ws. name.1 ∷ ws) e
 words_with (syn at _) is e = e
 
-words_collected : (is : List ItemSyn) → all_adt_words is ≡ adt_names (item_syns is)
+pub words_collected : (is : List ItemSyn) → all_adt_words is ≡ adt_names (item_syns is)
 words_collected [] = refl
 words_collected (i ∷ is) = words_with i.item is (words_collected is)
 
@@ -277,13 +277,13 @@ abbrev is_given : Result ItemTable Broken → Bool
 is_given (Ok items) = true
 is_given (Err e) = false
 
-ok_same : (a b : ItemTable) → ◌≡◌ {A = Result ItemTable Broken} (Ok a) (Ok b) → a ≡ b
+pub ok_same : (a b : ItemTable) → ◌≡◌ {A = Result ItemTable Broken} (Ok a) (Ok b) → a ≡ b
 ok_same a b e = ap (or_given a) e
 
-no_ok : (x : Broken) {items : ItemTable} → ◌≡◌ {A = Result ItemTable Broken} (Err x) (Ok items) → ⊥
+pub no_ok : (x : Broken) {items : ItemTable} → ◌≡◌ {A = Result ItemTable Broken} (Err x) (Ok items) → ⊥
 no_ok x e = false≢true (ap is_given e)
 
-scalars_distinct : AreDistinct scalars
+pub scalars_distinct : AreDistinct scalars
 scalars_distinct =
     more (Ty.Int IntKind.Usize) 7 refl (more (Ty.Int IntKind.U64) 6 refl (more (Ty.Int IntKind.U32) 5 refl (more (Ty.Int
     IntKind.I64) 4 refl (more (Ty.Int IntKind.I32) 3 refl (more Ty.Never 2 refl (more Ty.Bool 1 refl (more Ty.Unit 0 refl
