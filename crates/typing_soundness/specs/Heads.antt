@@ -1,5 +1,7 @@
 -- The heads that are collected for the bodies of a text, before any body is looked at.
-use Rattle.std.specs.Prelude.{◌≡◌, ℕ, true, List, [], ◌∷◌, Some}
+use Rattle.std.specs.Prelude.{◌≡◌, ℕ, true, List, [], ◌∷◌, length, Some}
+use Rattle.mir_ty.specs.declared.adt.Adt.{Adt}
+use Rattle.mir_ty.specs.declared.adt.Variant.{Variant}
 use Rattle.mir_ty.specs.declared.def.Sig.{Sig}
 use Rattle.mir_ty.specs.declared.ty.Ty.{Ty}
 use Rattle.mir_ty.specs.declared.ty.TyId.{TyId}
@@ -7,7 +9,7 @@ use Rattle.mir_ty.specs.ItemTable.{ItemTable, type_at}
 use Rattle.typing_rules.specs.Items.{ItemSyn}
 use Rattle.typing_rules.specs.Places.{unit}
 use Rattle.typing_rules.specs.Written.{Around}
-use Rattle.src_ast.specs.Syntax.{Syn, syn, MoveOf, ImplItem, FnItem, ParamOf, Syns, no_syn, a_syn, list_of, MaybeSyn, nothing, just}
+use Rattle.src_ast.specs.Syntax.{Syn, syn, MoveOf, StructItem, EnumItem, VariantDecl, ImplItem, FnItem, ParamOf, Syns, no_syn, a_syn, list_of, MaybeSyn, nothing, just}
 use Rattle.typing_soundness.specs.Closures.{BodySyn, Function, Closure, Tape, HasTypes, functions_text, function_text}
 use Rattle.well_typed.specs.Claim.{Claim, fact}
 use Rattle.typing_soundness.specs.Shapes.{no_self}
@@ -43,6 +45,34 @@ AreHeadTypes items closure (Closure head) (self ∷ params) answer =
 
 abbrev pub IsHeadOf : ItemTable → ℕ → BodySyn → Sig → Type 0
 IsHeadOf items closure text head = AreHeadTypes items closure text head.params head.result
+
+-- ---- structs and enums
+
+-- as many fields as are declared, each with a name
+abbrev pub IsVariantOf : Syns → Variant → Type 0
+IsVariantOf fields v =
+    (length v.fields ≡ length (list_of fields)) × (length v.field_names ≡ length (list_of fields))
+
+abbrev pub AreVariantsOf : Syns → List Variant → Type 0
+AreVariantsOf no_syn [] = Unit {0}
+AreVariantsOf no_syn (v ∷ vs) = ⊥
+AreVariantsOf (a_syn first rest) [] = ⊥
+AreVariantsOf (a_syn (syn at (VariantDecl name kind fields)) rest) (v ∷ vs) =
+    ((v.name ≡ name) × IsVariantOf fields v) × AreVariantsOf rest vs
+AreVariantsOf (a_syn first rest) (v ∷ vs) = ⊥
+
+abbrev pub IsAdtOf : Syn → Adt → Type 0
+IsAdtOf (syn at (StructItem derives name kind fields)) adt =
+    (adt.name ≡ name.1) × (v : Variant) × (adt.variants ≡ v ∷ []) × IsVariantOf fields v
+IsAdtOf (syn at (EnumItem derives name variants)) adt =
+    (adt.name ≡ name.1) × (adt.is_enum ≡ true) × AreVariantsOf variants adt.variants
+IsAdtOf _ adt = ⊥
+
+-- structs and enums in the order of the text
+abbrev pub AreAdtsOf : List Syn → List Adt → Type 0
+AreAdtsOf [] [] = Unit {0}
+AreAdtsOf (i ∷ is) (adt ∷ adts) = IsAdtOf i adt × AreAdtsOf is adts
+AreAdtsOf _ _ = ⊥
 
 -- ---- the bodies that are listed for an item
 

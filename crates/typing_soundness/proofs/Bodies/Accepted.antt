@@ -234,7 +234,7 @@ items_ready parts end items p is_collected is_checked tell =
     legal_texts =
         let w = walk_adds parts items p is_checked in
         subst (λ (f : Tape). All (λ t. IsTrue (text_legal t)) (f [])) (sym (items_listed (items_of parts) items.adts
-        (heads.adts ∙ words_collected (items_of parts)) (items_of parts) tell)) (made_legal w.0.items (length
+        (words_collected (items_of parts) items.adts heads.adts) (items_of parts) tell)) (made_legal w.0.items (length
         items.closures) (length w.0.items.closures) (program_text items.adts parts []) w.1.met.new (w.1.met.made []))
 
     by : (r : Result (Unit {0} × State) Broken) → Walked (λ a t. AreReady collected.no_items → AreReady t.items) r →

@@ -8,6 +8,7 @@ use Rattle.mir_base.specs.declared.place_in_text.Pos.{Pos}
 use Rattle.mir_base.specs.declared.rule.Rule.{Rule}
 use Rattle.mir_ty.specs.AreItems.{AreDistinct}
 use Rattle.mir_ty.specs.declared.adt.Adt.{Adt}
+use Rattle.mir_ty.specs.declared.adt.Variant.{Variant}
 use Rattle.mir_ty.specs.declared.def.Sig.{Sig}
 use Rattle.mir_ty.specs.declared.ty.Ty.{Ty}
 use Rattle.mir_ty.specs.declared.ty.TyId.{TyId}
@@ -21,7 +22,7 @@ use Rattle.typing_rules.specs.Items.{ItemSyn, items_of, item_syns, body_paths, i
 use Rattle.typing_rules.specs.Written as types
 use Rattle.src_ast.specs.Syntax.{Word, Named, Receiver, ByValue, ByShared, ByUnique, Syn, syn, Shape, NamedType, GenericType, DynType, SelfType, ParensType, TupleType, ArrayType, NeverType, RefType, MoveOf, StructItem, EnumItem, VariantDecl, TraitItem, ImplItem, FnItem, ParamOf, SelfParam, Syns, no_syn, a_syn, list_of, MaybeSyn, nothing, just}
 use Rattle.typing_soundness.specs.Closures.{BodySyn, Function, Closure, Head, Tape, IsReceiver, MeansParam, MeanParams, MeansAnswer, HasTypes, AreMade, behind}
-use Rattle.typing_soundness.specs.Heads.{MeansIfAny, MeansClosureParam, MeanClosureParams, MeansClosureAnswer, AreHeadTypes, IsHeadOf, body_text, bodies_text}
+use Rattle.typing_soundness.specs.Heads.{MeansIfAny, MeansClosureParam, MeanClosureParams, MeansClosureAnswer, AreHeadTypes, IsHeadOf, IsVariantOf, AreVariantsOf, IsAdtOf, AreAdtsOf, body_text, bodies_text}
 use Rattle.typing_soundness.specs.Types.{HaveTypes, NamesTy, Means, MeansForm, MeanAll}
 use Rattle.typing_soundness.specs.Walks.{Walked}
 use Rattle.typing_soundness.proofs.Bodies.Meanings.{have_refl, interned_means, written_given, param_given}
@@ -119,13 +120,12 @@ module _ (around : types.Around) (items : ItemTable) where
 
 -- ---- what a step of the collection adds
 
-abbrev pub adt_words : State → List Word
-adt_words s = map (λ (adt : Adt). adt.name) s.items.adts
-
--- From one state to a later one come heads of these bodies, and structs and enums of these names; closures among the
--- bodies have the numbers from one up to another.
-pub record Collects (f : Tape) (ns : List Word) (from to : ℕ) (s t : State) : Type 0 where
-  pub adts : adt_words t ≡ adt_words s ++ ns
+-- From one state to a later one come heads of these bodies, and these structs and enums; closures among the bodies have
+-- the numbers from one up to another.
+pub record Collects (f : Tape) (is : List Syn) (from to : ℕ) (s t : State) : Type 0 where
+  pub new_adts : List Adt
+  pub adts : t.items.adts ≡ s.items.adts ++ new_adts
+  pub are_adts : AreAdtsOf is new_adts
   pub types : HaveTypes s.items t.items
   pub distinct : AreDistinct s.items.types → AreDistinct t.items.types
   pub closures : t.items.closures ≡ s.items.closures
@@ -137,7 +137,9 @@ pub record Collects (f : Tape) (ns : List Word) (from to : ℕ) (s t : State) : 
 collects_none : (n : ℕ) (s t : State) → t.items.adts ≡ s.items.adts → HaveTypes s.items t.items → (AreDistinct s.items.types → AreDistinct
     t.items.types) → t.items.closures ≡ s.items.closures → t.items.bodies ≡ s.items.bodies → Collects no_closure [] n n s t
 collects_none n s t adts types distinct closures heads = record {
-  adts = ap (map (λ (adt : Adt). adt.name)) adts ∙ sym (append-nil (adt_words s));
+  new_adts = [];
+  adts = adts ∙ sym (append-nil s.items.adts);
+  are_adts = tt;
   types = types;
   distinct = distinct;
   closures = closures;
@@ -151,6 +153,12 @@ collects_still n {s} {t} e = collects_none n s t e.stays.adts e.stays.types e.st
 
 collects_refl : (n : ℕ) (s : State) → Collects no_closure [] n n s s
 collects_refl n s = collects_still n (still s)
+
+adts_both : (is js : List Syn) (as_ bs : List Adt) → AreAdtsOf is as_ → AreAdtsOf js bs → AreAdtsOf (is ++ js) (as_ ++ bs)
+adts_both [] js [] bs h k = k
+adts_both [] js (a ∷ as_) bs h k = absurd h
+adts_both (i ∷ is) js [] bs h k = absurd h
+adts_both (i ∷ is) js (a ∷ as_) bs h k = (h.0, adts_both is js as_ bs h.1 k)
 
 -- ---- among later items
 
@@ -186,10 +194,12 @@ module _ (old new : ItemTable) (e : HaveTypes old new) where
     closure_answer_later head.around head.answer answer h.2,
   )
 
-collects_both : {f g : Tape} {ns ms : List Word} {a b c : ℕ} {s t u : State} → Collects f ns a b s t → Collects g ms b c t
-    u → Collects (f ⨾ g) (ns ++ ms) a c s u
-collects_both {f} {g} {ns} {ms} {a} {b} {c} {s} {t} {u} p q = record {
-  adts = q.adts ∙ (ap (λ ws. ws ++ ms) p.adts ∙ append_assoc (adt_words s) ns ms);
+collects_both : {f g : Tape} {is js : List Syn} {a b c : ℕ} {s t u : State} → Collects f is a b s t → Collects g js b c t
+    u → Collects (f ⨾ g) (is ++ js) a c s u
+collects_both {f} {g} {is} {js} {a} {b} {c} {s} {t} {u} p q = record {
+  new_adts = p.new_adts ++ q.new_adts;
+  adts = q.adts ∙ (ap (λ as_. as_ ++ q.new_adts) p.adts ∙ append_assoc s.items.adts p.new_adts q.new_adts);
+  are_adts = adts_both is js p.new_adts q.new_adts p.are_adts q.are_adts;
   types = λ n ty h. q.types n ty (p.types n ty h);
   distinct = λ h. q.distinct (p.distinct h);
   closures = q.closures ∙ p.closures;
@@ -312,7 +322,9 @@ module _ (around : types.Around) where
   with_head : (text : BodySyn) (n : ℕ) (s t : State) (sig : Sig) → SameWalk s t → IsHeadOf t.items n text sig → Collects (λ
       rest. text ∷ rest) [] n (behind text n) s (record t { items = with_body t.items sig })
   with_head text n s t sig e is = record {
-    adts = ap (map (λ (adt : Adt). adt.name)) e.stays.adts ∙ sym (append-nil (adt_words s));
+    new_adts = [];
+    adts = e.stays.adts ∙ sym (append-nil s.items.adts);
+    are_adts = tt;
     types = e.stays.types;
     distinct = e.stays.distinct;
     closures = e.stays.closures;
@@ -414,15 +426,47 @@ derives_still [] s = walk_ends (still s)
 derives_still (d ∷ ds) s =
     walk_obeyed Rule.T01 d.0 (rules.is_derivable d.1) (rules.derives_known ds) λ _. derives_still ds s
 
-variant_still : (around : types.Around) (name : Word) (fields : Syns) (s : State) → Walked (Still s) (rules.variant_of
-    around name fields s)
-variant_still around name fields s =
-    walk (each_still (λ f. types.written around (rules.field_type f)) (λ f t. written_still around (rules.field_type f)
-    t) (list_of fields) s) λ tys t e. walk_ends e
+-- as many as were checked
+each_counted : {A B : Type 0} (f : A → Check B) → ((x : A) (s : State) → Walked (Still s) (f x s)) → (xs : List A) (s :
+    State) → Walked (λ ys t. SameWalk s t × (length ys ≡ length xs)) (each_checked f xs s)
+each_counted f good [] s = walk_ends (still s, refl)
+each_counted f good (x ∷ xs) s =
+    walk (good x s) λ y t e. walk (each_counted f good xs t) λ ys u g. walk_ends (onward e g.0, ap suc g.1)
 
-declared_still : (around : types.Around) (v : Syn) (s : State) → Walked (Still s) (rules.declared_variant around v s)
-declared_still around (syn at (VariantDecl name kind fields)) s = variant_still around name fields s
-declared_still around (syn at _) s = record { so = tt }
+names_counted : (k : ℕ) (fs : List Syn) → length (rules.names_from k fs) ≡ length fs
+names_counted k [] = refl
+names_counted k (f ∷ fs) = ap suc (names_counted (suc k) fs)
+
+variant_collected : (around : types.Around) (name : Word) (fields : Syns) (s : State) → Walked (λ v t. SameWalk s t × (v.name
+    ≡ name) × IsVariantOf fields v) (rules.variant_of around name fields s)
+variant_collected around name fields s =
+    walk (each_counted (λ f. types.written around (rules.field_type f)) (λ f t. written_still around (rules.field_type f)
+    t) (list_of fields) s) λ tys t e. walk_ends (e.0, refl, (e.1, names_counted 0 (list_of fields)))
+
+-- a variant that is declared
+abbrev IsDeclared : Syn → Variant → Type 0
+IsDeclared (syn at (VariantDecl name kind fields)) v = (v.name ≡ name) × IsVariantOf fields v
+IsDeclared _ v = ⊥
+
+declared_collected : (around : types.Around) (v : Syn) (s : State) → Walked (λ x t. SameWalk s t × IsDeclared v x)
+    (rules.declared_variant around v s)
+declared_collected around (syn at (VariantDecl name kind fields)) s =
+    walk_map (variant_collected around name fields s) λ v t h. (h.0, (h.1, h.2))
+declared_collected around (syn at _) s = record { so = tt }
+
+variants_collected : (around : types.Around) (vs : Syns) (s : State) → Walked (λ xs t. SameWalk s t × AreVariantsOf vs xs)
+    (each_checked (rules.declared_variant around) (list_of vs) s)
+variants_collected around no_syn s = walk_ends (still s, tt)
+variants_collected around (a_syn first rest) s =
+    walk (declared_collected around first s) λ x t h. walk (variants_collected around rest t) λ xs u g. walk_ends (
+      onward h.0 g.0,
+      with_variant first x rest xs h.1 g.1,
+    )
+  where
+    with_variant : (v : Syn) (x : Variant) (rest : Syns) (xs : List Variant) → IsDeclared v x → AreVariantsOf rest xs →
+        AreVariantsOf (a_syn v rest) (x ∷ xs)
+    with_variant (syn at (VariantDecl name kind fields)) x rest xs h g = (h, g)
+    with_variant (syn at _) x rest xs h g = absurd h
 
 receiver_still : (own : TyId) (receiver : Receiver) (s : State) → Walked (Still s) (rules.receiver_ty own receiver s)
 receiver_still own ByValue s = walk_ends (still s)
@@ -463,16 +507,18 @@ trait_head_still around own (syn at (FnItem name params answer block)) s = by (r
         name.1 (rules.behind_self params) answer t) λ sig u g. walk_ends (onward e g)
 trait_head_still around own (syn at _) s = record { so = tt }
 
-abbrev pub adt_words_of : Syn → List Word
-adt_words_of (syn at (StructItem derives name kind fields)) = name.1 ∷ []
-adt_words_of (syn at (EnumItem derives name variants)) = name.1 ∷ []
-adt_words_of _ = []
+-- a struct or an enum
+abbrev pub adts_in : Syn → List Syn
+adts_in (syn at (StructItem derives name kind fields)) = syn at (StructItem derives name kind fields) ∷ []
+adts_in (syn at (EnumItem derives name variants)) = syn at (EnumItem derives name variants) ∷ []
+adts_in _ = []
 
-with_adt_collects : (n : ℕ) {s t : State} → SameWalk s t → (adt : Adt) → Collects no_closure (adt.name ∷ []) n n s (record
-    t { items = with_adt t.items adt })
-with_adt_collects n {s} {t} e adt = record {
-  adts = map-append (λ (a : Adt). a.name) t.items.adts (adt ∷ []) ∙ ap (λ as_. map (λ (a : Adt). a.name) as_ ++ adt.name ∷
-      []) e.stays.adts;
+with_adt_collects : (n : ℕ) (i : Syn) {s t : State} → SameWalk s t → (adt : Adt) → IsAdtOf i adt → Collects no_closure (i ∷
+    []) n n s (record t { items = with_adt t.items adt })
+with_adt_collects n i {s} {t} e adt is = record {
+  new_adts = adt ∷ [];
+  adts = ap (λ as_. as_ ++ adt ∷ []) e.stays.adts;
+  are_adts = (is, tt);
   types = e.stays.types;
   distinct = e.stays.distinct;
   closures = e.stays.closures;
@@ -481,15 +527,16 @@ with_adt_collects n {s} {t} e adt = record {
   made = λ rest. (refl, refl);
 }
 
-pub item_head_collected : (k : rules.Known) (n : ℕ) (i : Syn) (s : State) → Walked (λ _ t. Collects no_closure (adt_words_of i)
-    n n s t) (rules.item_head k i s)
+pub item_head_collected : (k : rules.Known) (n : ℕ) (i : Syn) (s : State) → Walked (λ _ t. Collects no_closure (adts_in i) n
+    n s t) (rules.item_head k i s)
 item_head_collected k n (syn at (StructItem ds name kind fields)) s =
-    walk (derives_still ds s) λ _ t e. walk (variant_still (rules.names_alone k (types.number_of k.adts name.1)) name.1
-    fields t) λ v u g. walk_ends (with_adt_collects n (onward e g) (rules.adt_of k ds name.1 false (v ∷ [])))
+    walk (derives_still ds s) λ _ t e. walk (variant_collected (rules.names_alone k (types.number_of k.adts name.1)) name.1
+    fields t) λ v u g. walk_ends (with_adt_collects n (syn at (StructItem ds name kind fields)) (onward e g.0) (rules.adt_of
+    k ds name.1 false (v ∷ [])) (refl, v, refl, g.2))
 item_head_collected k n (syn at (EnumItem ds name variants)) s =
-    walk (derives_still ds s) λ _ t e. walk (each_still (rules.declared_variant (rules.names_alone k (types.number_of
-    k.adts name.1))) (declared_still (rules.names_alone k (types.number_of k.adts name.1))) (list_of variants) t) λ vs u
-    g. walk_ends (with_adt_collects n (onward e g) (rules.adt_of k ds name.1 true vs))
+    walk (derives_still ds s) λ _ t e. walk (variants_collected (rules.names_alone k (types.number_of k.adts name.1))
+    variants t) λ vs u g. walk_ends (with_adt_collects n (syn at (EnumItem ds name variants)) (onward e g.0) (rules.adt_of k
+    ds name.1 true vs) (refl, refl, g.1))
 item_head_collected k n (syn at (TraitItem name heads)) s =
     walk (interned_still (Ty.Dyn (length s.items.traits)) s (still s)) λ own t e. walk (each_still (rules.trait_head
     (rules.names_alone k None) own) (trait_head_still (rules.names_alone k None) own) (list_of heads) t) λ sigs u g.
@@ -504,17 +551,17 @@ item_head_collected k n (syn at _) s = walk_ends (collects_refl n s)
 
 -- ---- the whole
 
--- the bodies that are listed for all items, and the names of structs and enums
+-- the bodies that are listed for all items, and the structs and enums
 abbrev pub listed_text : rules.Known → List ItemSyn → Tape
 listed_text k [] = no_closure
 listed_text k (i ∷ is) = bodies_text (all_names k (impl_owner i.item)) i.bodies ⨾ listed_text k is
 
-abbrev pub all_adt_words : List ItemSyn → List Word
-all_adt_words [] = []
-all_adt_words (i ∷ is) = adt_words_of i.item ++ all_adt_words is
+abbrev pub all_adts : List ItemSyn → List Syn
+all_adts [] = []
+all_adts (i ∷ is) = adts_in i.item ++ all_adts is
 
 heads_collected : (k : rules.Known) (c : rules.Count) (is : List ItemSyn) (s : State) → Walked (λ _ t. (n : ℕ) × Collects
-    (listed_text k is) (all_adt_words is) c.closures n s t) (rules.heads_collected k c is s)
+    (listed_text k is) (all_adts is) c.closures n s t) (rules.heads_collected k c is s)
 heads_collected k c [] s = walk_ends (c.closures, collects_refl c.closures s)
 heads_collected k c (i ∷ is) s =
     walk (item_head_collected k c.closures i.item s) λ _ t h. walk (bodies_collected k (impl_owner i.item) c i.bodies t) λ
@@ -596,7 +643,7 @@ names_still (n ∷ ns) earlier s =
 -- what is collected of a text
 pub record AreHeads (parts : Parts Pos) (items : ItemTable) : Type 0 where
   pub distinct : AreDistinct items.types
-  pub adts : map (λ (adt : Adt). adt.name) items.adts ≡ all_adt_words (items_of parts)
+  pub adts : AreAdtsOf (all_adts (items_of parts)) items.adts
   pub closures : items.closures ≡ []
   pub count : ℕ
   pub made : AreMade (IsHeadOf items) 0 count (listed_text (rules.known_of (items_of parts)) (items_of parts) []) []
@@ -609,7 +656,7 @@ heads_later old new e from to texts rest heads =
     head.result h) from to texts rest heads
 
 pub collecting_collects : (is : List ItemSyn) (end : Pos) → Walked (λ _ t. (u : State) × (n : ℕ) × Collects (listed_text
-    (rules.known_of is) is) (all_adt_words is) 0 n (rules.starting_with rules.no_items) u × SameHeads u t)
+    (rules.known_of is) is) (all_adts is) 0 n (rules.starting_with rules.no_items) u × SameHeads u t)
     (rules.collecting is end (rules.starting_with rules.no_items))
 collecting_collects is end =
     walk (names_still (filter_map rules.item_name (item_syns is)) [] start) λ _ t e. walk (heads_collected (rules.known_of

@@ -31,12 +31,12 @@ use Rattle.typing_rules.specs.Written as types
 use Rattle.src_ast.specs.Syntax.{Word, Receiver, ByValue, ByShared, ByUnique, Syn, syn, Shape, Minus, Bang, Star, Ampersand, Calculate, Compare, Both, Either, Store, CallOf, MethodOf, FieldOf, PartOf, ElementOf, StructOf, FieldInit, Parens, TupleOf, ArrayOf, Braces, IfElse, IfLetElse, MatchOn, ArmOf, LoopOf, WhileOf, WhileLetOf, BreakOf, ReturnOf, MoveOf, LetOf, Semi, StructItem, EnumItem, ImplItem, FnItem, ParamOf, SelfParam, Syns, no_syn, a_syn, list_of, MaybeSyn, nothing, just}
 use Rattle.typing_rules.proofs.Sound.Interned.{not_there}
 use Rattle.typing_soundness.specs.Closures.{BodySyn, Function, Closure, Head, Tape, IsReceiver, MeansParam, MeanParams, MeansAnswer, AreTypesOf, IsBodyOf, AreMade, Met, types_of, behind, closures_of, closures_in, closures_among, closures_if_any, function_text, functions_text, around_impl, item_text, items_text, program_text}
-use Rattle.typing_soundness.specs.Heads.{MeanClosureParams, MeansClosureAnswer, AreHeadTypes, IsHeadOf, inner_text, TellBodies, has_no_self}
+use Rattle.typing_soundness.specs.Heads.{MeanClosureParams, MeansClosureAnswer, AreHeadTypes, IsHeadOf, IsAdtOf, AreAdtsOf, inner_text, TellBodies, has_no_self}
 use Rattle.typing_soundness.specs.Program.{AreCollected, HaveHeads}
 use Rattle.typing_soundness.specs.Shapes.{shaped, shaped_form, all_shaped, maybe_shaped, body_shaped, function_shaped, item_shaped, no_self}
 use Rattle.typing_soundness.specs.Walks.{Walked}
 use Rattle.typing_soundness.proofs.Bodies.Collected as collected
-use Rattle.typing_soundness.proofs.Bodies.Collected.{AreHeads, SameHeads, all_names, listed_text, all_adt_words, adt_words_of, Collects}
+use Rattle.typing_soundness.proofs.Bodies.Collected.{AreHeads, SameHeads, all_names, listed_text, all_adts, adts_in, Collects}
 use Rattle.typing_soundness.proofs.Bodies.Meanings.{same_type, means_once}
 use Rattle.typing_soundness.specs.Walks.{counted}
 use Rattle.typing_soundness.proofs.Bodies.Order.{walk_adds, bodies_in_order}
@@ -168,15 +168,32 @@ module _ (all : List ItemSyn) (adts : List Adt) (words : map (λ (adt : Adt). ad
         λ j. λ rest. (h.0 (all_names (rules.known_of all) (impl_owner i.item)) ∙ item_listed i.item) j (items_listed is h.1
         j rest)
 
-words_with : (x : Syn) (is : List ItemSyn) → all_adt_words is ≡ adt_names (item_syns is) → adt_words_of x ++ all_adt_words is
-    ≡ adt_names (x ∷ item_syns is)
+-- structs and enums have the names of the text
+adt_word_is : (i : Syn) (adt : Adt) (is : List Syn) (ws : List Word) → IsAdtOf i adt → ws ≡ adt_names is → adt.name ∷ ws ≡
+    adt_names (i ∷ is)
+adt_word_is (syn at (StructItem derives name kind fields)) adt is ws h e = λ j. h.0 j ∷ e j
+adt_word_is (syn at (EnumItem derives name variants)) adt is ws h e = λ j. h.0 j ∷ e j
+adt_word_is (syn at _) adt is ws h e = absurd h
+
+adt_words : (is : List Syn) (adts : List Adt) → AreAdtsOf is adts → map (λ (adt : Adt). adt.name) adts ≡ adt_names is
+adt_words [] [] h = refl
+adt_words [] (a ∷ adts) h = absurd h
+adt_words (i ∷ is) [] h = absurd h
+adt_words (i ∷ is) (a ∷ adts) h = adt_word_is i a is _ h.0 (adt_words is adts h.1)
+
+words_with : (x : Syn) (is : List ItemSyn) → adt_names (all_adts is) ≡ adt_names (item_syns is) → adt_names (adts_in x ++
+    all_adts is) ≡ adt_names (x ∷ item_syns is)
 words_with (syn at (StructItem derives name kind fields)) is e = ap (λ ws. name.1 ∷ ws) e
 words_with (syn at (EnumItem derives name variants)) is e = ap (λ ws. name.1 ∷ ws) e
 words_with (syn at _) is e = e
 
-pub words_collected : (is : List ItemSyn) → all_adt_words is ≡ adt_names (item_syns is)
-words_collected [] = refl
-words_collected (i ∷ is) = words_with i.item is (words_collected is)
+words_of_text : (is : List ItemSyn) → adt_names (all_adts is) ≡ adt_names (item_syns is)
+words_of_text [] = refl
+words_of_text (i ∷ is) = words_with i.item is (words_of_text is)
+
+pub words_collected : (is : List ItemSyn) (adts : List Adt) → AreAdtsOf (all_adts is) adts → map (λ (adt : Adt). adt.name)
+    adts ≡ adt_names (item_syns is)
+words_collected is adts h = adt_words (all_adts is) adts h ∙ words_of_text is
 
 -- ---- one head a body
 
@@ -305,7 +322,7 @@ heads_of_text parts end items e = by (rules.collecting (items_of parts) end (rul
 
     Collected : State → Type 0
     Collected t =
-        (u : State) × (n : ℕ) × Collects (listed_text (rules.known_of (items_of parts)) (items_of parts)) (all_adt_words
+        (u : State) × (n : ℕ) × Collects (listed_text (rules.known_of (items_of parts)) (items_of parts)) (all_adts
         (items_of parts)) 0 n (rules.starting_with rules.no_items) u × SameHeads u t
 
     walked : Walked (λ _ t. Collected t) (rules.collecting (items_of parts) end (rules.starting_with rules.no_items))
@@ -314,7 +331,7 @@ heads_of_text parts end items e = by (rules.collecting (items_of parts) end (rul
     as_heads : (t : State) → Collected t → AreHeads parts t.items
     as_heads t h = record {
       distinct = h.3.distinct (h.2.distinct scalars_distinct);
-      adts = ap (map (λ (adt : Adt). adt.name)) h.3.adts ∙ h.2.adts;
+      adts = subst (AreAdtsOf (all_adts (items_of parts))) (sym (h.3.adts ∙ h.2.adts)) h.2.are_adts;
       closures = h.3.closures ∙ h.2.closures;
       count = h.1;
       made = subst (λ hs. AreMade (IsHeadOf t.items) 0 h.1 (listed_text (rules.known_of (items_of parts)) (items_of parts)
@@ -373,7 +390,7 @@ headed parts end items p is_collected is_checked shape tell =
         heads_made =
             collected.heads_later items t.items m.types 0 h.count (program_text items.adts parts []) [] items.bodies (subst
             (λ (f : Tape). AreMade (IsHeadOf items) 0 h.count (f []) [] items.bodies) (items_listed (items_of parts)
-            items.adts (h.adts ∙ words_collected (items_of parts)) (items_of parts) tell) h.made)
+            items.adts (words_collected (items_of parts) items.adts h.adts) (items_of parts) tell) h.made)
 
 -- ---- closures have their bodies
 
