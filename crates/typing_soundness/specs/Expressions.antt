@@ -16,12 +16,13 @@ use Rattle.typing_rules.specs.Scope.{Env, Entry, Around, within_loop}
 use Rattle.typing_rules.specs.Typed.{typed}
 use Rattle.src_ast.specs.Syntax.{Word, Syn, Syns, MaybeSyn}
 use Rattle.typing_soundness.specs.Shapes.{shaped, is_block, self_first}
+use Rattle.typing_soundness.specs.Closures.{Tape}
 use Rattle.typing_soundness.specs.Walks.{WalksNode}
 
 -- a loop, where its body gives what is well typed and carries its breaks
 abbrev pub Loops : Type 0
-Loops = (env : Env) (at : Pos) (label : Option Word) (body : Around → Typer) → ((a : Around) → Sound (within_loop a env)
-    (body a)) → ((a : Around) (want : Option TyId) → WalksNode (body a want)) → SoundTemporary env (loop_row at label
+Loops = (f : Tape) (env : Env) (at : Pos) (label : Option Word) (body : Around → Typer) → ((a : Around) → Sound (within_loop a env)
+    (body a)) → ((a : Around) (want : Option TyId) → WalksNode f (body a want)) → SoundTemporary env (loop_row at label
     body)
 
 -- a struct or a variant that a path names is there, and has no parts

@@ -1,4 +1,7 @@
+pub mod Closures
 pub mod Expressions
+pub mod Heads
+pub mod Legal
 pub mod Numbers
 pub mod Program
 pub mod Shapes

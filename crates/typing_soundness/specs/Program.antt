@@ -8,9 +8,11 @@ use Rattle.typed_tree.specs.Tree.{BodyTree, ProgramTree}
 use Rattle.well_typed.specs.Claim.{Holds, each}
 use Rattle.well_typed.specs.Items.{are_items}
 use Rattle.well_typed.specs.Program.{WellTyped}
+use Rattle.typing_rules.specs.Collected.{collected}
 use Rattle.typing_rules.specs.Items.{items_of, item_syns, all_kinds}
 use Rattle.typing_rules.specs.Program.{checked}
 use Rattle.typing_rules.specs.Promises.{AreReady, AreClosures, IsBodyIn, Extends, KnowsItems}
+use Rattle.typing_soundness.specs.Heads.{TellBodies}
 use Rattle.typing_soundness.specs.Shapes.{item_shaped}
 use Rattle.typing_soundness.specs.Walks.{counted}
 
@@ -39,7 +41,14 @@ HaveHeads (head ∷ heads) (body ∷ bodies) =
     ((head.params ≡ map (λ p. p.ty) body.params) × (head.result ≡ body.answer)) × HaveHeads heads bodies
 HaveHeads _ _ = ⊥
 
--- So a typed program is well typed where its items are and its bodies have their heads.
+-- Of an accepted text whose items are listed with all their bodies, each body has its head, and each closure its body.
+abbrev pub BodiesHaveHeads : Type 0
+BodiesHaveHeads = (parts : Parts Pos) (end : Pos) (items : ItemTable) (p : ProgramTree) → collected parts end ≡ Ok items →
+    checked parts items ≡ Ok p → Holds (each item_shaped (item_syns (items_of parts))) → TellBodies (items_of parts) →
+    HaveHeads p.items.bodies p.bodies × AreClosures p.items
+
+-- So a typed program is well typed where its items are.
 abbrev pub ProgramsAreTyped : Type 0
-ProgramsAreTyped = (parts : Parts Pos) (items : ItemTable) (p : ProgramTree) → AreCollected parts items → checked parts
-    items ≡ Ok p → Holds (are_items p.items) → AreClosures p.items → HaveHeads p.items.bodies p.bodies → WellTyped p
+ProgramsAreTyped = (parts : Parts Pos) (end : Pos) (items : ItemTable) (p : ProgramTree) → collected parts end ≡ Ok items →
+    AreCollected parts items → checked parts items ≡ Ok p → TellBodies (items_of parts) → Holds (are_items p.items) →
+    WellTyped p

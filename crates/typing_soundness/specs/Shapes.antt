@@ -1,5 +1,5 @@
 -- What the syntax tree of a text has beyond its form: the names in its paths are without the mark of closures' names, the
--- body of a closure is a block, and `self` is the first of parameters.
+-- body of a closure is a block, `self` is the first of parameters, and no parameter of a closure.
 use Rattle.std.specs.Prelude.{Bool, true, false, Option, Some, None}
 use Rattle.well_typed.specs.Claim.{Claim, fact, ◌&◌, each}
 use Rattle.typing_rules.specs.Promises.{is_plain_name}
@@ -60,7 +60,7 @@ abbrev mutual
   shaped_form (BreakOf label value) = maybe_shaped value
   shaped_form (ReturnOf value) = maybe_shaped value
   shaped_form (MoveOf captures params answer body) =
-      fact (is_block body) & fact (self_first params) & shaped body
+      fact (is_block body) & fact (no_self params) & shaped body
   shaped_form (LetOf pattern ty value) = maybe_shaped value
   shaped_form (Semi expression) = shaped expression
   shaped_form _ = fact true

@@ -1,4 +1,5 @@
--- What a check adds to a walk: nodes with numbers of their own, and breaks that are carried by nodes.
+-- What a check adds to a walk: nodes with numbers of their own, breaks that are carried by nodes, and bodies with the
+-- types that the text has for them.
 use Rattle.std.specs.Prelude.{◌≡◌, ℕ, zero, suc, ◌+◌, ◌++◌, ◌≤◌, ◌==◌, length, map, slice_get, Some, List, [], ◌∷◌, ◌⊎◌, Option, Result, Contains, if◌then◌else◌}
 use Rattle.std.specs.List.{filter_map}
 use Rattle.mir_ty.specs.declared.def.ClosureDef.{ClosureDef}
@@ -12,7 +13,9 @@ use Rattle.typing_rules.specs.Promises.{Then}
 use Rattle.typing_rules.specs.Rows.{Expected, ty_carried}
 use Rattle.typing_rules.specs.Scope.{Env}
 use Rattle.typing_rules.specs.Typed.{typed}
+use Rattle.typing_rules.specs.Bodies.{all_rules}
 use Rattle.src_ast.specs.Syntax.{Syn}
+use Rattle.typing_soundness.specs.Closures.{Tape, closures_of, Met}
 
 -- how many of some nodes have a number
 abbrev pub occurs : ℕ → List Node → ℕ
@@ -47,27 +50,29 @@ pub record InOrder (s t : State) : Type 0 where
   pub next : t.next_body ≡ s.next_body + count
   pub bodies : numbers_of_bodies t ≡ numbers_of_bodies s ++ counted s.next_body count
 
--- From one state to a later one come these nodes: each has a number of its own among those that are given out in
--- between, and each break that is new is carried by one of them.
-pub record Walks (s t : State) (ns : List Node) : Type 0 where
+-- From one state to a later one come these nodes, and bodies of these closures: each node has a number of its own among
+-- those that are given out in between, each break that is new is carried by one of them, and each body has the types that
+-- are written for its closure.
+pub record Walks (f : Tape) (s t : State) (ns : List Node) : Type 0 where
   pub numbers : s.next_node ≤ t.next_node
   pub before : (k : ℕ) → suc k ≤ s.next_node → occurs k ns ≡ 0
   pub behind : (k : ℕ) → t.next_node ≤ k → occurs k ns ≡ 0
   pub once : (k : ℕ) → occurs k ns ≤ 1
   pub carried : (b : ℕ × TyId) → Contains t.breaks b → Contains s.breaks b ⊎ IsCarried b ns
   pub ordered : Ordered s t
+  pub met : Met f s t
 
 -- what is so of all that a check gives, where no rule is broken
 pub record Walked {A : Type 0} (P : A → State → Type 0) (r : Result (A × State) Broken) : Type 0 where
   pub so : Then r P
 
 -- a check that gives a node
-abbrev pub WalksNode : Check Node → Type 0
-WalksNode check = (s : State) → Walked (λ n t. Walks s t (nodes_of n)) (check s)
+abbrev pub WalksNode : Tape → Check Node → Type 0
+WalksNode f check = (s : State) → Walked (λ n t. Walks f s t (nodes_of n)) (check s)
 
 abbrev pub Patterns : Type 0
-Patterns = (env : Env) (e : Expected) (ty : TyId) (p : Syn) (s : State) → Walked (λ b t. Walks s t (nodes_of b.0))
-    (pattern env e ty p [] s)
+Patterns = (env : Env) (e : Expected) (ty : TyId) (p : Syn) (s : State) → Walked (λ b t. Walks (λ rest. rest)
+    s t (nodes_of b.0)) (pattern env e ty p [] s)
 
 abbrev pub Expressions : Type 0
-Expressions = (env : Env) (e : Syn) (want : Option TyId) → WalksNode (typed env e want)
+Expressions = (env : Env) (e : Syn) (want : Option TyId) → WalksNode (closures_of (all_rules env) e) (typed env e want)

@@ -1,12 +1,18 @@
 //! What is proved of the checks of expressions, as clauses of functions without parameters.
 ghost use Rattle.typing_soundness.specs.Expressions.{Loops, Paths, Callees, AreSound, Closures, Functions};
 ghost use Rattle.typing_soundness.specs.Numbers.{StaysTyped, AreInOrder};
-ghost use Rattle.typing_soundness.specs.Program.{AreInTextOrder, BodiesAreTyped, ProgramsAreTyped};
+ghost use Rattle.typing_soundness.specs.Program.{
+  AreInTextOrder,
+  BodiesAreTyped,
+  BodiesHaveHeads,
+  ProgramsAreTyped,
+};
 ghost use Rattle.typing_soundness.specs.Types.{OneNumber, OneParamNumber};
 ghost use Rattle.typing_soundness.specs.Walks.{Expressions, Patterns};
 
 /// What the check of an expression or a pattern adds to a walk: each node has a number of its own, which is given out
-/// by the check, and each break is carried by a node.
+/// by the check, each break is carried by a node, and bodies that come are those of the closures in its text, in their
+/// order, with the types that are written.
 pub fn law_of_walks()
     ensures patterns { Patterns }
     ensures expressions { Expressions }
@@ -39,10 +45,11 @@ pub fn law_of_written_types()
 {}
 
 /// Of a typed program: its bodies stand in the order of their numbers. Over items that are collected as the walk asks,
-/// each body whose head has its types is well typed, and the program is, where its items are and its bodies have their
-/// heads.
+/// each body whose head has its types is well typed. Each body of an accepted text has its head, and each closure its
+/// body; so the program is well typed where its items are.
 pub fn law_of_programs()
     ensures order { AreInTextOrder }
     ensures bodies { BodiesAreTyped }
+    ensures heads { BodiesHaveHeads }
     ensures programs { ProgramsAreTyped }
 {}

@@ -11,100 +11,20 @@ use Rattle.mir_ty.specs.ItemTable.{ItemTable, type_at}
 use Rattle.mir_ty.proofs.ListLemmas.{slice_get-append_left, slice_get-last}
 use Rattle.well_typed.specs.Items.{is_equal}
 use Rattle.typing_rules.specs.Check.{State, Broken, interned, interned_at}
-use Rattle.typing_rules.specs.Places.{unit, never}
 use Rattle.typing_rules.specs.Written as rules
 use Rattle.typing_rules.specs.Written.{Around}
 use Rattle.src_ast.specs.Syntax.{Syn, syn, Shape, NamedType, GenericType, DynType, SelfType, ParensType, TupleType, ArrayType, NeverType, RefType, Syns, no_syn, a_syn}
 use Rattle.typing_rules.proofs.Sound.Interned.{found_at}
-use Rattle.typing_soundness.specs.Types.{HaveTypes}
+use Rattle.typing_soundness.specs.Types.{HaveTypes, NamesTy, IsTupleOf, Means, MeansForm, MeanAll}
+use Rattle.typing_soundness.proofs.Walking.Later.{means_later, all_later}
 use Rattle.typing_soundness.specs.Walks.{Walked}
 use Rattle.typing_soundness.proofs.Walking.Steps.{walk, walk_map, walk_obeyed, walk_found, walk_ends}
 
--- ---- what a type means
-
-abbrev NamesTy : ItemTable → Option ℕ → Option TyId → TyId → Type 0
-NamesTy items adt (Some scalar) ty = scalar ≡ ty
-NamesTy items None None ty = ⊥
-NamesTy items (Some n) None ty = type_at items ty ≡ Some (Ty.Adt n)
-
-abbrev IsTupleOf : ItemTable → List TyId → TyId → Type 0
-IsTupleOf items [] ty = unit ≡ ty
-IsTupleOf items (t ∷ ts) ty = type_at items ty ≡ Some (Ty.Tuple (t ∷ ts))
-
 module _ (around : Around) where
-  abbrev mutual
-    Means : ItemTable → Syn → TyId → Type 0
-    Means items (syn at form) ty = MeansForm items form ty
-
-    MeansForm : ItemTable → Shape → TyId → Type 0
-    MeansForm items (NamedType name) ty =
-        NamesTy items (rules.number_of around.adts name) (rules.scalar_named name) ty
-    MeansForm items (GenericType name content) ty =
-        (inside : TyId) × Means items content inside × (type_at items ty ≡ Some (Ty.Boxed inside))
-    MeansForm items (DynType name trait_) ty =
-        (n : ℕ) × (inside : TyId) × (rules.number_of around.traits trait_.1 ≡ Some n) × (type_at items inside ≡ Some
-        (Ty.Dyn n)) × (type_at items ty ≡ Some (Ty.Boxed inside))
-    MeansForm items SelfType ty = (n : ℕ) × (around.self_adt ≡ Some n) × (type_at items ty ≡ Some (Ty.Adt n))
-    MeansForm items (ParensType inside) ty = Means items inside ty
-    MeansForm items (TupleType parts) ty = (tys : List TyId) × MeanAll items parts tys × IsTupleOf items tys ty
-    MeansForm items (ArrayType element count suffix) ty =
-        (part : TyId) × Means items element part × (type_at items ty ≡ Some (Ty.Array part (rules.length_shown count)))
-    MeansForm items NeverType ty = never ≡ ty
-    MeansForm items (RefType unique to) ty =
-        (inside : TyId) × Means items to inside × (type_at items ty ≡ Some (rules.reference_to unique inside))
-    MeansForm items _ ty = ⊥
-
-    MeanAll : ItemTable → Syns → List TyId → Type 0
-    MeanAll items no_syn [] = Unit {0}
-    MeanAll items no_syn (ty ∷ tys) = ⊥
-    MeanAll items (a_syn first rest) [] = ⊥
-    MeanAll items (a_syn first rest) (ty ∷ tys) = Means items first ty × MeanAll items rest tys
-
-  -- ---- among later items
-
-  named_later : (old new : ItemTable) → HaveTypes old new → (adt : Option ℕ) (scalar : Option TyId) (ty : TyId) →
-      NamesTy old adt scalar ty → NamesTy new adt scalar ty
-  named_later old new e adt (Some scalar) ty h = h
-  named_later old new e None None ty h = h
-  named_later old new e (Some n) None ty h = e ty.0 (Ty.Adt n) h
-
-  tuple_later : (old new : ItemTable) → HaveTypes old new → (tys : List TyId) (ty : TyId) → IsTupleOf old tys ty →
-      IsTupleOf new tys ty
-  tuple_later old new e [] ty h = h
-  tuple_later old new e (t ∷ ts) ty h = e ty.0 (Ty.Tuple (t ∷ ts)) h
-
-  module _ (old new : ItemTable) (e : HaveTypes old new) where
-    mutual
-      means_later : (x : Syn) (ty : TyId) → Means old x ty → Means new x ty
-      means_later (syn at form) ty h = form_later form ty h
-
-      form_later : (form : Shape) (ty : TyId) → MeansForm old form ty → MeansForm new form ty
-      form_later (NamedType name) ty h =
-          named_later old new e (rules.number_of around.adts name) (rules.scalar_named name) ty h
-      form_later (GenericType name content) ty h =
-          (h.0, means_later content h.0 h.1, e ty.0 (Ty.Boxed h.0) h.2)
-      form_later (DynType name trait_) ty h =
-          (h.0, h.1, h.2, e h.1.0 (Ty.Dyn h.0) h.3, e ty.0 (Ty.Boxed h.1) h.4)
-      form_later SelfType ty h = (h.0, h.1, e ty.0 (Ty.Adt h.0) h.2)
-      form_later (ParensType inside) ty h = means_later inside ty h
-      form_later (TupleType parts) ty h = (h.0, all_later parts h.0 h.1, tuple_later old new e h.0 ty h.2)
-      form_later (ArrayType element count suffix) ty h =
-          (h.0, means_later element h.0 h.1, e ty.0 (Ty.Array h.0 (rules.length_shown count)) h.2)
-      form_later NeverType ty h = h
-      form_later (RefType unique to) ty h =
-          (h.0, means_later to h.0 h.1, e ty.0 (rules.reference_to unique h.0) h.2)
-      form_later _ ty h = absurd h
-
-      all_later : (xs : Syns) (tys : List TyId) → MeanAll old xs tys → MeanAll new xs tys
-      all_later no_syn [] h = h
-      all_later no_syn (ty ∷ tys) h = h
-      all_later (a_syn first rest) [] h = h
-      all_later (a_syn first rest) (ty ∷ tys) h = (means_later first ty h.0, all_later rest tys h.1)
-
   -- ---- one number
 
   module _ (items : ItemTable) (distinct : AreDistinct items.types) where
-    same_type : (a b : TyId) (t u : Ty) → type_at items a ≡ Some t → type_at items b ≡ Some u → t ≡ u → a ≡ b
+    pub same_type : (a b : TyId) (t u : Ty) → type_at items a ≡ Some t → type_at items b ≡ Some u → t ≡ u → a ≡ b
     same_type a b t u at_a at_b e =
         let n = distinct a.0 b.0 u (at_a ∙ ap Some e) at_b in λ i. record { 0 = n i }
 
@@ -119,10 +39,10 @@ module _ (around : Around) where
     tuple_once (t ∷ ts) a b h g = same_type a b (Ty.Tuple (t ∷ ts)) (Ty.Tuple (t ∷ ts)) h g refl
 
     mutual
-      means_once : (x : Syn) (a b : TyId) → Means items x a → Means items x b → a ≡ b
+      pub means_once : (x : Syn) (a b : TyId) → Means around items x a → Means around items x b → a ≡ b
       means_once (syn at form) a b h g = form_once form a b h g
 
-      form_once : (form : Shape) (a b : TyId) → MeansForm items form a → MeansForm items form b → a ≡ b
+      form_once : (form : Shape) (a b : TyId) → MeansForm around items form a → MeansForm around items form b → a ≡ b
       form_once (NamedType name) a b h g =
           named_once (rules.number_of around.adts name) (rules.scalar_named name) a b h g
       form_once (GenericType name content) a b h g =
@@ -145,7 +65,7 @@ module _ (around : Around) where
           unique) (means_once to h.0 g.0 h.1 g.1))
       form_once _ a b h g = absurd h
 
-      all_once : (xs : Syns) (as_ bs : List TyId) → MeanAll items xs as_ → MeanAll items xs bs → as_ ≡ bs
+      all_once : (xs : Syns) (as_ bs : List TyId) → MeanAll around items xs as_ → MeanAll around items xs bs → as_ ≡ bs
       all_once no_syn [] [] h g = refl
       all_once no_syn [] (b ∷ bs) h g = absurd g
       all_once no_syn (a ∷ as_) bs h g = absurd h
@@ -156,10 +76,10 @@ module _ (around : Around) where
 
 -- ---- what the rules give
 
-have_refl : (items : ItemTable) → HaveTypes items items
+pub have_refl : (items : ItemTable) → HaveTypes items items
 have_refl items n ty h = h
 
-interned_means : (ty : Ty) (s u : State) → HaveTypes u.items s.items → Walked (λ id t. HaveTypes u.items
+pub interned_means : (ty : Ty) (s u : State) → HaveTypes u.items s.items → Walked (λ id t. HaveTypes u.items
     t.items × HaveTypes s.items t.items × (type_at t.items id ≡ Some ty)) (interned ty s)
 interned_means ty s u e = by (position_of (is_equal ty) s.items.types) refl
   where
@@ -189,7 +109,7 @@ module _ (around : Around) where
   tuple_given (t ∷ ts) s u e = interned_means (Ty.Tuple (t ∷ ts)) s u e
 
   mutual
-    written_given : (x : Syn) (s : State) → Walked (Given x s) (rules.written around x s)
+    pub written_given : (x : Syn) (s : State) → Walked (Given x s) (rules.written around x s)
     written_given (syn at form) s = form_given at form s
 
     form_given : (at : Pos) (form : Shape) (s : State) → Walked (λ id t. HaveTypes s.items t.items × MeansForm around
@@ -197,7 +117,7 @@ module _ (around : Around) where
     form_given at (NamedType name) s =
         named_given at (rules.number_of around.adts name) (rules.scalar_named name) s
     form_given at (GenericType name content) s =
-        walk_obeyed Rule.T01 at (rules.is_box name) _ λ _. walk (written_given content s) λ ty t g. walk_map
+        walk_obeyed Rule.T01 at (rules.is_box name) _ λ boxed. walk (written_given content s) λ ty t g. walk_map
         (interned_means (Ty.Boxed ty) t s g.0) λ id u h. (
           h.0,
           (
@@ -205,12 +125,13 @@ module _ (around : Around) where
             means_later around t.items u.items h.1 content
                 ty g.1,
             h.2,
+            boxed,
           ),
         )
     form_given at (DynType name trait_) s =
-        walk_obeyed Rule.T01 at (rules.is_box name) _ λ _. walk_found Rule.T01 trait_.0 (rules.number_of around.traits
+        walk_obeyed Rule.T01 at (rules.is_box name) _ λ boxed. walk_found Rule.T01 trait_.0 (rules.number_of around.traits
         trait_.1) _ λ n is. walk (interned_means (Ty.Dyn n) s s (have_refl s.items)) λ ty t g. walk_map
-        (interned_means (Ty.Boxed ty) t s g.0) λ id u h. (h.0, (n, ty, is, h.1 ty.0 (Ty.Dyn n) g.2, h.2))
+        (interned_means (Ty.Boxed ty) t s g.0) λ id u h. (h.0, (n, ty, is, h.1 ty.0 (Ty.Dyn n) g.2, h.2, boxed))
     form_given at SelfType s =
         walk_found Rule.T01 at around.self_adt _ λ n is. walk_map (interned_means (Ty.Adt n) s s (have_refl
         s.items)) λ id t h. (h.0, (n, is, h.2))
@@ -263,7 +184,7 @@ module _ (around : Around) where
         )
 
   mutual
-    param_given : (x : Syn) (s : State) → Walked (Given x s) (rules.written_param around x s)
+    pub param_given : (x : Syn) (s : State) → Walked (Given x s) (rules.written_param around x s)
     param_given (syn at form) s = param_form_given at form s
 
     param_form_given : (at : Pos) (form : Shape) (s : State) → Walked (λ id t. HaveTypes s.items t.items × MeansForm

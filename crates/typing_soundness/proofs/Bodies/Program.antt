@@ -18,9 +18,8 @@ use Rattle.typing_rules.specs.Program as rules
 use Rattle.typing_rules.specs.Promises.{AreReady, AreClosures, IsBodyIn, IsWhole, Extends, Grows, Gives, KnowsItems}
 use Rattle.typing_rules.specs.Scope.{Env, Entry, adt_named, body_named}
 use Rattle.typing_rules.specs.Written as types
-use Rattle.well_typed.specs.Items.{are_items}
 use Rattle.well_typed.specs.Names.{is_among}
-use Rattle.well_typed.specs.Program.{WellTyped, are_bodies, is_body}
+use Rattle.well_typed.specs.Program.{are_bodies, is_body}
 use Rattle.typing_soundness.specs.Program.{AreCollected, HaveHeads}
 use Rattle.src_ast.specs.Syntax.{Word, Named, Kind, Syn, syn, StructItem, EnumItem, FieldDecl, VariantDecl, TraitItem, ImplItem, FnItem, SelfParam, Syns, no_syn, a_syn, list_of, MaybeSyn, nothing, just}
 use Rattle.typing_rules.proofs.Sound.Gives.{bind, weaker, obeyed, given, then_map, grows_trans, items_later}
@@ -33,7 +32,7 @@ use Rattle.typing_soundness.proofs.Bodies.Inner.{inner_state, new_body_sound, an
 use Rattle.typing_soundness.proofs.Bodies.Params.{params_bound}
 use Rattle.typing_soundness.proofs.Bodies.Types.{written_param_sound}
 use Rattle.typing_soundness.specs.Walks.{counted}
-use Rattle.typing_soundness.proofs.Bodies.Order.{same_ok, no_ok, bodies_in_order}
+use Rattle.typing_soundness.proofs.Bodies.Order.{same_ok, no_ok}
 use Rattle.typing_soundness.proofs.Sound.Names.{found_there}
 
 -- a check that only adds what is well typed
@@ -245,15 +244,15 @@ bodies_typed parts items p c e =
 
 -- ---- programs
 
-abbrev first_of : List ℕ → ℕ
+abbrev pub first_of : List ℕ → ℕ
 first_of [] = 0
 first_of (n ∷ ns) = n
 
-abbrev others_of : List ℕ → List ℕ
+abbrev pub others_of : List ℕ → List ℕ
 others_of [] = []
 others_of (n ∷ ns) = ns
 
-heads_typed : (items : ItemTable) (n : ℕ) (heads : List Sig) (bs : List BodyTree) → ((k : ℕ) (head : Sig) → slice_get
+pub heads_typed : (items : ItemTable) (n : ℕ) (heads : List Sig) (bs : List BodyTree) → ((k : ℕ) (head : Sig) → slice_get
     heads k ≡ Some head → slice_get items.bodies (n + k) ≡ Some head) → ((body : BodyTree) → Contains bs body → IsBodyIn
     items body) → map (λ (b : BodyTree). b.number) bs ≡ counted n (length bs) → HaveHeads heads bs → Holds (are_bodies
     items n heads bs)
@@ -267,12 +266,3 @@ heads_typed items n (head ∷ heads) (body ∷ bs) at good order h =
     )
 heads_typed items n [] (body ∷ bs) at good order h = absurd h
 heads_typed items n (head ∷ heads) [] at good order h = absurd h
-
-pub programs_typed : (parts : Parts Pos) (items : ItemTable) (p : ProgramTree) → AreCollected parts items →
-    rules.checked parts items ≡ Ok p → Holds (are_items p.items) → AreClosures p.items → HaveHeads p.items.bodies
-    p.bodies → WellTyped p
-programs_typed parts items p c e are heads have = (
-  are,
-  heads_typed p.items 0 p.items.bodies p.bodies (λ k head is. ap (slice_get p.items.bodies) (omega arith) ∙ is)
-      ((bodies_typed parts items p c e).2 heads) (bodies_in_order parts items p e) have,
-)

@@ -53,7 +53,7 @@ plain_param items id h = (h.0, h.1, there_of items h.0 h.2, h.3, no_dyn items h.
 pub param_ready : (items : ItemTable) (id : TyId) → IsParamTy items id → IsReady items id
 param_ready items id h = (h.0, h.1, h.2)
 
-value_plain : (old new : ItemTable) → Extends old new → (id : TyId) → IsPlain old id → IsPlain new id
+pub value_plain : (old new : ItemTable) → Extends old new → (id : TyId) → IsPlain old id → IsPlain new id
 value_plain old new e id h = let a = alone_later e id (plain_alone old id h) in (h.0, type_later e id h.0 h.1, by, h.3)
   where
     by : IsValueType new h.0
@@ -86,7 +86,7 @@ int_plain items all kind = (Ty.Int kind, int_at items all kind, tt, refl)
 bool_plain : (items : ItemTable) → AreReady items → IsPlain items bool
 bool_plain items all = (Ty.Bool, all.begins 1 Ty.Bool refl, tt, refl)
 
-unit_plain : (items : ItemTable) → AreReady items → IsPlain items unit
+pub unit_plain : (items : ItemTable) → AreReady items → IsPlain items unit
 unit_plain items all = (Ty.Unit, all.begins 0 Ty.Unit refl, tt, refl)
 
 never_plain : (items : ItemTable) → AreReady items → IsPlain items never

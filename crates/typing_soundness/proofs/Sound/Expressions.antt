@@ -30,7 +30,7 @@ use Rattle.typing_rules.specs.Rows.{Typer, Referrer, Expected, Given, taken}
 use Rattle.typing_rules.specs.Scope.{Env, Entry, Around, with_variables, within_loop, jumps_to, in_guard, field_named, labelled, innermost}
 use Rattle.typing_rules.specs.Typed as typing
 use Rattle.typing_rules.specs.Typed.{is_one_name}
-use Rattle.src_ast.specs.Syntax.{Word, Syn, syn, Shape, Literal, TruthLiteral, Path, Minus, Bang, Star, Ampersand, Calculate, Compare, Both, Either, Store, CallOf, MethodOf, FieldOf, PartOf, ElementOf, StructOf, FieldInit, Parens, TupleOf, ArrayOf, Braces, IfElse, IfLetElse, MatchOn, ArmOf, LoopOf, WhileOf, WhileLetOf, BreakOf, ContinueOf, ReturnOf, MoveOf, PanicOf, LetOf, Semi, Syns, no_syn, a_syn, MaybeSyn, nothing, just}
+use Rattle.src_ast.specs.Syntax.{Word, Syn, syn, Shape, Literal, TruthLiteral, Path, Minus, Bang, Star, Ampersand, Calculate, Compare, Both, Either, Store, CallOf, MethodOf, FieldOf, PartOf, ElementOf, StructOf, FieldInit, Parens, TupleOf, ArrayOf, Braces, IfElse, IfLetElse, MatchOn, ArmOf, LoopOf, WhileOf, WhileLetOf, BreakOf, ContinueOf, ReturnOf, MoveOf, PanicOf, LetOf, Semi, SelfParam, Syns, no_syn, a_syn, MaybeSyn, nothing, just}
 use Rattle.typing_rules.proofs.Sound.AllPatterns.{matcher_sound}
 use Rattle.typing_rules.proofs.Sound.Arguments.{element_sound, store_sound, argument_sound}
 use Rattle.typing_rules.proofs.Sound.Blocks.{block_sound, evaluate_sound}
@@ -53,8 +53,10 @@ use Rattle.typing_rules.proofs.Sound.Places.{not_true, variable_sound, deref_sou
 use Rattle.typing_rules.proofs.Sound.References.{borrow_sound, passed_on_sound}
 use Rattle.typing_rules.proofs.Sound.Structs.{struct_sound}
 use Rattle.typing_rules.proofs.Sound.Written.{written_sound}
-use Rattle.typing_soundness.specs.Shapes.{shaped, shaped_form, all_shaped, maybe_shaped, is_block, self_first}
+use Rattle.typing_soundness.specs.Shapes.{shaped, shaped_form, all_shaped, maybe_shaped, is_block, no_self, self_first}
 use Rattle.typing_soundness.proofs.Numbers.Rows.{found_in}
+use Rattle.typing_rules.specs.Bodies.{all_rules}
+use Rattle.typing_soundness.specs.Closures.{closures_of}
 use Rattle.typing_soundness.proofs.Sound.Loops.{loop_sound}
 use Rattle.typing_soundness.proofs.Sound.Names.{IsUnit, IsCallee, path_is, callee_is, target_there, found_there}
 use Rattle.typing_soundness.proofs.Walking.Expressions.{typed_walks}
@@ -291,6 +293,12 @@ minus_sound env at None operand good = negate_sound env at operand good
 
 -- ---- the recursion
 
+-- where `self` stands nowhere, it stands nowhere but first
+first_if_none : (params : Syns) → IsTrue (no_self params) → IsTrue (self_first params)
+first_if_none no_syn h = refl
+first_if_none (a_syn (syn at (SelfParam receiver)) rest) h = absurd (false≢true h)
+first_if_none (a_syn (syn at _) rest) h = h
+
 module _ (closures : (env : Env) (at : Pos) (captures params : Syns) (answer : MaybeSyn) (body : Syn) → IsTrue (is_block
     body) → IsTrue (self_first params) → ((inner : Env) → Sound inner (typing.typed inner body)) → SoundTemporary env (bodies.closure env at captures
     params answer (λ inner. typing.typed inner body))) where
@@ -398,7 +406,7 @@ module _ (closures : (env : Env) (at : Pos) (captures params : Syns) (answer : M
         want t k ready) λ ns w all g is. (is.0, subst (λ n. IsTrue (nat_lt 0 n)) (sym is.1) (some_arm arms one))) want s
         k
     value_sound env at (LoopOf label body) h e want s k =
-        loop_sound env at label (λ a. typing.typed (within_loop a env) body) (λ a. typed_sound (within_loop a env) body
+        loop_sound (closures_of (all_rules env) body) env at label (λ a. typing.typed (within_loop a env) body) (λ a. typed_sound (within_loop a env) body
         h) (λ a want. typed_walks (within_loop a env) body want) want s k
     value_sound env at (WhileOf label c body) h e want s k =
         while_sound env at label (λ a. typing.typed (within_loop a env) c) (λ a. typing.typed (within_loop a env) body)
@@ -415,7 +423,7 @@ module _ (closures : (env : Env) (at : Pos) (captures params : Syns) (answer : M
     value_sound env at (ReturnOf v) h e want s k =
         return_sound env at (typing.typed_maybe env v) (λ want t. maybe_sound env v h want t) want s k
     value_sound env at (MoveOf captures params answer body) h e want s k =
-        closures env at captures params answer body h.0 h.1.0 (λ inner. typed_sound inner body h.1.1) want s k
+        closures env at captures params answer body h.0 (first_if_none params h.1.0) (λ inner. typed_sound inner body h.1.1) want s k
     value_sound env at PanicOf h e want s k = panic_sound env at want s k
     value_sound env at _ h e want s k = gives_nothing Rule.T20 at
 

@@ -28,6 +28,7 @@ use Rattle.typing_rules.proofs.Sound.Places.{contains_cases}
 use Rattle.well_typed.proofs.ClaimLemmas.{true_left, true_right}
 use Rattle.mir_ty.proofs.ListLemmas.{Contains-slice_get}
 use Rattle.typing_rules.proofs.Sound.Operators.{never_ready, or_cases, same_id}
+use Rattle.typing_soundness.specs.Closures.{Tape}
 use Rattle.typing_soundness.specs.Walks.{IsCarried, Walks, Walked, WalksNode}
 
 -- ---- what is so of one of some things
@@ -142,10 +143,10 @@ module _ (items : ItemTable) (ty : TyId) where
   carry_ty ready absent is = subst (λ t. IsTrue (is_unit items t)) is (unit_is items ready)
   carry_ty ready (present n) is = subst (λ t. IsTrue (is_same t (ty_of n))) is (same_self (ty_of n).0)
 
-pub loop_sound : (env : Env) (at : Pos) (label : Option Word) (body : Around → Typer) → ((a : Around) → Sound
-    (within_loop a env) (body a)) → ((a : Around) (want : Option TyId) → WalksNode (body a want)) → SoundTemporary env
+pub loop_sound : (f : Tape) (env : Env) (at : Pos) (label : Option Word) (body : Around → Typer) → ((a : Around) → Sound
+    (within_loop a env) (body a)) → ((a : Around) (want : Option TyId) → WalksNode f (body a want)) → SoundTemporary env
     (loop_row at label body)
-loop_sound env at label body good walks want s k =
+loop_sound f env at label body good walks want s k =
     after_number (bind_walked (good a (Some unit) s' k') (walks a (Some unit) s') λ b t g d walked.
     found Rule.T03 at (one_type t.items (types_for s.next_node t.breaks)) _ λ ty one.
     with_ready λ all.
@@ -188,7 +189,7 @@ loop_sound env at label body good walks want s k =
         any_of (carries_ty w.items ty) (carried s.next_node b) c.0 c.1 (carry_ty w.items ty ready c.0 (c.2 ∙ sym
         (same_id ty x same)))
 
-    by : (w : State) (b : Node) (ty : TyId) (t : State) → AreReady w.items → Grows t w → Walks s' t (nodes_of b) →
+    by : (w : State) (b : Node) (ty : TyId) (t : State) → AreReady w.items → Grows t w → Walks f s' t (nodes_of b) →
         IsTrue (is_never t.items ty) ⊎ IsTrue (list_any (is_same ty) (types_for s.next_node t.breaks)) → IsTrue
         (is_loop_ty w.items ty (carried s.next_node b))
     by w b ty t ready l walked (inl never) = or_left (is_never w.items ty) _ (is_later l.items is_never_ty ty never)

@@ -8,6 +8,7 @@ use Rattle.mir_base.specs.declared.place_in_text.Pos.{Pos}
 use Rattle.mir_ty.specs.declared.ty.TyId.{TyId}
 use Rattle.typed_tree.specs.declared.node.Use.{Use}
 use Rattle.std.proofs.lemmas.List.{append_assoc, append-nil}
+use Rattle.mir_ty.specs.AreItems.{AreDistinct}
 use Rattle.mir_ty.specs.declared.def.ClosureDef.{ClosureDef}
 use Rattle.typed_tree.specs.Tree.{BodyTree}
 use Rattle.typed_tree.specs.Nodes.{number_of, nodes_of, nodes_in}
@@ -18,7 +19,10 @@ use Rattle.typing_rules.specs.Check.{State}
 use Rattle.typing_rules.specs.Places.{used}
 use Rattle.typing_rules.specs.Rows.{used_if_place}
 use Rattle.typing_rules.proofs.Sound.Gives.{numbered}
+use Rattle.typing_soundness.specs.Closures.{Tape, Met}
+use Rattle.typing_soundness.specs.Types.{HaveTypes}
 use Rattle.typing_soundness.specs.Walks.{occurs, IsCarried, counted, numbers_of_bodies, Ordered, Walks}
+use Rattle.typing_soundness.proofs.Walking.Later.{met_both}
 
 -- ---- how often a number occurs
 
@@ -61,17 +65,25 @@ carried_cases b xs ys c =
 
 -- ---- bodies and closures
 
--- states that have the same bodies and closures
+-- states that have the same bodies and closures, and all types
 pub record Stays (s t : State) : Type 0 where
+  pub types : HaveTypes s.items t.items
+  pub distinct : AreDistinct s.items.types → AreDistinct t.items.types
+  pub adts : t.items.adts ≡ s.items.adts
+  pub heads : t.items.bodies ≡ s.items.bodies
   pub next_body : t.next_body ≡ s.next_body
   pub bodies : t.bodies ≡ s.bodies
   pub closures : t.items.closures ≡ s.items.closures
 
 pub stays_refl : (s : State) → Stays s s
-stays_refl s = record { next_body = refl; bodies = refl; closures = refl }
+stays_refl s = record { types = λ n ty h. h; distinct = λ h. h; adts = refl; heads = refl; next_body = refl; bodies = refl; closures = refl }
 
 pub stays_both : {s t u : State} → Stays s t → Stays t u → Stays s u
 stays_both p q = record {
+  types = λ n ty h. q.types n ty (p.types n ty h);
+  distinct = λ h. q.distinct (p.distinct h);
+  adts = q.adts ∙ p.adts;
+  heads = q.heads ∙ p.heads;
   next_body = q.next_body ∙ p.next_body;
   bodies = q.bodies ∙ p.bodies;
   closures = q.closures ∙ p.closures;
@@ -84,6 +96,19 @@ ordered_of {s} {t} e = record {
   bodies = ap (map (λ (b : BodyTree). b.number)) e.bodies ∙ sym (append-nil (numbers_of_bodies s));
   closures = ap length e.closures ∙ omega arith;
   aligned = λ k def at. inl (subst (λ cs. slice_get cs k ≡ Some def) e.closures at);
+}
+
+-- nothing is met
+pub met_none : {s t : State} → Stays s t → Met (λ rest. rest) s t
+met_none {s} e = record {
+  types = e.types;
+  distinct = e.distinct;
+  adts = e.adts;
+  heads = e.heads;
+  closures = λ n def h. subst (λ ds. slice_get ds n ≡ Some def) (sym e.closures) h;
+  new = [];
+  bodies = e.bodies ∙ sym (append-nil s.bodies);
+  made = λ rest. (refl, ap length (sym e.closures));
 }
 
 pub counted_join : (from a b : ℕ) → counted from a ++ counted (from + a) b ≡ counted from (a + b)
@@ -123,7 +148,7 @@ ordered_both {s} {t} {u} p q = record {
 
 -- ---- walks
 
-pub walks_none : (s : State) → Walks s s []
+pub walks_none : (s : State) → Walks (λ rest. rest) s s []
 walks_none s = record {
   numbers = omega arith;
   before = λ k h. refl;
@@ -131,10 +156,12 @@ walks_none s = record {
   once = λ k. omega arith;
   carried = λ b h. inl h;
   ordered = ordered_of (stays_refl s);
+  met = met_none (stays_refl s);
 }
 
-pub walks_both : {s t u : State} {xs ys : List Node} → Walks s t xs → Walks t u ys → Walks s u (xs ++ ys)
-walks_both {s} {t} {u} {xs} {ys} p q = record {
+pub walks_both : {f g : Tape} {s t u : State} {xs ys : List Node} → Walks f s t xs → Walks g t u ys → Walks (λ rest. f (g
+    rest)) s u (xs ++ ys)
+walks_both {s = s} {t} {u} {xs} {ys} p q = record {
   numbers = omega (arith, p.numbers, q.numbers);
   before = λ k h.
       let a = p.before k h in let b = q.before k (let n = p.numbers in omega (arith, h, n)) in
@@ -145,6 +172,7 @@ walks_both {s} {t} {u} {xs} {ys} p q = record {
   once = λ k. subst (λ n. n ≤ 1) (sym (occurs_both k xs ys)) (once_by k (cases_order k t.next_node));
   carried = λ b h. later b (q.carried b h);
   ordered = ordered_both p.ordered q.ordered;
+  met = met_both p.met q.met;
 }
   where
     once_by : (k : ℕ) → (k ≡ t.next_node) ⊎ ((k < t.next_node) ⊎ (t.next_node < k)) → occurs k xs + occurs k ys ≤ 1
@@ -161,9 +189,9 @@ walks_both {s} {t} {u} {xs} {ys} p q = record {
     later b (inr c) = inr (carried_right b xs ys c)
 
 -- the same nodes in another order
-pub walks_so : {s t : State} {xs : List Node} (ys : List Node) → ((k : ℕ) → occurs k ys ≡ occurs k xs) → ((b : ℕ ×
-    TyId) → IsCarried b xs → IsCarried b ys) → Walks s t xs → Walks s t ys
-walks_so {s} {xs = xs} ys same on p =
+pub walks_so : {f : Tape} {s t : State} {xs : List Node} (ys : List Node) → ((k : ℕ) → occurs k ys ≡ occurs k xs) → ((b : ℕ ×
+    TyId) → IsCarried b xs → IsCarried b ys) → Walks f s t xs → Walks f s t ys
+walks_so {s = s} {xs = xs} ys same on p =
     record {
       numbers = p.numbers;
       before = λ k h. same k ∙ p.before k h;
@@ -171,6 +199,7 @@ walks_so {s} {xs = xs} ys same on p =
       once = λ k. subst (λ n. n ≤ 1) (sym (same k)) (p.once k);
       carried = λ b h. by b (p.carried b h);
       ordered = p.ordered;
+      met = p.met;
     }
   where
     by : (b : ℕ × TyId) → Contains s.breaks b ⊎ IsCarried b xs → Contains s.breaks b ⊎ IsCarried b ys
@@ -185,15 +214,16 @@ swapped_carry b xs ys c = by (carried_cases b xs ys c)
     by (inr h) = carried_left b ys xs h
 
 -- what is met second stands first in the text
-pub walks_swapped : {s t u : State} {xs ys : List Node} → Walks s t xs → Walks t u ys → Walks s u (ys ++ xs)
+pub walks_swapped : {f g : Tape} {s t u : State} {xs ys : List Node} → Walks f s t xs → Walks g t u ys → Walks (λ rest. f
+    (g rest)) s u (ys ++ xs)
 walks_swapped {xs = xs} {ys = ys} p q =
     walks_so (ys ++ xs) (λ k. let a = occurs_both k xs ys in let b = occurs_both k ys xs in omega (arith, a, b)) (λ b c.
     swapped_carry b xs ys c) (walks_both p q)
 
 -- states at both ends that have the same numbers of nodes and breaks
-pub walks_recast : (s t u v : State) {xs : List Node} → s.next_node ≡ t.next_node → s.breaks ≡ t.breaks → v.next_node ≡
-    u.next_node → v.breaks ≡ u.breaks → Ordered s v → Walks t u xs → Walks s v xs
-walks_recast s t u v {xs} first firsts last lasts ordered p =
+pub walks_recast : {f g : Tape} (s t u v : State) {xs : List Node} → s.next_node ≡ t.next_node → s.breaks ≡ t.breaks → v.next_node ≡
+    u.next_node → v.breaks ≡ u.breaks → Ordered s v → Met g s v → Walks f t u xs → Walks g s v xs
+walks_recast s t u v {xs} first firsts last lasts ordered met p =
     record {
       numbers = let n = p.numbers in omega (arith, first, last, n);
       before = λ k h. p.before k (omega (arith, first, h));
@@ -201,6 +231,7 @@ walks_recast s t u v {xs} first firsts last lasts ordered p =
       once = p.once;
       carried = λ b h. by b (p.carried b (subst (λ bs. Contains bs b) lasts h));
       ordered = ordered;
+      met = met;
     }
   where
     by : (b : ℕ × TyId) → Contains t.breaks b ⊎ IsCarried b xs → Contains s.breaks b ⊎ IsCarried b xs
@@ -208,10 +239,11 @@ walks_recast s t u v {xs} first firsts last lasts ordered p =
     by b (inr c) = inr c
 
 -- a state that differs in nothing that is looked at
-pub walks_same : {s t : State} (u : State) {xs : List Node} → u.next_node ≡ t.next_node → u.breaks ≡ t.breaks → Stays t u
-    → Walks s t xs → Walks s u xs
-walks_same {s} {t} u number breaks stays p =
-    walks_recast s s t u refl refl number breaks (ordered_both p.ordered (ordered_of stays)) p
+pub walks_same : {f : Tape} {s t : State} (u : State) {xs : List Node} → u.next_node ≡ t.next_node → u.breaks ≡ t.breaks
+    → Stays t u → Walks f s t xs → Walks f s u xs
+walks_same {s = s} {t} u number breaks stays p =
+    walks_recast s s t u refl refl number breaks (ordered_both p.ordered (ordered_of stays)) (met_both p.met (met_none
+    stays)) p
 
 -- ---- nodes
 
@@ -232,9 +264,13 @@ other_occurs k n no_ = by (number_of n == k) refl
     by true e = absurd (no_ (eqb-true (number_of n) k e))
     by false e = refl
 
+-- a number is given out
+same_stays : (s : State) → Stays s (numbered s)
+same_stays s = record { types = λ n ty h. h; distinct = λ h. h; adts = refl; heads = refl; next_body = refl; bodies = refl; closures = refl }
+
 -- the node that gets the next number
-pub walks_number : (s : State) (at : Pos) (ty : TyId) (by : Option Use) (form : Form) → Walks s (numbered s) (node
-    s.next_node at ty by form ∷ [])
+pub walks_number : (s : State) (at : Pos) (ty : TyId) (by : Option Use) (form : Form) → Walks (λ rest. rest) s
+    (numbered s) (node s.next_node at ty by form ∷ [])
 walks_number s at ty by form =
     record {
       numbers = omega arith;
@@ -242,18 +278,19 @@ walks_number s at ty by form =
       behind = λ k h. other_occurs k (node s.next_node at ty by form) (λ e. omega (arith, e, h));
       once = λ k. one_occurs k (node s.next_node at ty by form);
       carried = λ b h. inl h;
-      ordered = ordered_of (record { next_body = refl; bodies = refl; closures = refl });
+      ordered = ordered_of (same_stays s);
+      met = met_none (same_stays s);
     }
 
 -- a node whose number comes before those of its parts
-pub walks_node : {s t : State} (at : Pos) (ty : TyId) (by : Option Use) (form : Form) → Walks (numbered s) t (nodes_in
-    form) → Walks s t (nodes_of (node s.next_node at ty by form))
-walks_node {s} at ty by form p = walks_both (walks_number s at ty by form) p
+pub walks_node : {f : Tape} {s t : State} (at : Pos) (ty : TyId) (by : Option Use) (form : Form) → Walks f (numbered s) t
+    (nodes_in form) → Walks f s t (nodes_of (node s.next_node at ty by form))
+walks_node {s = s} at ty by form p = walks_both (walks_number s at ty by form) p
 
 -- a node whose number comes behind those of its parts
-pub walks_outer : {s t : State} (at : Pos) (ty : TyId) (by : Option Use) (form : Form) → Walks s t (nodes_in form) →
-    Walks s (numbered t) (nodes_of (node t.next_node at ty by form))
-walks_outer {s} {t} at ty by form p = walks_swapped p (walks_number t at ty by form)
+pub walks_outer : {f : Tape} {s t : State} (at : Pos) (ty : TyId) (by : Option Use) (form : Form) → Walks f s t (nodes_in
+    form) → Walks f s (numbered t) (nodes_of (node t.next_node at ty by form))
+walks_outer {t = t} at ty by form p = walks_swapped p (walks_number t at ty by form)
 
 same_carried : (loop id : ℕ) (at : Pos) (ty : TyId) (by other : Option Use) (form : Form) → carried_by loop (node id at
     ty by form) ≡ carried_by loop (node id at ty other form)
@@ -265,7 +302,8 @@ with_first : (loop : ℕ) (n m : Node) (ns : List Node) → carried_by loop n �
 with_first loop n m ns e = ap (λ o. cons_option o (filter_map (carried_by loop) ns)) e
 
 -- a place that is used
-pub walks_used : {s t : State} (by : Use) (n : Node) → Walks s t (nodes_of n) → Walks s t (nodes_of (used by n))
+pub walks_used : {f : Tape} {s t : State} (by : Use) (n : Node) → Walks f s t (nodes_of n) → Walks f s t (nodes_of (used
+    by n))
 walks_used by (node id at ty old form) p =
     walks_so (node id at ty (Some by) form ∷ nodes_in form) (λ k. refl) (λ b c. (
       c.0,
@@ -274,10 +312,11 @@ walks_used by (node id at ty old form) p =
       c.2,
     )) p
 
-pub walks_used_if : {s t : State} (by : Use) (n : Node) → Walks s t (nodes_of n) → Walks s t (nodes_of (used_if_place by
-    n))
+pub walks_used_if : {f : Tape} {s t : State} (by : Use) (n : Node) → Walks f s t (nodes_of n) → Walks f s t (nodes_of
+    (used_if_place by n))
 walks_used_if by n p = on (is_place (form_of n)) p
   where
-    on : {s t : State} (b : Bool) → Walks s t (nodes_of n) → Walks s t (nodes_of (if b then used by n else n))
+    on : {f : Tape} {s t : State} (b : Bool) → Walks f s t (nodes_of n) → Walks f s t (nodes_of (if b then used by n else
+        n))
     on true p = walks_used by n p
     on false p = p

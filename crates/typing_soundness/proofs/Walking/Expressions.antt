@@ -1,12 +1,14 @@
 -- What expressions add to a walk: the recursion, one line a form.
-use Rattle.std.proofs.Common.{◌≡◌, ℕ, suc, Bool, true, false, ◌||◌, not, nat_le, if◌then◌else◌, List, [], ◌∷◌, ◌++◌, length, Option, Some, None, Result, Ok, Err, refl, ap, sym, subst, ◌∙◌, ◌+◌, map, slice_get, ◌⊎◌, inl, inr, arith}
+use Rattle.std.proofs.lemmas.Bool.{false≢true}
+use Rattle.std.specs.Prelude.{is_some}
+use Rattle.std.proofs.Common.{◌≡◌, ℕ, suc, IsTrue, Bool, true, false, ◌||◌, not, nat_le, if◌then◌else◌, List, [], ◌∷◌, ◌++◌, length, Option, Some, None, Result, Ok, Err, refl, ap, sym, subst, ◌∙◌, ◌+◌, map, slice_get, ◌⊎◌, inl, inr, arith}
 use Rattle.mir_base.specs.declared.int_kind.IntKind.{IntKind}
 use Rattle.mir_base.specs.declared.place_in_text.Pos.{Pos}
 use Rattle.mir_base.specs.declared.rule.Rule.{Rule}
 use Rattle.mir_ty.specs.declared.adt.Variant.{Variant}
 use Rattle.mir_ty.specs.declared.ty.Ty.{Ty}
 use Rattle.mir_ty.specs.declared.ty.TyId.{TyId}
-use Rattle.mir_ty.specs.ItemTable.{with_closure}
+use Rattle.mir_ty.specs.ItemTable.{ItemTable, type_at, with_closure}
 use Rattle.typed_tree.specs.Nodes.{nodes_of, nodes_among, nodes_of_fields}
 use Rattle.typed_tree.specs.Tree as tree
 use Rattle.typed_tree.specs.Tree.{Node, node, Form, Nodes, no_node, a_node, Fields, no_field, a_field, MaybeNode, absent, present, BodyTree}
@@ -14,91 +16,117 @@ use Rattle.well_typed.specs.Patterns as well
 use Rattle.well_typed.specs.Types.{is_reference}
 use Rattle.typing_rules.specs.Bodies as bodies
 use Rattle.typing_rules.specs.Check.{Check, State, Broken, pure, ◌>>=◌, ◌<$>◌, with_body, in_new_body, put_before, within_body}
-use Rattle.typing_rules.specs.Named.{PathValue, Makes, IsBroken, path_value, Callee, Function, Constructor, Prints, Asks, Drops, Forgets, Boxes, AValue, Unnamed, NoCallee, callee_of, method_named}
+use Rattle.typing_rules.specs.Named.{PathValue, Makes, IsBroken, path_value, Callee, Function, Constructor, Prints, Asks, Drops, Forgets, Boxes, AValue, Unnamed, NoCallee, callee_of, callee_by, method_named}
 use Rattle.typing_rules.specs.Patterns.{pattern, count_of, target_of}
 use Rattle.typing_rules.specs.Places.{unit, bool, never, int, struct_field, numbered_part}
 use Rattle.typing_rules.specs.Rows as rows
 use Rattle.typing_rules.specs.Rows.{Typer, Referrer, Expected, Given, taken}
 use Rattle.typing_rules.specs.Scope.{Env, Entry, Capture, variable, with_variables, within_loop, jumps_to, in_guard, field_named}
 use Rattle.typing_rules.specs.Typed as typing
-use Rattle.src_ast.specs.Syntax.{Word, Syn, syn, Shape, Literal, TruthLiteral, Path, Minus, Bang, Star, Ampersand, Calculate, Compare, Both, Either, Store, CallOf, MethodOf, FieldOf, PartOf, ElementOf, StructOf, FieldInit, Ident, Parens, TupleOf, ArrayOf, Braces, IfElse, IfLetElse, MatchOn, ArmOf, LoopOf, WhileOf, WhileLetOf, BreakOf, ContinueOf, ReturnOf, MoveOf, PanicOf, LetOf, Semi, Syns, no_syn, a_syn, MaybeSyn, nothing, just}
+use Rattle.src_ast.specs.Syntax.{Word, Syn, syn, Shape, Empty, Literal, TruthLiteral, Path, Minus, Bang, Star, Ampersand, Calculate, Compare, Both, Either, Store, CallOf, MethodOf, FieldOf, PartOf, ElementOf, StructOf, FieldInit, Ident, Parens, TupleOf, ArrayOf, Braces, IfElse, IfLetElse, MatchOn, ArmOf, LoopOf, WhileOf, WhileLetOf, BreakOf, ContinueOf, ReturnOf, MoveOf, PanicOf, LetOf, Semi, Syns, no_syn, a_syn, MaybeSyn, nothing, just}
 use Rattle.typing_rules.specs.Written as types
 use Rattle.typing_rules.proofs.Sound.Gives.{numbered}
 use Rattle.std.proofs.lemmas.List.{map-append, length-append}
 use Rattle.mir_ty.specs.declared.def.ClosureDef.{ClosureDef}
 use Rattle.mir_ty.specs.Facts.{is_copy}
-use Rattle.mir_ty.proofs.ListLemmas.{slice_get-push_cases}
+use Rattle.mir_ty.specs.AreItems.{AreDistinct}
+use Rattle.mir_ty.proofs.ListLemmas.{slice_get-append_left, slice_get-last, slice_get-push_cases}
 use Rattle.typed_tree.specs.Nodes.{numbers_of}
 use Rattle.typed_tree.specs.Tree.{ParamTree}
 use Rattle.well_typed.specs.Types.{is_dyn}
 use Rattle.typing_rules.specs.Places.{used, a_node_of, meaning_form, is_fixed, in_own_guard}
 use Rattle.typing_soundness.proofs.Walking.Params.{Still, still, written_still, params_walk, answer_still, in_closure}
+use Rattle.typing_soundness.specs.Closures.{BodySyn, Closure, Head, Tape, HasTypes, AreTypesOf, HaveClosures, HasBody, IsBodyOf, AreMade, Met, types_of, closures_of, closures_in, closures_among, closures_if_any}
+use Rattle.typing_soundness.specs.Types.{HaveTypes}
 use Rattle.typing_soundness.specs.Walks.{counted, numbers_of_bodies, Ordered, Walks, Walked, WalksNode}
-use Rattle.typing_soundness.proofs.Walking.Adding.{Stays, stays_refl, stays_both, ordered_of, ordered_both, walks_recast, walks_none, walks_both, walks_node}
+use Rattle.typing_soundness.proofs.Bodies.Meanings.{written_given}
+use Rattle.typing_soundness.proofs.Walking.Heads.{params_given, answer_given, types_kept}
+use Rattle.typing_soundness.specs.Legal.{legal, params_legal, head_legal}
+use Rattle.typing_soundness.proofs.Walking.Lawful.{written_legal, params_are_legal, answer_is_legal, and_so}
+use Rattle.typing_soundness.proofs.Walking.Later.{params_later, answer_later, types_later, met_both}
+use Rattle.typing_soundness.proofs.Walking.Adding.{met_none, Stays, stays_refl, stays_both, ordered_of, ordered_both, walks_recast, walks_none, walks_both, walks_node}
 use Rattle.typing_soundness.proofs.Walking.Patterns.{pattern_walks}
 use Rattle.typing_soundness.proofs.Walking.Rows as on
-use Rattle.typing_soundness.proofs.Walking.Rows.{WalksTyper, WalksMaybe, WalksArgs, WalksReferrer, WalksMatcher}
-use Rattle.typing_soundness.proofs.Walking.Steps.{walk, walk_obeyed, walk_found, walk_ends, walk_map, walk_nothing, on_same, walk_interned, walk_fitted}
+use Rattle.typing_soundness.proofs.Walking.Rows.{no_closure, ◌⨾◌, WalksTyper, WalksMaybe, WalksArgs, WalksReferrer, WalksMatcher}
+use Rattle.typing_soundness.proofs.Walking.Steps.{walk, walk_obeyed, walk_found, walk_ends, walk_map, walk_nothing, on_same, walk_interned, walk_interned_as, walk_fitted}
 
 -- ---- paths
 
-makes_walks : (at : Pos) (v : PathValue) → WalksTyper (typing.makes_unit at v)
+makes_walks : (at : Pos) (v : PathValue) → WalksTyper no_closure (typing.makes_unit at v)
 makes_walks at (Makes adt variant) want s =
     walk_interned (Ty.Adt adt) s λ ty t e. walk_map (on.leaf_walks at ty (tree.Make adt variant no_field) refl want t) λ
     n u w. walks_both (on_same e (walks_none s)) w
 makes_walks at (IsBroken rule) want s = record { so = tt }
 
-path_alone_walks : (env : Env) (at : Pos) (first second : Option Word) → WalksTyper (typing.path_alone env at first
+path_alone_walks : (env : Env) (at : Pos) (first second : Option Word) → WalksTyper no_closure (typing.path_alone env at first
     second)
 path_alone_walks env at first second want s = makes_walks at (path_value s.items env first second) want s
 
-path_by_walks : (env : Env) (at : Pos) (first second : Option Word) (x : Option Entry) → WalksTyper (typing.path_by env
-    at first second x)
+path_by_walks : (env : Env) (at : Pos) (first second : Option Word) (x : Option Entry) → WalksTyper no_closure (typing.path_by
+    env at first second x)
 path_by_walks env at first second (Some x) want s = walk (on.variable_walks at x s) λ p t w. on.taken_walks env want p w
 path_by_walks env at first second None want s = path_alone_walks env at first second want s
 
-path_walks : (env : Env) (at : Pos) (first second : Option Word) → WalksTyper (typing.path env at first second)
+path_walks : (env : Env) (at : Pos) (first second : Option Word) → WalksTyper no_closure (typing.path env at first second)
 path_walks env at first second = path_by_walks env at first second (typing.variable_of env first second)
 
-base_walks : (env : Env) (at : Pos) (first second : Option Word) (x : Option Entry) → WalksNode (typing.variable_base
+base_walks : (env : Env) (at : Pos) (first second : Option Word) (x : Option Entry) → WalksNode no_closure (typing.variable_base
     env at first second x)
 base_walks env at first second (Some x) s = on.variable_walks at x s
 base_walks env at first second None s = path_alone_walks env at first second None s
 
 -- ---- calls
 
-called_walks : (at : Pos) (count : ℕ) (callee : Check Node) (args : List TyId → Check Nodes) (c : Callee) → WalksNode
-    callee → WalksArgs count args → WalksTyper (typing.called_by at count callee args c)
-called_walks at count callee args (Function body is_drop head) good_c good want s =
-    on.call_walks at (tree.Call body) head.result count head.params args (not is_drop) (λ ns. refl) good want s
-called_walks at count callee args (Constructor adt variant tys) good_c good want s =
-    walk_interned (Ty.Adt adt) s λ ty t e. walk_map (on.make_walks at adt variant ty count tys args good want t) λ n u
-    w. walks_both (on_same e (walks_none s)) w
-called_walks at count callee args Prints good_c good want s = on.print_walks at count (int IntKind.I32 ∷ []) args good
-    want s
-called_walks at count callee args Asks good_c good want s = on.ask_walks at count [] args good want s
-called_walks at count callee args Drops good_c good want s = on.drop_walks at count [] args good want s
-called_walks at count callee args Forgets good_c good want s = on.forget_walks at count [] args good want s
-called_walks at count callee args Boxes good_c good want s = on.new_box_walks at count args good want s
-called_walks at count callee args AValue good_c good want s = on.closure_call_walks at count callee args good_c good
-    want s
-called_walks at count callee args (Unnamed rule) good_c good want s = record { so = tt }
-called_walks at count callee args NoCallee good_c good want s = on.no_call_walks at Rule.T13 args want s
+-- a check of the parts alone, where what stands before them has no closures
+behind_none : {f g : Tape} (check : Typer) → f ≡ no_closure → WalksTyper g check → WalksTyper (f ⨾ g) check
+behind_none {f} {g} check e good = subst (λ h. WalksTyper (h ⨾ g) check) (sym e) good
 
-passed_walks : (at : Pos) (by_value : Typer) (x : Option Entry) → WalksTyper by_value → WalksReferrer (typing.passed at
-    by_value x)
+-- what is called by its name
+abbrev is_value : Callee → Bool
+is_value AValue = true
+is_value _ = false
+
+called_walks : {f g : Tape} (at : Pos) (count : ℕ) (callee : Check Node) (args : List TyId → Check Nodes) (c : Callee) →
+    (is_value c ≡ false → f ≡ no_closure) → WalksNode f callee → WalksArgs g count args → WalksTyper (f ⨾ g) (typing.called_by
+    at count callee args c)
+called_walks at count callee args (Function body is_drop head) named good_c good want s =
+    behind_none (typing.called_by at count callee args (Function body is_drop head)) (named refl) (on.call_walks at
+    (tree.Call body) head.result count head.params args (not is_drop) (λ ns. refl) good) want s
+called_walks at count callee args (Constructor adt variant tys) named good_c good want s =
+    behind_none (typing.called_by at count callee args (Constructor adt variant tys)) (named refl) (λ want s.
+    walk_interned (Ty.Adt adt) s λ ty t e. walk_map (on.make_walks at adt variant ty count tys args good want t) λ n u
+    w. walks_both (on_same e (walks_none s)) w) want s
+called_walks at count callee args Prints named good_c good want s =
+    behind_none (typing.called_by at count callee args Prints) (named refl) (on.print_walks at count (int IntKind.I32 ∷
+    []) args good) want s
+called_walks at count callee args Asks named good_c good want s =
+    behind_none (typing.called_by at count callee args Asks) (named refl) (on.ask_walks at count [] args good) want s
+called_walks at count callee args Drops named good_c good want s =
+    behind_none (typing.called_by at count callee args Drops) (named refl) (on.drop_walks at count [] args good) want s
+called_walks at count callee args Forgets named good_c good want s =
+    behind_none (typing.called_by at count callee args Forgets) (named refl) (on.forget_walks at count [] args good) want s
+called_walks at count callee args Boxes named good_c good want s =
+    behind_none (typing.called_by at count callee args Boxes) (named refl) (on.new_box_walks at count args good) want s
+called_walks at count callee args AValue named good_c good want s = on.closure_call_walks at count callee args good_c
+    good want s
+called_walks at count callee args (Unnamed rule) named good_c good want s = record { so = tt }
+called_walks at count callee args NoCallee named good_c good want s = on.no_call_walks at Rule.T13 args want s
+
+passed_walks : (at : Pos) (by_value : Typer) (x : Option Entry) → WalksTyper no_closure by_value → WalksReferrer no_closure
+    (typing.passed at by_value x)
 passed_walks at by_value None good want unique to s = good (Some want) s
 passed_walks at by_value (Some x) good want unique to s = by (is_reference s.items x.ty)
   where
-    by : (b : Bool) → Walked (λ n t. Walks s t (nodes_of n)) ((if b then rows.passed_on at x want unique to else
-        by_value (Some want)) s)
+    by : (b : Bool) → Walked (λ n t. Walks no_closure s t (nodes_of n)) ((if b then rows.passed_on at x want unique to
+        else by_value (Some want)) s)
     by true = on.passed_on_walks at x want unique to s
     by false = good (Some want) s
 
-minus_walks : (at : Pos) (o : Option (ℕ × Option IntKind)) (operand : Typer) → WalksTyper operand → WalksTyper
-    (typing.minus at o operand)
-minus_walks at (Some n) operand good = on.literal_walks at true n.0 n.1
-minus_walks at None operand good = on.negate_walks at operand good
+minus_walks : {f : Tape} (at : Pos) (o : Option (ℕ × Option IntKind)) (operand : Typer) → (IsTrue (is_some o) → f ≡ no_closure)
+    → WalksTyper f operand → WalksTyper f (typing.minus at o operand)
+minus_walks at (Some n) operand alone good =
+    subst (λ h. WalksTyper h (typing.minus at (Some n) operand)) (sym (alone refl)) (on.literal_walks at true n.0 n.1)
+minus_walks at None operand alone good = on.negate_walks at operand good
 
 -- ---- what is declared
 
@@ -108,7 +136,7 @@ declared_still env (just ty) s = walk (written_still (bodies.all_rules env) ty s
 
 -- ---- closures
 
-capture_walks : (env : Env) (k : ℕ) (e : Syn) (earlier : List Entry) (s : State) → Walked (λ c t. Walks s t (nodes_of
+capture_walks : (env : Env) (k : ℕ) (e : Syn) (earlier : List Entry) (s : State) → Walked (λ c t. Walks no_closure s t (nodes_of
     c.0)) (bodies.capture env k e earlier s)
 capture_walks env k (syn at (Ident name)) earlier s =
     walk_obeyed Rule.T01 at (bodies.is_captured name env.variables) _ λ _. walk_obeyed Rule.T02 at (not
@@ -137,10 +165,10 @@ capture_stays env k (syn at (Ident name)) earlier s =
     taken_stays x =
         walk_obeyed Rule.T07 at (is_copy s.items x.ty || not (is_fixed s.items (in_own_guard env.variables) (place x) ||
         is_dyn s.items x.ty)) _ λ _. walk_obeyed Rule.T08 at (not (is_reference s.items x.ty)) _ λ _. walk_ends (record
-        { next_body = refl; bodies = refl; closures = refl })
+        { types = λ n ty h. h; distinct = λ h. h; adts = refl; heads = refl; next_body = refl; bodies = refl; closures = refl })
 capture_stays env k (syn at _) earlier s = record { so = tt }
 
-captured_walks : (env : Env) (k : ℕ) (captures : Syns) (earlier : List Entry) (s : State) → Walked (λ c t. Walks s t
+captured_walks : (env : Env) (k : ℕ) (captures : Syns) (earlier : List Entry) (s : State) → Walked (λ c t. Walks no_closure s t
     (nodes_among c.0)) (bodies.captured env k captures earlier s)
 captured_walks env k no_syn earlier s = walk_ends (walks_none s)
 captured_walks env k (a_syn first rest) earlier s =
@@ -160,72 +188,118 @@ pub both_walk : {A : Type 0} {P Q : A → State → Type 0} (r : Result (A × St
 both_walk (Ok a) h k = record { so = (h.so, k.so) }
 both_walk (Err e) h k = record { so = tt }
 
--- the body of a closure has its number, and those inside it the next ones
-inner_walks : (env : Env) (at : Pos) (n : ℕ) (ty : TyId) (captures : List Entry) (params : Syns) (answer : MaybeSyn)
-    (block : Env → Typer) → ((inner : Env) → WalksTyper (block inner)) → (s : State) → Walked (λ b t. (b.number ≡ n) ×
-    Ordered s t) (in_closure env at n ty captures params answer block s)
-inner_walks env at n ty captures params answer block good s =
-    walk (params_walk (bodies.inside_closure env captures) (types.written (bodies.all_rules env)) (λ p t. written_still
-    (bodies.all_rules env) p t) params [] (numbered s)) λ ps t w1. walk (answer_still env answer t) λ a u e. walk (good
-    (bodies.inside (bodies.inside_closure env captures) a ps.1) (Some a) u) λ b v w2. walk_obeyed Rule.T19 at (nat_le
-    (length (numbers_of (bodies.body_of n (self_param s ∷ ps.0) a b))) 2048) _ λ _. walk_ends (
+-- the body of a closure has its number, and those inside it the next ones; its types are those that are written
+abbrev pub IsOf : types.Around → Bool → Syns → MaybeSyn → List TyId → Tape → State → BodyTree → State → Type 0
+IsOf around is_legal params answer selves f s b t =
+    ((tys : List TyId) × (types_of b ≡ selves ++ tys) × HasTypes t.items (record {
+      around = around;
+      params = params;
+      answer = answer;
+    }) tys b.answer × IsTrue is_legal) × Met f s t
+
+inner_walks : {f : Tape} (env : Env) (at : Pos) (n : ℕ) (ty : TyId) (captures : List Entry) (params : Syns) (answer :
+    MaybeSyn) (block : Env → Typer) → ((inner : Env) → bodies.all_rules inner ≡ bodies.all_rules env → WalksTyper f (block
+    inner)) → (s : State) → Walked (λ b t. (b.number ≡ n) × Ordered s t × IsOf (bodies.all_rules env) (head_legal legal params answer) params answer (ty ∷
+    []) f s b t) (in_closure env at n ty captures params answer block s)
+inner_walks {f} env at n ty captures params answer block good s =
+    walk (both_walk (params_of (numbered s)) (params_walk (bodies.inside_closure env captures) (types.written
+    (bodies.all_rules env)) (λ p t. written_still (bodies.all_rules env) p t) params [] (numbered s)) (both_walk (params_of
+    (numbered s)) (params_given (bodies.inside_closure env captures) (types.written (bodies.all_rules env)) (λ p t.
+    written_given (bodies.all_rules env) p t) params [] (numbered s)) (params_are_legal (bodies.inside_closure env
+    captures) legal (types.written (bodies.all_rules env)) (λ p t. written_legal (bodies.all_rules env) p t) params []
+    (numbered s)))) λ ps t w1. walk (both_walk (bodies.answer_of env answer t) (answer_still env answer
+    t) (both_walk (bodies.answer_of env answer t) (answer_given env answer t) (answer_is_legal env answer t))) λ
+    a u e. walk (good (bodies.inside (bodies.inside_closure env captures) a ps.1) refl
+    (Some a) u) λ b v w2. walk_obeyed Rule.T19 at (nat_le (length (numbers_of (bodies.body_of n (self_param s ∷ ps.0) a
+    b))) 2048) _ λ _. walk_ends (
       refl,
       ordered_both
-          (ordered_of (record { next_body = refl; bodies = refl; closures = refl })) (ordered_both w1.ordered (ordered_both
-          (ordered_of e.stays) w2.ordered)),
+          (ordered_of (first_stays s)) (ordered_both w1.0.ordered (ordered_both (ordered_of e.0.stays) w2.ordered)),
+      (
+        (
+          map (λ (p : ParamTree). p.ty) ps.0,
+          types_kept _ (self_param s ∷ ps.0),
+          (
+            params_later t.items v.items (λ k x h. w2.met.types k x (e.1.0.0 k x h)) (bodies.all_rules env) params _ w1.1.0.1,
+            answer_later u.items v.items w2.met.types (bodies.all_rules env) answer a e.1.0.1,
+          ),
+          and_so (params_legal legal params) _ w1.1.1 e.1.1,
+        ),
+        met_both (met_none (first_stays s)) (met_both w1.0.met (met_both (met_none e.0.stays) w2.met)),
+      ),
     )
   where
+    params_of : State → Result ((List ParamTree × List Entry) × State) Broken
+    params_of t = bodies.params_of (bodies.inside_closure env captures) (types.written (bodies.all_rules env)) params [] t
+
     self_param : State → ParamTree
     self_param s =
         record { pattern = used (rows.taking s.items ty) (a_node_of s.next_node at ty (tree.Binding [])); ty = ty }
 
--- a body of its own in the walk of a closure
-pub record IsAdded (n : ℕ) (s t : State) : Type 0 where
+    first_stays : (s : State) → Stays s (numbered s)
+    first_stays s = record { types = λ k x h. h; distinct = λ h. h; adts = refl; heads = refl; next_body = refl; bodies = refl; closures = refl }
+
+-- a body of its own in a walk, of which something is so
+pub record IsAdded (n : ℕ) (Q : BodyTree → State → Type 0) (s t : State) : Type 0 where
   pub number : t.next_node ≡ s.next_node
   pub breaks : t.breaks ≡ s.breaks
+  pub body : BodyTree
   pub inner : State
   pub ordered : Ordered (record s { bodies = []; next_node = 0; breaks = [] }) inner
   pub next : t.next_body ≡ inner.next_body
-  pub items : t.items.closures ≡ inner.items.closures
+  pub items : t.items ≡ inner.items
+  pub whole : t.bodies ≡ s.bodies ++ body ∷ inner.bodies
   pub bodies : numbers_of_bodies t ≡ numbers_of_bodies s ++ n ∷ numbers_of_bodies inner
+  pub is_number : body.number ≡ n
+  pub is : Q body inner
 
-pub body_added : (n : ℕ) (check : Check BodyTree) (s : State) → Walked (λ b t. (b.number ≡ n) × Ordered (record s {
-  bodies = [];
-  next_node = 0;
-  breaks = [];
-}) t) (check (record s { bodies = []; next_node = 0; breaks = [] })) → Walked (λ b t. IsAdded n s t) (with_body (λ b. b)
-    (in_new_body check) s)
-body_added n check s h = by (check (record s { bodies = []; next_node = 0; breaks = [] })) h
+pub body_added : {Q : BodyTree → State → Type 0} (n : ℕ) (check : Check BodyTree) (s : State) → Walked (λ b t. (b.number
+    ≡ n) × Ordered (record s { bodies = []; next_node = 0; breaks = [] }) t × Q b t) (check (record s {
+      bodies = [];
+      next_node = 0;
+      breaks = [];
+    })) → Walked (λ b t. IsAdded n Q s t) (with_body (λ b. b) (in_new_body check) s)
+body_added {Q} n check s h = by (check (record s { bodies = []; next_node = 0; breaks = [] })) h
   where
     by : (r : Result (BodyTree × State) Broken) → Walked (λ b t. (b.number ≡ n) × Ordered (record s {
       bodies = [];
       next_node = 0;
       breaks = [];
-    }) t) r → Walked (λ b t. IsAdded n s t) (put_before s.bodies (λ b. b) (within_body (record s { bodies = [] }) r))
+    }) t × Q b t) r → Walked (λ b t. IsAdded n Q s t) (put_before s.bodies (λ b. b) (within_body (record s {
+      bodies = [];
+    }) r))
     by (Ok a) h =
         walk_ends (record {
           number = refl;
           breaks = refl;
+          body = a.0;
           inner = a.1;
           ordered = h.so.1;
           next = refl;
           items = refl;
+          whole = refl;
           bodies = map-append (λ (b : BodyTree). b.number) s.bodies (a.0 ∷ a.1.bodies) ∙ ap (λ m. numbers_of_bodies s ++
               m ∷ numbers_of_bodies a.1) h.so.0;
+          is_number = h.so.0;
+          is = h.so.2;
         })
     by (Err e) h = record { so = tt }
 
 closure_ordered : (s t u v : State) (def : ClosureDef) → def.body ≡ s.next_body → t.next_body ≡ suc s.next_body →
     t.bodies ≡ s.bodies → t.items.closures ≡ s.items.closures → u.next_body ≡ t.next_body → u.bodies ≡ t.bodies →
-    u.items.closures ≡ t.items.closures ++ def ∷ [] → IsAdded s.next_body u v → Ordered s v
+    u.items.closures ≡ t.items.closures ++ def ∷ [] → {Q : BodyTree → State → Type 0} → IsAdded s.next_body Q u v →
+    Ordered s v
 closure_ordered s t u v def body next bodies closures next_u bodies_u closures_u added = record {
   count = suc added.ordered.count;
   next = let a = added.next in let b = added.ordered.next in omega (arith, a, b, next, next_u);
   bodies = added.bodies ∙ (λ i. map (λ (b : BodyTree). b.number) ((bodies_u ∙ bodies) i) ++ s.next_body ∷ inside i);
-  closures = let a = added.ordered.closures in let b = added.items in ap length b ∙ omega (arith, a, as_many);
-  aligned = λ k d at. by k d (added.ordered.aligned k d (subst (λ cs. slice_get cs k ≡ Some d) added.items at));
+  closures = let a = added.ordered.closures in ap length same_closures ∙ omega (arith, a, as_many);
+  aligned = λ k d at. by k d (added.ordered.aligned k d (subst (λ cs. slice_get cs k ≡ Some d) same_closures at));
 }
   where
+    same_closures : v.items.closures ≡ added.inner.items.closures
+    same_closures = ap (λ (i : ItemTable). i.closures) added.items
+
     at_u : u.next_body ≡ suc s.next_body
     at_u = next_u ∙ next
 
@@ -249,19 +323,97 @@ closure_ordered s t u v def body next bodies closures next_u bodies_u closures_u
         (λ cs. cs ++ def ∷ []) closures) at))
     by k d (inr e) = inr (omega (arith, e, as_many, at_u))
 
-closure_walks : (env : Env) (at : Pos) (captures params : Syns) (answer : MaybeSyn) (block : Env → Typer) → ((inner :
-    Env) → WalksTyper (block inner)) → WalksTyper (bodies.closure env at captures params answer block)
-closure_walks env at captures params answer block good want s =
+-- what is met is the closure, and then what is in its body
+closure_met : {f : Tape} (n : ℕ) (s t u v : State) (around : types.Around) (params : Syns) (answer : MaybeSyn) (ty : TyId) (def :
+    ClosureDef) → def.body ≡ n → Stays s t → HaveTypes t.items u.items → (AreDistinct t.items.types → AreDistinct
+    u.items.types) → u.items.adts ≡ t.items.adts → u.items.bodies ≡ t.items.bodies →
+    u.bodies ≡ t.bodies → u.items.closures ≡ t.items.closures ++ def ∷ [] → type_at u.items ty ≡ Some
+    (Ty.Closure (length t.items.closures)) → IsAdded n (IsOf around (head_legal legal params answer) params answer (ty ∷ []) f (record u {
+      bodies = [];
+      next_node = 0;
+      breaks = [];
+    })) u v → Met (λ rest. Closure (record { around = around; params = params; answer = answer }) ∷ f rest) s v
+closure_met {f} n s t u v around params answer ty def at_n stays types_u distinct_u adts_u heads_u bodies_u closures_u is_ty added =
+    record {
+      types = λ n x h. later n x (inner.types n x (types_u n x (stays.types n x h)));
+      distinct = λ h. subst AreDistinct (ap (λ (i : ItemTable). i.types) (sym added.items)) (inner.distinct (distinct_u
+          (stays.distinct h)));
+      adts = ap (λ (i : ItemTable). i.adts) added.items ∙ (inner.adts ∙ (adts_u ∙ stays.adts));
+      heads = ap (λ (i : ItemTable). i.bodies) added.items ∙ (inner.heads ∙ (heads_u ∙ stays.heads));
+      new = added.body ∷ inner.new;
+      bodies = added.whole ∙ λ i. (bodies_u ∙ stays.bodies) i ++ added.body ∷ inner.bodies i;
+      closures = λ k d at. kept k d (subst (λ cs. slice_get cs k ≡ Some d) (sym (closures_u ∙ ap (λ cs. cs ++ def ∷ [])
+          stays.closures)) (slice_get-append_left s.items.closures (def ∷ []) k d at));
+      made = λ rest. ((first, its_body, added.is.0.3), others rest);
+    }
+  where
+    inner : Met f (record u { bodies = []; next_node = 0; breaks = [] }) added.inner
+    inner = added.is.1
+
+    later : HaveTypes added.inner.items v.items
+    later = subst (HaveTypes added.inner.items) (sym added.items) (λ n x h. h)
+
+    head : Head
+    head = record { around = around; params = params; answer = answer }
+
+    -- its first parameter is the closure
+    self : type_at v.items ty ≡ Some (Ty.Closure (length s.items.closures))
+    self =
+        later ty.0 (Ty.Closure (length s.items.closures)) (inner.types ty.0 (Ty.Closure (length s.items.closures)) (is_ty
+        ∙ ap (λ n. Some (Ty.Closure n)) (ap length stays.closures)))
+
+    first : AreTypesOf v.items (length s.items.closures) (Closure head) (types_of added.body) added.body.answer
+    first =
+        subst (λ tys. AreTypesOf v.items (length s.items.closures) (Closure head) tys added.body.answer) (sym
+        added.is.0.1) (self, types_later added.inner.items v.items later head added.is.0.0 added.body.answer added.is.0.2)
+
+    kept : HaveClosures u.items v.items
+    kept = subst (HaveClosures u.items) (sym added.items) inner.closures
+
+    its_body : HasBody v.items (length s.items.closures) (Closure head) added.body.number
+    its_body = (
+      def,
+      kept (length s.items.closures) def (subst (λ cs. slice_get cs (length s.items.closures) ≡ Some def) (sym (closures_u
+          ∙ ap (λ cs. cs ++ def ∷ []) stays.closures)) (slice_get-last s.items.closures def)),
+      at_n ∙ sym added.is_number,
+    )
+
+    as_many : length u.items.closures ≡ suc (length s.items.closures)
+    as_many =
+        ap length (closures_u ∙ ap (λ cs. cs ++ def ∷ []) stays.closures) ∙ (length-append s.items.closures (def ∷ []) ∙ omega
+        arith)
+
+    others : (rest : List BodySyn) → AreMade (IsBodyOf v.items) (suc (length
+        s.items.closures)) (length v.items.closures) (f rest)
+        rest inner.new
+    others rest =
+        subst (λ n. AreMade (IsBodyOf v.items) n (length v.items.closures) (f rest) rest inner.new) as_many (subst (λ (i : ItemTable).
+        AreMade (IsBodyOf i) (length u.items.closures) (length i.closures) (f rest) rest inner.new) (sym added.items) (inner.made
+        rest))
+
+closure_walks : {f : Tape} (env : Env) (at : Pos) (captures params : Syns) (answer : MaybeSyn) (block : Env → Typer) →
+    ((inner : Env) → bodies.all_rules inner ≡ bodies.all_rules env → WalksTyper f (block inner)) → WalksTyper (λ rest.
+    Closure (record { around = bodies.all_rules env; params = params; answer = answer }) ∷ f rest) (bodies.closure env at
+    captures params answer block)
+closure_walks {f} env at captures params answer block good want s =
     walk (both_walk (bodies.captured env 0 captures [] s') (captured_walks env 0 captures [] s') (captured_stays env 0
-    captures [] s')) λ caps t w. walk_interned (Ty.Closure (length t.items.closures)) (with_ caps.1 t) λ ty u e. walk
-    (body_added s.next_body (in_closure env at s.next_body ty caps.1 params answer block) u (inner_walks env at
-    s.next_body ty caps.1 params answer block good (record u { bodies = []; next_node = 0; breaks = [] }))) λ b v f.
-    walk_fitted want (node s.next_node at ty None (tree.Closure (length t.items.closures) caps.0)) (walks_node at ty
-    None (tree.Closure (length t.items.closures) caps.0) (walks_recast (numbered s) s' t v refl refl (f.number ∙
-    e.number) (f.breaks ∙ e.breaks) (closure_ordered (numbered s) t u v (record {
+    captures [] s')) λ caps t w. walk_interned_as (Ty.Closure (length t.items.closures)) (with_ caps.1 t) λ ty u e is.
+    walk (body_added {Q = IsOf (bodies.all_rules env) (head_legal legal params answer) params answer (ty ∷ []) f (record u {
+      bodies = [];
+      next_node = 0;
+      breaks = [];
+    })} s.next_body (in_closure env at s.next_body ty caps.1 params answer block) u (inner_walks env at s.next_body ty
+    caps.1 params answer block good (record u { bodies = []; next_node = 0; breaks = [] }))) λ b v g. walk_fitted want
+    (node s.next_node at ty None (tree.Closure (length t.items.closures) caps.0)) (walks_node at ty None (tree.Closure
+    (length t.items.closures) caps.0) (walks_recast (numbered s) s' t v refl refl (g.number ∙ e.number) (g.breaks ∙
+    e.breaks) (closure_ordered (numbered s) t u v (record {
       captures = bodies.types_of caps.1;
       body = s.next_body;
-    }) refl w.1.next_body w.1.bodies w.1.closures e.stays.next_body e.stays.bodies e.stays.closures f) w.0))
+    }) refl w.1.next_body w.1.bodies w.1.closures e.stays.next_body e.stays.bodies e.stays.closures g) (on_bodies
+    (closure_met s.next_body s' t u v (bodies.all_rules env) params answer ty (record {
+      captures = bodies.types_of caps.1;
+      body = s.next_body;
+    }) refl w.1 e.stays.types e.stays.distinct e.stays.adts e.stays.heads e.stays.bodies e.stays.closures is g)) w.0))
   where
     s' : State
     s' = record (numbered s) { next_body = suc s.next_body }
@@ -270,6 +422,18 @@ closure_walks env at captures params answer block good want s =
     with_ captures t =
         record t { items = with_closure t.items (record { captures = bodies.types_of captures; body = s.next_body }) }
 
+    on_bodies : {g : Tape} {v : State} → Met g s' v → Met g (numbered s) v
+    on_bodies m = record {
+      types = m.types;
+      distinct = m.distinct;
+      adts = m.adts;
+      heads = m.heads;
+      closures = m.closures;
+      new = m.new;
+      bodies = m.bodies;
+      made = m.made;
+    }
+
 -- ---- the recursion
 
 -- one of two checks
@@ -277,6 +441,11 @@ either : {A : Type 0} {R : A → State → Type 0} (b : Bool) (p q : Check A) (s
     → Walked R ((if b then p else q) s)
 either true p q s h k = h
 either false p q s h k = k
+
+either_so : {A : Type 0} {R : A → State → Type 0} (b : Bool) (p q : Check A) (s : State) → Walked R (p s) → (b ≡ false →
+    Walked R (q s)) → Walked R ((if b then p else q) s)
+either_so true p q s h k = h
+either_so false p q s h k = k refl
 
 abbrev nodes_in_statement : Option Node → List Node
 nodes_in_statement None = []
@@ -287,18 +456,52 @@ with_statement_nodes : (o : Option Node) (ns : Nodes) → nodes_among (typing.wi
 with_statement_nodes None ns = refl
 with_statement_nodes (Some n) ns = refl
 
+-- ---- what has no closures
+
+literal_alone : (around : types.Around) (e : Syn) → IsTrue (is_some (typing.literal_in e)) → closures_of around e ≡ no_closure
+literal_alone around (syn at (Literal value suffix)) h = refl
+literal_alone around (syn at _) h = absurd (false≢true h)
+
 mutual
-  pub typed_walks : (env : Env) (e : Syn) → WalksTyper (typing.typed env e)
+  plain_alone : (around : types.Around) (e : Syn) → IsTrue (typing.is_plain e) → closures_of around e ≡ no_closure
+  plain_alone around (syn at form) h = plain_form_alone around form h
+
+  plain_form_alone : (around : types.Around) (form : Shape) → IsTrue (typing.is_plain_form form) → closures_in around form ≡
+      no_closure
+  plain_form_alone around (Parens inside) h = plain_alone around inside h
+  plain_form_alone around (Minus (syn at (Literal value suffix))) h = refl
+  plain_form_alone around (Minus (syn at _)) h = absurd (false≢true h)
+  plain_form_alone around (Literal value suffix) h = refl
+  plain_form_alone around _ h = absurd (false≢true h)
+
+mutual
+  named_alone : (around : types.Around) (items : ItemTable) (env : Env) (e : Syn) → is_value (callee_of items env e) ≡ false →
+      closures_of around e ≡ no_closure
+  named_alone around items env (syn at form) h = named_form_alone around items env form h
+
+  named_form_alone : (around : types.Around) (items : ItemTable) (env : Env) (form : Shape) → is_value (callee_by items env
+      form) ≡ false → closures_in around form ≡ no_closure
+  named_form_alone around items env (Parens inside) h = named_alone around items env inside h
+  named_form_alone around items env (Path first second) h = refl
+  named_form_alone around items env _ h = absurd (false≢true (sym h))
+
+-- the names of types around are those around another environment
+abbrev Around : Env → Env → Type 0
+Around env inner = bodies.all_rules inner ≡ bodies.all_rules env
+
+mutual
+  pub typed_walks : (env : Env) (e : Syn) → WalksTyper (closures_of (bodies.all_rules env) e) (typing.typed env e)
   typed_walks env (syn at form) want s =
       either (typing.is_place env form) (typing.place env at form >>= taken env want) (typing.value env at form want) s
       (walk (place_walks env at form s) λ p t w. on.taken_walks env want p w) (value_walks env at form want s)
 
-  base_of_walks : (env : Env) (e : Syn) → WalksNode (typing.base_of env e)
+  base_of_walks : (env : Env) (e : Syn) → WalksNode (closures_of (bodies.all_rules env) e) (typing.base_of env e)
   base_of_walks env (syn at form) s =
       either (typing.is_place env form) (typing.place env at form) (typing.value env at form None) s (place_walks env at
       form s) (value_walks env at form None s)
 
-  place_walks : (env : Env) (at : Pos) (form : Shape) → WalksNode (typing.place env at form)
+  place_walks : (env : Env) (at : Pos) (form : Shape) → WalksNode (closures_in (bodies.all_rules env) form) (typing.place
+      env at form)
   place_walks env at (Path first second) s = base_walks env at first second (typing.variable_of env first second) s
   place_walks env at (FieldOf base name) s = on.field_walks at (struct_field name) (typing.base_of env base)
       (base_of_walks env base) s
@@ -310,20 +513,21 @@ mutual
   place_walks env at (Parens inside) s = base_of_walks env inside s
   place_walks env at _ s = record { so = tt }
 
-  value_walks : (env : Env) (at : Pos) (form : Shape) → WalksTyper (typing.value env at form)
+  value_walks : (env : Env) (at : Pos) (form : Shape) → WalksTyper (closures_in (bodies.all_rules env) form) (typing.value
+      env at form)
   value_walks env at (Path first second) want s = path_alone_walks env at first second want s
   value_walks env at (Parens inside) want s = typed_walks env inside want s
   value_walks env at (Literal n suffix) want s = on.literal_walks at false n suffix want s
   value_walks env at (TruthLiteral b) want s = on.leaf_walks at bool (tree.Truth b) refl want s
-  value_walks env at (Minus operand) want s = minus_walks at (typing.literal_in operand) (typing.typed env operand)
-      (typed_walks env operand) want s
+  value_walks env at (Minus operand) want s = minus_walks at (typing.literal_in operand) (typing.typed env operand) (literal_alone
+      (bodies.all_rules env) operand) (typed_walks env operand) want s
   value_walks env at (Bang operand) want s = on.not_walks at (typing.typed env operand) (typed_walks env operand) want s
   value_walks env at (Ampersand unique base) want s = walk_nothing Rule.T08 at ((typing.base_of env base >>=
       rows.no_reference) s)
   value_walks env at (Calculate operator left right) want s = on.arithmetic_walks at operator (typing.is_plain left)
-      (typing.typed env left) (typing.typed env right) (typed_walks env left) (typed_walks env right) want s
+      (typing.typed env left) (typing.typed env right) (plain_alone (bodies.all_rules env) left) (typed_walks env left) (typed_walks env right) want s
   value_walks env at (Compare operator left right) want s = on.comparison_walks at operator (typing.is_plain left)
-      (typing.typed env left) (typing.typed env right) (typed_walks env left) (typed_walks env right) want s
+      (typing.typed env left) (typing.typed env right) (plain_alone (bodies.all_rules env) left) (typed_walks env left) (typed_walks env right) want s
   value_walks env at (Both left right) want s = on.and_walks at (typing.typed env left) (typing.typed env right)
       (typed_walks env left) (typed_walks env right) want s
   value_walks env at (Either left right) want s = on.or_walks at (typing.typed env left) (typing.typed env right)
@@ -331,7 +535,8 @@ mutual
   value_walks env at (Store left right) want s = on.store_walks env at (typing.base_of env left) (typing.typed env
       right) (base_of_walks env left) (typed_walks env right) want s
   value_walks env at (CallOf callee args) want s = called_walks at (count_of args) (typing.typed env callee None) (λ
-      params. typing.typed_args env params args) (callee_of s.items env callee) (λ t. typed_walks env callee None t) (λ
+      params. typing.typed_args env params args) (callee_of s.items env callee) (named_alone (bodies.all_rules env)
+      s.items env callee) (λ t. typed_walks env callee None t) (λ
       params t. args_walk env params args t) want s
   value_walks env at (MethodOf receiver name args) want s = on.method_walks env at (method_named name) (count_of args)
       (typing.base_of env receiver) (λ params. typing.typed_args env params args) (base_of_walks env receiver) (λ params
@@ -345,8 +550,9 @@ mutual
       typing.typed_parts env wants (a_syn first rest)) (λ wants t. parts_walk env wants (a_syn first rest) t) want s
   value_walks env at (ArrayOf elements) want s = on.array_walks at (count_of elements) (λ want. typing.typed_elements
       env want elements) (λ want t. elements_walk env want elements t) want s
-  value_walks env at (Braces statements tail) want s = on.block_walks at (typing.typed_all env statements) (λ inner.
-      typing.typed_maybe inner tail) (λ t. all_walk env statements t) (λ inner want t. maybe_walks inner tail want t)
+  value_walks env at (Braces statements tail) want s = on.block_walks (Around env) at (typing.typed_all env
+      statements) (λ inner. typing.typed_maybe inner tail) (λ t. all_walk env statements t) (λ inner same. subst (λ
+      around. WalksMaybe (closures_if_any around tail) (typing.typed_maybe inner tail)) same (maybe_walks inner tail))
       want s
   value_walks env at (IfElse c body nothing) want s = on.if_alone_walks at (typing.typed env c) (typing.typed env body)
       (typed_walks env c) (typed_walks env body) want s
@@ -378,55 +584,65 @@ mutual
   value_walks env at (ContinueOf label) want s = on.continue_walks at (jumps_to env.loops label) want s
   value_walks env at (ReturnOf v) want s = on.return_walks at env.answer (typing.typed_maybe env v) (λ want t.
       maybe_walks env v want t) want s
-  value_walks env at (MoveOf captures params answer body) want s = closure_walks env at captures params answer (λ inner. typing.typed inner body) (λ inner. typed_walks inner body) want
-      s
+  value_walks env at (MoveOf captures params answer body) want s = closure_walks env at captures params answer (λ inner. typing.typed
+      inner body) (λ inner same. subst (λ around. WalksTyper (closures_of around body) (typing.typed inner body)) same
+      (typed_walks inner body)) want s
   value_walks env at PanicOf want s = on.leaf_walks at never tree.Panic refl want s
   value_walks env at _ want s = record { so = tt }
 
-  maybe_walks : (env : Env) (e : MaybeSyn) → WalksMaybe (typing.typed_maybe env e)
+  maybe_walks : (env : Env) (e : MaybeSyn) → WalksMaybe (closures_if_any (bodies.all_rules env) e) (typing.typed_maybe env
+      e)
   maybe_walks env nothing want s = walk_ends (walks_none s)
   maybe_walks env (just e) want s = walk (typed_walks env e want s) λ n t w. walk_ends w
 
-  all_walk : (env : Env) (es : Syns) (s : State) → Walked (λ done t. Walks s t (nodes_among done.0)) (typing.typed_all
-      env es s)
-  all_walk env no_syn s = walk_ends (walks_none s)
+  all_walk : (env : Env) (es : Syns) (s : State) → Walked (λ done t. Walks (closures_among
+      (bodies.all_rules env) es) s t (nodes_among done.0) × Around env done.2) (typing.typed_all env es s)
+  all_walk env no_syn s = walk_ends (walks_none s, refl)
   all_walk env (a_syn first rest) s =
-      walk (statement_walks env first s) λ n t w. walk (all_walk n.2 rest t) λ ns u x. walk_ends (subst (λ xs. Walks s u
-      xs) (sym (with_statement_nodes n.0 ns.0)) (walks_both w x))
+      walk (statement_walks env first s) λ n t w. walk (all_walk n.2 rest t) λ ns u x. walk_ends (
+        subst (λ xs. Walks (closures_among (bodies.all_rules env) (a_syn first rest)) s u xs) (sym (with_statement_nodes
+            n.0 ns.0)) (walks_both w.0 (subst (λ around. Walks (closures_among around rest) t u (nodes_among ns.0)) w.1
+            x.0)),
+        x.1 ∙ w.1,
+      )
 
-  statement_walks : (env : Env) (e : Syn) (s : State) → Walked (λ done t. Walks s t (nodes_in_statement done.0))
-      (typing.statement env e s)
+  statement_walks : (env : Env) (e : Syn) (s : State) → Walked (λ done t. Walks (closures_of (bodies.all_rules env) e) s t
+      (nodes_in_statement done.0) × Around env done.2) (typing.statement env e s)
   statement_walks env (syn at form) s =
-      either (typing.is_expression form) (typing.a_statement <$> rows.evaluate at env false (λ want. if typing.is_place
-      env form then (typing.place env at form >>= taken env want) else typing.value env at form want))
-      (typing.other_statement env at form) s (walk (on.evaluate_walks at env false _ (λ want t. either (typing.is_place
-      env form) (typing.place env at form >>= taken env want) (typing.value env at form want) t (walk (place_walks env
-      at form t) λ p u w. on.taken_walks env want p w) (value_walks env at form want t)) s) λ n t w. walk_ends w)
-      (other_walks env at form s)
+      either_so (typing.is_expression form) (typing.a_statement <$> rows.evaluate at env false (λ want. if
+      typing.is_place env form then (typing.place env at form >>= taken env want) else typing.value env at form want))
+      (typing.other_statement env at form) s (walk (on.evaluate_walks (Around env) at env false _ refl (λ want t.
+      either (typing.is_place env form) (typing.place env at form >>= taken env want) (typing.value env at form want) t
+      (walk (place_walks env at form t) λ p u w. on.taken_walks env want p w) (value_walks env at form want t)) s) λ n t
+      w. walk_ends w) (λ other. other_walks env at form other s)
 
-  other_walks : (env : Env) (at : Pos) (form : Shape) (s : State) → Walked (λ done t. Walks s t (nodes_in_statement
-      done.0)) (typing.other_statement env at form s)
-  other_walks env at (LetOf p ty initialiser) s =
-      walk (on.let_walks at env (typing.is_one_name s.items p) (typing.declared env ty) (typing.initialised env
-      (typing.is_one_name s.items p) initialiser) (typing.matcher env p) (λ xs. with_variables xs env) (declared_still
-      env ty) (λ want t. initialised_walks env (typing.is_one_name s.items p) initialiser want t) (λ e ty t.
-      pattern_walks env e ty p [] t) s) λ n t w. walk_ends w
-  other_walks env at (Semi e) s = walk (on.evaluate_walks at env true (typing.typed env e) (typed_walks env e) s) λ n t
-      w. walk_ends w
-  other_walks env at _ s = walk_ends (walks_none s)
+  other_walks : (env : Env) (at : Pos) (form : Shape) → typing.is_expression form ≡ false → (s : State) → Walked (λ done
+      t. Walks (closures_in (bodies.all_rules env) form) s t (nodes_in_statement done.0) × Around env done.2)
+      (typing.other_statement env at form s)
+  other_walks env at (LetOf p ty initialiser) other s =
+      walk (on.let_walks (Around env) at env (typing.is_one_name s.items p) (typing.declared env ty)
+      (typing.initialised env (typing.is_one_name s.items p) initialiser) (typing.matcher env p) (λ xs. with_variables
+      xs env) (λ xs. refl) (declared_still env ty) (λ want t. initialised_walks env (typing.is_one_name s.items p)
+      initialiser want t) (λ e ty t. pattern_walks env e ty p [] t) s) λ n t w. walk_ends w
+  other_walks env at (Semi e) other s =
+      walk (on.evaluate_walks (Around env) at env true (typing.typed env e) refl (typed_walks env e) s) λ n t w.
+      walk_ends w
+  other_walks env at Empty other s = walk_ends (walks_none s, refl)
+  other_walks env at _ other s = absurd (false≢true (sym other))
 
-  initialised_walks : (env : Env) (one : Bool) (e : MaybeSyn) → WalksMaybe (typing.initialised env one e)
+  initialised_walks : (env : Env) (one : Bool) (e : MaybeSyn) → WalksMaybe (closures_if_any (bodies.all_rules env) e) (typing.initialised env one e)
   initialised_walks env one nothing want s = walk_ends (walks_none s)
   initialised_walks env true (just e) want s = walk (typed_walks env e want s) λ n t w. walk_ends w
   initialised_walks env false (just e) want s = walk (for_parts_walks env want e s) λ n t w. walk_ends w
 
-  for_parts_walks : (env : Env) (want : Option TyId) (e : Syn) → WalksNode (typing.for_parts env want e)
+  for_parts_walks : (env : Env) (want : Option TyId) (e : Syn) → WalksNode (closures_of (bodies.all_rules env) e) (typing.for_parts env want e)
   for_parts_walks env want (syn at form) s =
       either (typing.is_place env form) (typing.place env at form >>= rows.place_for_parts env want) (typing.value env
       at form want) s (walk (place_walks env at form s) λ p t w. on.in_parts_walks env want p w) (value_walks env at
       form want s)
 
-  args_walk : (env : Env) (params : List TyId) (args : Syns) (s : State) → Walked (λ ns t. Walks s t (nodes_among ns) ×
+  args_walk : (env : Env) (params : List TyId) (args : Syns) (s : State) → Walked (λ ns t. Walks (closures_among
+      (bodies.all_rules env) args) s t (nodes_among ns) ×
       (well.count_of ns ≡ count_of args)) (typing.typed_args env params args s)
   args_walk env params no_syn s = walk_ends (walks_none s, refl)
   args_walk env [] (a_syn e es) s =
@@ -443,7 +659,7 @@ mutual
             suc x.1,
       )
 
-  by_reference_walks : (env : Env) (e : Syn) → WalksReferrer (typing.by_reference env e)
+  by_reference_walks : (env : Env) (e : Syn) → WalksReferrer (closures_of (bodies.all_rules env) e) (typing.by_reference env e)
   by_reference_walks env (syn at form) want unique to s =
       either (typing.may_refer form) (typing.reference_form env at form want unique to) (if typing.is_place env form
       then (typing.place env at form >>= taken env (Some want)) else typing.value env at form (Some want)) s
@@ -451,7 +667,7 @@ mutual
       taken env (Some want)) (typing.value env at form (Some want)) s (walk (place_walks env at form s) λ p t w.
       on.taken_walks env (Some want) p w) (value_walks env at form (Some want) s))
 
-  reference_walks : (env : Env) (at : Pos) (form : Shape) → WalksReferrer (typing.reference_form env at form)
+  reference_walks : (env : Env) (at : Pos) (form : Shape) → WalksReferrer (closures_in (bodies.all_rules env) form) (typing.reference_form env at form)
   reference_walks env at (Ampersand unique base) want is_unique to s = on.borrow_walks at unique (typing.base_of env
       base) (base_of_walks env base) want is_unique to s
   reference_walks env at (Path first second) want unique to s = passed_walks at (typing.path env at first second)
@@ -459,7 +675,8 @@ mutual
   reference_walks env at (Parens inside) want unique to s = by_reference_walks env inside want unique to s
   reference_walks env at _ want unique to s = record { so = tt }
 
-  inits_walk : (env : Env) (v : Variant) (inits : Syns) (s : State) → Walked (λ fs t. Walks s t (nodes_of_fields fs.0))
+  inits_walk : (env : Env) (v : Variant) (inits : Syns) (s : State) → Walked (λ fs t. Walks (closures_among
+      (bodies.all_rules env) inits) s t (nodes_of_fields fs.0))
       (typing.typed_inits env v inits s)
   inits_walk env v no_syn s = walk_ends (walks_none s)
   inits_walk env v (a_syn (syn at (FieldInit name init)) rest) s =
@@ -467,25 +684,28 @@ mutual
       rest t) λ fs u x. walk_ends (walks_both w x)
   inits_walk env v (a_syn (syn at _) rest) s = record { so = tt }
 
-  init_walks : (env : Env) (at : Pos) (name : Word) (init : MaybeSyn) → WalksTyper (typing.init_value env at name init)
+  init_walks : (env : Env) (at : Pos) (name : Word) (init : MaybeSyn) → WalksTyper (closures_if_any (bodies.all_rules env)
+      init) (typing.init_value env at name init)
   init_walks env at name nothing want s = path_walks env at (Some name) None want s
   init_walks env at name (just e) want s = typed_walks env e want s
 
-  parts_walk : (env : Env) (wants : List (Option TyId)) (parts : Syns) (s : State) → Walked (λ ps t. Walks s t
+  parts_walk : (env : Env) (wants : List (Option TyId)) (parts : Syns) (s : State) → Walked (λ ps t. Walks (closures_among
+      (bodies.all_rules env) parts) s t
       (nodes_among ps.0)) (typing.typed_parts env wants parts s)
   parts_walk env wants no_syn s = walk_ends (walks_none s)
   parts_walk env wants (a_syn e es) s =
       walk (typed_walks env e (typing.first_want wants) s) λ n t w. walk (parts_walk env (typing.other_wants wants) es
       t) λ ns u x. walk_ends (walks_both w x)
 
-  elements_walk : (env : Env) (want : Option TyId) (elements : Syns) (s : State) → Walked (λ ps t. Walks s t
+  elements_walk : (env : Env) (want : Option TyId) (elements : Syns) (s : State) → Walked (λ ps t. Walks
+      (closures_among (bodies.all_rules env) elements) s t
       (nodes_among ps.0)) (typing.typed_elements env want elements s)
   elements_walk env want no_syn s = walk_ends (walks_none s)
   elements_walk env want (a_syn e es) s =
       walk (typed_walks env e want s) λ n t w. walk (elements_walk env want es t) λ ns u x. walk_ends (walks_both w x)
 
-  arms_walk : (env : Env) (e : Expected) (ty : TyId) (want : Option TyId) (arms : Syns) (s : State) → Walked (λ ps t.
-      Walks s t (nodes_among ps.0)) (typing.typed_arms env e ty want arms s)
+  arms_walk : (env : Env) (e : Expected) (ty : TyId) (want : Option TyId) (arms : Syns) (s : State) → Walked
+      (λ ps t. Walks (closures_among (bodies.all_rules env) arms) s t (nodes_among ps.0)) (typing.typed_arms env e ty want arms s)
   arms_walk env e ty want no_syn s = walk_ends (walks_none s)
   arms_walk env e ty want (a_syn (syn at (ArmOf p guard body)) rest) s =
       walk (on.arm_walks (pattern env e ty p []) (λ xs. typing.typed_maybe (with_variables (in_guard xs) env) guard

@@ -1,6 +1,5 @@
 -- Written types and parameters in a walk.
 use Rattle.std.proofs.Common.{ℕ, Bool, ◌||◌, not, nat_le, List, [], ◌∷◌, length, Option, Some, None, refl, ◌∙◌}
-use Rattle.std.specs.List.{position as position_of}
 use Rattle.mir_base.specs.declared.place_in_text.Pos.{Pos}
 use Rattle.mir_base.specs.declared.rule.Rule.{Rule}
 use Rattle.mir_ty.specs.declared.ty.Ty.{Ty}
@@ -8,21 +7,22 @@ use Rattle.mir_ty.specs.declared.ty.TyId.{TyId}
 use Rattle.typed_tree.specs.Nodes.{nodes_of, param_nodes}
 use Rattle.typed_tree.specs.Tree as tree
 use Rattle.typed_tree.specs.Tree.{Node, BodyTree}
-use Rattle.well_typed.specs.Items.{is_equal}
 use Rattle.well_typed.specs.Types.{is_reference}
 use Rattle.typing_rules.specs.Bodies as bodies
 use Rattle.typing_rules.specs.Bodies.{param_expected, is_name_or_wildcard}
-use Rattle.typing_rules.specs.Check.{Check, State, interned, interned_at, ◌>>=◌}
+use Rattle.typing_rules.specs.Check.{Check, State, interned, ◌>>=◌}
 use Rattle.typing_rules.specs.Rows.{Typer}
 use Rattle.typing_rules.specs.Scope.{Env, Entry}
 use Rattle.typing_rules.specs.Written as types
 use Rattle.src_ast.specs.Syntax.{Syn, syn, Shape, NamedType, GenericType, DynType, SelfType, ParensType, TupleType, ArrayType, NeverType, RefType, ParamOf, SelfParam, Receiver, ByValue, ByShared, ByUnique, Syns, no_syn, a_syn, MaybeSyn, nothing, just}
 use Rattle.src_ast.specs.View.{self_name}
 use Rattle.typing_rules.proofs.Sound.Gives.{numbered}
-use Rattle.typing_soundness.specs.Walks.{Walks, Walked}
+use Rattle.typing_soundness.specs.Closures.{Tape}
+use Rattle.typing_soundness.specs.Walks.{Walked}
+use Rattle.typing_soundness.specs.Walks as walking
 use Rattle.typing_soundness.proofs.Walking.Adding.{stays_refl, stays_both, walks_none, walks_both, walks_node}
-use Rattle.typing_soundness.proofs.Walking.Patterns.{pattern_walks}
-use Rattle.typing_soundness.proofs.Walking.Steps.{walk, walk_obeyed, walk_found, walk_ends, walk_interned, SameWalk, on_same}
+use Rattle.typing_soundness.proofs.Walking.Patterns.{Walks, pattern_walks}
+use Rattle.typing_soundness.proofs.Walking.Steps.{walk, walk_obeyed, walk_found, walk_ends, walk_interned, interned_ends, SameWalk, on_same}
 
 -- ---- written types, which have no nodes
 
@@ -40,15 +40,7 @@ onward p q = record {
 }
 
 pub interned_still : (ty : Ty) (s : State) {t : State} → SameWalk t s → Walked (λ id u. SameWalk t u) (interned ty s)
-interned_still ty s {t} e = by (position_of (is_equal ty) s.items.types)
-  where
-    by : (o : Option ℕ) → Walked (λ id u. SameWalk t u) (interned_at ty o s)
-    by (Some n) = walk_ends e
-    by None = walk_ends (record {
-      number = e.number;
-      breaks = e.breaks;
-      stays = record { next_body = e.stays.next_body; bodies = e.stays.bodies; closures = e.stays.closures };
-    })
+interned_still ty s e = interned_ends ty s λ id u f. onward e f
 
 module _ (around : types.Around) where
   named_still : (at : Pos) (adt : Option ℕ) (scalar : Option TyId) (s : State) → Walked (Still s) (types.named_by at adt
@@ -95,7 +87,8 @@ module _ (around : types.Around) where
     all_written_still (a_syn first rest) s =
         walk (written_still first s) λ ty t e. walk (all_written_still rest t) λ tys u f. walk_ends (onward e f)
 
-pub from_same : {s t u : State} {xs : List Node} → SameWalk s t → Walks t u xs → Walks s u xs
+pub from_same : {f : Tape} {s t u : State} {xs : List Node} → SameWalk s t → walking.Walks f t u xs → walking.Walks f s u
+    xs
 from_same {s} e w = walks_both (on_same e (walks_none s)) w
 
 -- ---- what parameters add to a walk

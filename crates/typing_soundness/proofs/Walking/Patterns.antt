@@ -22,9 +22,14 @@ use Rattle.typing_rules.specs.Rows.{Expected, is_signed_kind, most, literal_valu
 use Rattle.typing_rules.specs.Scope.{Env, Entry, adt_named, kind_at, variable, field_named}
 use Rattle.src_ast.specs.Syntax.{Word, Syn, syn, Shape, AnyPattern, BindPattern, LiteralPattern, TruthPattern, PathPattern, PartsPattern, FieldsPattern, FieldPattern, ParensPattern, TuplePattern, ArrayPattern, Alternatives, Syns, no_syn, a_syn, nothing, just}
 use Rattle.typing_rules.proofs.Sound.Gives.{numbered}
-use Rattle.typing_soundness.specs.Walks.{Walks, Walked}
+use Rattle.typing_soundness.specs.Walks.{Walked}
+use Rattle.typing_soundness.specs.Walks as walking
 use Rattle.typing_soundness.proofs.Walking.Adding.{walks_none, walks_both, walks_node, walks_used}
 use Rattle.typing_soundness.proofs.Walking.Steps.{walk, walk_obeyed, walk_found, walk_ends, on_same, walk_interned}
+
+-- a pattern has no closure
+abbrev pub Walks : State → State → List Node → Type 0
+Walks s t ns = walking.Walks (λ rest. rest) s t ns
 
 -- what a pattern gives, and its parts
 abbrev pub OfBound : State → rules.Bound → State → Type 0

@@ -33,35 +33,45 @@ use Rattle.typing_rules.specs.Scope.{Env, Entry, Around, Meaning, Local, Capture
 use Rattle.src_ast.specs.Syntax.{Word}
 use Rattle.typing_rules.proofs.Sound.Fitted.{same_self}
 use Rattle.typing_rules.proofs.Sound.Gives.{numbered}
+use Rattle.typing_soundness.specs.Closures.{Tape}
 use Rattle.typing_soundness.specs.Walks.{IsCarried, Walks, Walked, WalksNode}
-use Rattle.typing_soundness.proofs.Walking.Adding.{ordered_both, ordered_of, walks_none, walks_both, walks_swapped, walks_node, walks_outer, walks_used, walks_used_if}
+use Rattle.typing_soundness.proofs.Walking.Later.{met_both}
+use Rattle.typing_soundness.proofs.Walking.Adding.{Stays, met_none, ordered_both, ordered_of, walks_none, walks_both, walks_swapped, walks_node, walks_outer, walks_used, walks_used_if}
 use Rattle.typing_soundness.proofs.Walking.Steps.{walk, walk_obeyed, walk_found, walk_ends, walk_nothing, SameWalk, on_same, walk_interned, fitted_when, walk_fitted, walk_settled}
 
-abbrev pub WalksTyper : Typer → Type 0
-WalksTyper check = (want : Option TyId) → WalksNode (check want)
+-- what has no closures, and one part after another
+abbrev pub no_closure : Tape
+no_closure rest = rest
 
-abbrev pub WalksMaybe : (Option TyId → Check MaybeNode) → Type 0
-WalksMaybe check = (want : Option TyId) (s : State) → Walked (λ v t. Walks s t (nodes_if_any v)) (check want s)
+infixr 11 ◌⨾◌
+abbrev pub ◌⨾◌ : Tape → Tape → Tape
+f ⨾ g = λ rest. f (g rest)
+
+abbrev pub WalksTyper : Tape → Typer → Type 0
+WalksTyper f check = (want : Option TyId) → WalksNode f (check want)
+
+abbrev pub WalksMaybe : Tape → (Option TyId → Check MaybeNode) → Type 0
+WalksMaybe f check = (want : Option TyId) (s : State) → Walked (λ v t. Walks f s t (nodes_if_any v)) (check want s)
 
 -- the checks of so many arguments
-abbrev pub WalksArgs : ℕ → (List TyId → Check Nodes) → Type 0
-WalksArgs count args = (params : List TyId) (s : State) → Walked (λ ns t. Walks s t (nodes_among ns) × (count_of ns ≡
+abbrev pub WalksArgs : Tape → ℕ → (List TyId → Check Nodes) → Type 0
+WalksArgs f count args = (params : List TyId) (s : State) → Walked (λ ns t. Walks f s t (nodes_among ns) × (count_of ns ≡
     count)) (args params s)
 
-abbrev pub WalksReferrer : Referrer → Type 0
-WalksReferrer check = (want : TyId) (unique : Bool) (to : TyId) → WalksNode (check want unique to)
+abbrev pub WalksReferrer : Tape → Referrer → Type 0
+WalksReferrer f check = (want : TyId) (unique : Bool) (to : TyId) → WalksNode f (check want unique to)
 
 abbrev pub WalksMatcher : Matcher → Type 0
-WalksMatcher check = (e : Expected) (ty : TyId) (s : State) → Walked (λ b t. Walks s t (nodes_of b.0)) (check e ty s)
+WalksMatcher check = (e : Expected) (ty : TyId) (s : State) → Walked (λ b t. Walks no_closure s t (nodes_of b.0)) (check e ty s)
 
 -- ---- leaves
 
-pub leaf_walks : (at : Pos) (ty : TyId) (form : Form) → nodes_in form ≡ [] → WalksTyper (rows.leaf at ty form)
+pub leaf_walks : (at : Pos) (ty : TyId) (form : Form) → nodes_in form ≡ [] → WalksTyper no_closure (rows.leaf at ty form)
 leaf_walks at ty form none want s =
-    walk_fitted want (a_node_of s.next_node at ty form) (walks_node at ty None form (subst (λ ns. Walks (numbered s)
+    walk_fitted want (a_node_of s.next_node at ty form) (walks_node at ty None form (subst (λ ns. Walks no_closure (numbered s)
     (numbered s) ns) (sym none) (walks_none (numbered s))))
 
-pub literal_walks : (at : Pos) (is_negative : Bool) (value : ℕ) (suffix : Option IntKind) → WalksTyper (rows.literal at
+pub literal_walks : (at : Pos) (is_negative : Bool) (value : ℕ) (suffix : Option IntKind) → WalksTyper no_closure (rows.literal at
     is_negative value suffix)
 literal_walks at is_negative value suffix want s =
     walk_obeyed Rule.T03 at (not is_negative || rows.is_signed_kind (rows.chosen suffix (option_and_then (kind_of s.items) want))) _ λ _.
@@ -75,110 +85,113 @@ meaning_nodes name (Local key) = refl
 meaning_nodes name (Capture closure part) = refl
 meaning_nodes name (InGuard key) = refl
 
-pub variable_walks : (at : Pos) (x : Entry) → WalksNode (variable_place at x)
+pub variable_walks : (at : Pos) (x : Entry) → WalksNode no_closure (variable_place at x)
 variable_walks at x s =
-    walk_ends (walks_node at x.ty None (meaning_form x.name x.meaning) (subst (λ ns. Walks (numbered s) (numbered s) ns)
+    walk_ends (walks_node at x.ty None (meaning_form x.name x.meaning) (subst (λ ns. Walks no_closure (numbered s) (numbered s) ns)
     (sym (meaning_nodes x.name x.meaning)) (walks_none (numbered s))))
 
-pub taken_walks : (env : Env) (want : Option TyId) (n : Node) {s t : State} → Walks s t (nodes_of n) → Walked (λ m u.
-    Walks s u (nodes_of m)) (rows.taken env want n t)
-taken_walks env want n {s} {t} w =
+pub taken_walks : {f : Tape} (env : Env) (want : Option TyId) (n : Node) {s t : State} → Walks f s t (nodes_of n) → Walked
+    (λ m u. Walks f s u (nodes_of m)) (rows.taken env want n t)
+taken_walks env want n {t = t} w =
     walk (walk_fitted want (used (rows.taking t.items (ty_of n)) n) (walks_used _ n w)) λ m u w.
     walk_obeyed Rule.T07 (place_in_text n) (is_copy t.items (ty_of n) || not (is_fixed t.items (in_own_guard env.variables) n || is_dyn t.items (ty_of n))) _ λ _. walk_obeyed Rule.T08 (place_in_text n) (not (is_reference t.items (ty_of n))) _ λ _. walk_ends w
 
 -- what is no reference by itself
-pub plain_walks : {check : Check Node} → WalksNode check → WalksNode (check >>= rows.no_reference)
+pub plain_walks : {f : Tape} {check : Check Node} → WalksNode f check → WalksNode f (check >>= rows.no_reference)
 plain_walks good s = walk (good s) λ n t w. walk_obeyed Rule.T08 (place_in_text n) (not (is_reference t.items (ty_of n))) _ λ _. walk_ends w
 
 module _ {A : Type 0} (member : Member A) (at : Pos) where
-  abbrev Found : State → Node × Option A → State → Type 0
-  Found s r u = Walks s u (nodes_of r.0)
+  abbrev Found : Tape → State → Node × Option A → State → Type 0
+  Found f s r u = Walks f s u (nodes_of r.0)
 
-  through_in_walks : (n : ℕ) (items : ItemTable) (base : Node) {s t : State} → Walks s t (nodes_of base) → Walked (Found
-      s) (through_in member at n items base t)
+  through_in_walks : {f : Tape} (n : ℕ) (items : ItemTable) (base : Node) {s t : State} → Walks f s t (nodes_of base) →
+      Walked (Found f s) (through_in member at n items base t)
   through_in_walks zero items base w = walk_ends w
-  through_in_walks (suc n) items base {s} {t} w =
+  through_in_walks {f} (suc n) items base {s} {t} w =
       by (λ ty. through_in_walks n items (a_node_of t.next_node at ty (Deref base)) (walks_outer at ty None (Deref base)
       w)) (member items (ty_of base)) (inside_of items (ty_of base))
     where
-      by : ((ty : TyId) → Walked (Found s) (through_in member at n items (a_node_of t.next_node at ty (Deref base))
-          (numbered t))) → (a : Option A) (o : Option TyId) → Walked (Found s) (through_at member at (through_in member
+      by : ((ty : TyId) → Walked (Found f s) (through_in member at n items (a_node_of t.next_node at ty (Deref base))
+          (numbered t))) → (a : Option A) (o : Option TyId) → Walked (Found f s) (through_at member at (through_in member
           at n items) base a o t)
       by on (Some found) o = walk_ends w
       by on None None = walk_ends w
       by on None (Some ty) = on ty
 
-  pub through_walks : (base : Node) {s t : State} → Walks s t (nodes_of base) → Walked (Found s) (through member at base
-      t)
+  pub through_walks : {f : Tape} (base : Node) {s t : State} → Walks f s t (nodes_of base) → Walked (Found f s) (through
+      member at base t)
   through_walks base {t = t} w = through_in_walks (suc (length t.items.types)) t.items base w
 
-pub field_walks : (at : Pos) (member : ItemTable → TyId → Option (ℕ × TyId)) (base : Check Node) → WalksNode base →
-    WalksNode (rows.field at member base)
+pub field_walks : {f : Tape} (at : Pos) (member : ItemTable → TyId → Option (ℕ × TyId)) (base : Check Node) → WalksNode f base →
+    WalksNode f (rows.field at member base)
 field_walks at member base good s =
     walk (good (numbered s)) λ b t w. walk (through_walks member at b w) λ r u w. walk_found Rule.T12 at r.1 _ λ f is.
     walk_ends (walks_node at f.1 None (tree.Field r.0 f.0) w)
 
-pub deref_walks : (at : Pos) (base : Check Node) → WalksNode base → WalksNode (rows.deref at base)
+pub deref_walks : {f : Tape} (at : Pos) (base : Check Node) → WalksNode f base → WalksNode f (rows.deref at base)
 deref_walks at base good s =
     walk (good (numbered s)) λ b t w. walk_found Rule.T03 at (inside_of t.items (ty_of b)) _ λ ty is. walk_ends
     (walks_node at ty None (Deref b) w)
 
-pub element_walks : (at : Pos) (base : Check Node) (index : Typer) → WalksNode base → WalksTyper index → WalksNode
-    (rows.element at base index)
+pub element_walks : {f g : Tape} (at : Pos) (base : Check Node) (index : Typer) → WalksNode f base → WalksTyper g index → WalksNode (f ⨾ g) (rows.element at base index)
 element_walks at base index good good_i s =
     walk (plain_walks good (numbered s)) λ b t w. walk (good_i (Some (int IntKind.Usize)) t) λ i u v. walk_found
     Rule.T03 at (array_of u.items (ty_of b)) _ λ a is. walk_ends (walks_node at a.0 None (tree.Index b i a.1) (walks_both w v))
 
 -- ---- operators
 
-pub not_walks : (at : Pos) (operand : Typer) → WalksTyper operand → WalksTyper (rows.not_row at operand)
+pub not_walks : {f : Tape} (at : Pos) (operand : Typer) → WalksTyper f operand → WalksTyper f (rows.not_row at operand)
 not_walks at operand good want s =
     walk (good None (numbered s)) λ n t w. walk_obeyed Rule.T03 at (fits t.items bool (ty_of n)) _ λ _. walk_fitted want _ (walks_node at bool None
     (tree.Not n) w)
 
-pub negate_walks : (at : Pos) (operand : Typer) → WalksTyper operand → WalksTyper (rows.negate at operand)
+pub negate_walks : {f : Tape} (at : Pos) (operand : Typer) → WalksTyper f operand → WalksTyper f (rows.negate at operand)
 negate_walks at operand good want s =
     walk (good _ (numbered s)) λ n t w. walk_obeyed Rule.T03 at (is_same (ty_of n) (int IntKind.I32) || is_same (ty_of n) (int IntKind.I64)) _ λ _. walk_fitted want _ (walks_node at (ty_of n)
     None (tree.Negate n) w)
 
-pub operands_walk : (is_literal : Bool) (want : Option TyId) (left right : Typer) → WalksTyper left → WalksTyper right →
-    (s : State) → Walked (λ (b : Node × Node) t. Walks s t (nodes_of b.0 ++ nodes_of b.1)) (rows.operands is_literal
-    want left right s)
-operands_walk true None left right good_l good_r s =
-    walk (good_r None s) λ r t w. walk (good_l (rows.unless_never t.items (ty_of r)) t) λ l u v. walk_ends
-    (walks_swapped w v)
-operands_walk true (Some ty) left right good_l good_r s =
+-- a plain number has no closures, so it is the same which of two operands comes first
+pub operands_walk : {f g : Tape} (is_literal : Bool) (want : Option TyId) (left right : Typer) → (IsTrue is_literal → f ≡
+    no_closure) → WalksTyper f left → WalksTyper g right → (s : State) → Walked (λ (b : Node × Node) t. Walks (f ⨾ g) s t
+    (nodes_of b.0 ++ nodes_of b.1)) (rows.operands is_literal want left right s)
+operands_walk {f} {g} true None left right alone good_l good_r s =
+    walk (good_r None s) λ r t w. walk (good_l (rows.unless_never t.items (ty_of r)) t) λ l u v. walk_ends (subst (λ h.
+    Walks h s u (nodes_of l ++ nodes_of r)) (either_first (alone refl)) (walks_swapped w v))
+  where
+    either_first : f ≡ no_closure → (g ⨾ f) ≡ (f ⨾ g)
+    either_first e = (λ i rest. g (e i rest)) ∙ sym (λ i rest. e i (g rest))
+operands_walk true (Some ty) left right alone good_l good_r s =
     walk (good_l (Some ty) s) λ l t w. walk (good_r (rows.if_int t.items (ty_of l)) t) λ r u v. walk_ends (walks_both w
     v)
-operands_walk false want left right good_l good_r s =
+operands_walk false want left right alone good_l good_r s =
     walk (good_l want s) λ l t w. walk (good_r (rows.if_int t.items (ty_of l)) t) λ r u v. walk_ends (walks_both w v)
 
-pub arithmetic_walks : (at : Pos) (operator : Math) (is_literal : Bool) (left right : Typer) → WalksTyper left →
-    WalksTyper right → WalksTyper (rows.arithmetic at operator is_literal left right)
-arithmetic_walks at operator is_literal left right good_l good_r want s =
-    walk (operands_walk is_literal _ left right good_l good_r (numbered s)) λ b t w. walk_found Rule.T03 at (option_and_then (rows.if_int t.items) (rows.one_of_two t.items (ty_of b.0) (ty_of b.1))) _ λ ty is.
+pub arithmetic_walks : {f g : Tape} (at : Pos) (operator : Math) (is_literal : Bool) (left right : Typer) → (IsTrue is_literal → f ≡ no_closure) → WalksTyper f left →
+    WalksTyper g right → WalksTyper (f ⨾ g) (rows.arithmetic at operator is_literal left right)
+arithmetic_walks at operator is_literal left right alone good_l good_r want s =
+    walk (operands_walk is_literal _ left right alone good_l good_r (numbered s)) λ b t w. walk_found Rule.T03 at (option_and_then (rows.if_int t.items) (rows.one_of_two t.items (ty_of b.0) (ty_of b.1))) _ λ ty is.
     walk_fitted want _ (walks_node at ty None (tree.Arithmetic operator b.0 b.1) w)
 
-pub comparison_walks : (at : Pos) (operator : Cmp) (is_literal : Bool) (left right : Typer) → WalksTyper left →
-    WalksTyper right → WalksTyper (rows.comparison at operator is_literal left right)
-comparison_walks at operator is_literal left right good_l good_r want s =
-    walk (operands_walk is_literal None left right good_l good_r (numbered s)) λ b t w. walk_found Rule.T03 at (option_and_then (rows.int_or_bool t.items) (rows.one_of_two t.items (ty_of b.0) (ty_of b.1))) _ λ ty
+pub comparison_walks : {f g : Tape} (at : Pos) (operator : Cmp) (is_literal : Bool) (left right : Typer) → (IsTrue is_literal → f ≡ no_closure) → WalksTyper f left →
+    WalksTyper g right → WalksTyper (f ⨾ g) (rows.comparison at operator is_literal left right)
+comparison_walks at operator is_literal left right alone good_l good_r want s =
+    walk (operands_walk is_literal None left right alone good_l good_r (numbered s)) λ b t w. walk_found Rule.T03 at (option_and_then (rows.int_or_bool t.items) (rows.one_of_two t.items (ty_of b.0) (ty_of b.1))) _ λ ty
     is. walk_fitted want _ (walks_node at bool None (tree.Comparison operator b.0 b.1) w)
 
-pub and_walks : (at : Pos) (left right : Typer) → WalksTyper left → WalksTyper right → WalksTyper (rows.logic at
+pub and_walks : {f g : Tape} (at : Pos) (left right : Typer) → WalksTyper f left → WalksTyper g right → WalksTyper (f ⨾ g) (rows.logic at
     tree.And left right)
 and_walks at left right good_l good_r want s =
     walk (good_l None (numbered s)) λ l t w. walk (good_r None t) λ r u v. walk_obeyed Rule.T03 at (fits u.items bool (ty_of l) && fits u.items bool (ty_of r)) _ λ _. walk_fitted
     want _ (walks_node at bool None (tree.And l r) (walks_both w v))
 
-pub or_walks : (at : Pos) (left right : Typer) → WalksTyper left → WalksTyper right → WalksTyper (rows.logic at tree.Or
+pub or_walks : {f g : Tape} (at : Pos) (left right : Typer) → WalksTyper f left → WalksTyper g right → WalksTyper (f ⨾ g) (rows.logic at tree.Or
     left right)
 or_walks at left right good_l good_r want s =
     walk (good_l None (numbered s)) λ l t w. walk (good_r None t) λ r u v. walk_obeyed Rule.T03 at (fits u.items bool (ty_of l) && fits u.items bool (ty_of r)) _ λ _. walk_fitted
     want _ (walks_node at bool None (tree.Or l r) (walks_both w v))
 
-pub store_walks : (env : Env) (at : Pos) (place : Check Node) (value : Typer) → WalksNode place → WalksTyper value →
-    WalksTyper (rows.store env at place value)
+pub store_walks : {f g : Tape} (env : Env) (at : Pos) (place : Check Node) (value : Typer) → WalksNode f place → WalksTyper g value →
+    WalksTyper (f ⨾ g) (rows.store env at place value)
 store_walks env at place value good good_v want s =
     walk (plain_walks good (numbered s)) λ p t w. walk (good_v (Some (ty_of p)) t) λ v u w'. walk_obeyed Rule.T03 at (not (is_dyn u.items (ty_of p))) _ λ _. walk (walk_fitted want _ (walks_node at unit None (tree.Assign (used Use.Store p) v) (walks_both (walks_used
     Use.Store p w) w'))) λ n x w. walk_obeyed Rule.T05 at (is_place (form_of p) && not (rows.own_in (in_own_guard env.variables) (form_of p))) _ λ _. walk_obeyed Rule.T08 (place_in_text p) (not (is_behind_shared u.items p)) _ λ _.
@@ -186,14 +199,14 @@ store_walks env at place value good good_v want s =
 
 -- ---- references
 
-pub borrow_walks : (at : Pos) (unique : Bool) (base : Check Node) → WalksNode base → WalksReferrer (rows.borrow at unique
+pub borrow_walks : {f : Tape} (at : Pos) (unique : Bool) (base : Check Node) → WalksNode f base → WalksReferrer f (rows.borrow at unique
     base)
 borrow_walks at unique base good want is_unique to s =
     walk (plain_walks good (numbered s)) λ b t w. walk_obeyed Rule.T03 at (is_same (ty_of b) to && rows.is_same_truth unique is_unique) _ λ _. walk_obeyed Rule.T08 (place_in_text
     b) (not (unique && is_behind_shared t.items b)) _ λ _. walk_interned (rows.reference_ty unique (ty_of b)) t λ ty u e. walk_ends (walks_node at ty None (tree.Borrow unique (used_if_place
     (borrow_by unique) b)) (on_same e (walks_used_if (borrow_by unique) b w)))
 
-pub passed_on_walks : (at : Pos) (x : Entry) → WalksReferrer (rows.passed_on at x)
+pub passed_on_walks : (at : Pos) (x : Entry) → WalksReferrer no_closure (rows.passed_on at x)
 passed_on_walks at x want unique to s =
     walk_obeyed Rule.T03 at (rows.passes unique to (reference_of s.items x.ty)) _ λ _. walk {f = λ v. rows.borrow_of
     s.next_node at unique (a_node_of (suc s.next_node) at to (Deref v))} (variable_walks at x (numbered (numbered s))) λ
@@ -201,34 +214,33 @@ passed_on_walks at x want unique to s =
     to (Deref v)))) (on_same e (walks_used (borrow_by unique) (a_node_of (suc s.next_node) at to (Deref v)) (walks_node
     at to None (Deref v) w))))
 
-pub argument_walks : (param : TyId) (by_value : Typer) (by_reference : Referrer) → WalksTyper by_value → WalksReferrer
-    by_reference → WalksNode (rows.argument param by_value by_reference)
-argument_walks param by_value by_reference good_v good_r s = by (reference_of s.items param)
+pub argument_walks : {f : Tape} (param : TyId) (by_value : Typer) (by_reference : Referrer) → WalksTyper f by_value → WalksReferrer f by_reference → WalksNode f (rows.argument param by_value by_reference)
+argument_walks {f} param by_value by_reference good_v good_r s = by (reference_of s.items param)
   where
-    by : (o : Option (Bool × TyId)) → Walked (λ n t. Walks s t (nodes_of n)) (rows.argument_by param by_value
+    by : (o : Option (Bool × TyId)) → Walked (λ n t. Walks f s t (nodes_of n)) (rows.argument_by param by_value
         by_reference o s)
     by None = good_v (Some param) s
     by (Some r) = good_r param r.0 r.1 s
 
 -- ---- calls
 
-pub call_walks : (at : Pos) (form : Nodes → Form) (answer : TyId) (count : ℕ) (params : List TyId) (args : List TyId →
-    Check Nodes) (may : Bool) → ((ns : Nodes) → nodes_in (form ns) ≡ nodes_among ns) → WalksArgs count args →
-    WalksTyper (rows.call at form answer count params args may)
-call_walks at form answer count params args may same good want s =
+pub call_walks : {f : Tape} (at : Pos) (form : Nodes → Form) (answer : TyId) (count : ℕ) (params : List TyId) (args : List TyId →
+    Check Nodes) (may : Bool) → ((ns : Nodes) → nodes_in (form ns) ≡ nodes_among ns) → WalksArgs f count args →
+    WalksTyper f (rows.call at form answer count params args may)
+call_walks {f} at form answer count params args may same good want s =
     walk (good params (numbered s)) λ ns t w. walk (walk_fitted want _ (walks_node at answer None (form ns) (subst (λ
-    xs. Walks (numbered s) t xs) (sym (same ns)) w.0))) λ n u w. walk_obeyed Rule.T04 at (count == length params) _ λ _. walk_obeyed Rule.T13
+    xs. Walks f (numbered s) t xs) (sym (same ns)) w.0))) λ n u w. walk_obeyed Rule.T04 at (count == length params) _ λ _. walk_obeyed Rule.T13
     at may _ λ _. walk_ends w
 
-pub no_call_walks : (at : Pos) (rule : Rule) (args : List TyId → Check Nodes) → WalksTyper (rows.no_call at rule args)
+pub no_call_walks : {f : Tape} (at : Pos) (rule : Rule) (args : List TyId → Check Nodes) → WalksTyper f (rows.no_call at rule args)
 no_call_walks at rule args want s = walk_nothing rule at (args [] s)
 
 made_nodes : (k : ℕ) (ns : Nodes) → nodes_of_fields (rows.numbered_fields k ns) ≡ nodes_among ns
 made_nodes k no_node = refl
 made_nodes k (a_node first rest) = ap (λ xs. nodes_of first ++ xs) (made_nodes (suc k) rest)
 
-pub make_walks : (at : Pos) (adt variant : ℕ) (ty : TyId) (count : ℕ) (types : List TyId) (args : List TyId → Check
-    Nodes) → WalksArgs count args → WalksTyper (rows.call at (rows.make adt variant) ty count types args true)
+pub make_walks : {f : Tape} (at : Pos) (adt variant : ℕ) (ty : TyId) (count : ℕ) (types : List TyId) (args : List TyId → Check
+    Nodes) → WalksArgs f count args → WalksTyper f (rows.call at (rows.make adt variant) ty count types args true)
 make_walks at adt variant ty count types args good =
     call_walks at (rows.make adt variant) ty count types args true (λ ns. made_nodes 0 ns) good
 
@@ -237,58 +249,57 @@ method_nodes : (m : Method) (receiver : Node) (args : Nodes) → nodes_in (rows.
 method_nodes (OfAdt body is_drop head) receiver args = refl
 method_nodes (OfTrait trait_no method head) receiver args = refl
 
-received_walks : (env : Env) (at : Pos) (base : Node) (self : TyId) {s t : State} → Walks s t (nodes_of base) → Walked
-    (λ n u. Walks s u (nodes_of n)) (rows.received env at base self t)
-received_walks env at base self {s} {t} w = by (reference_of t.items self)
+received_walks : {f : Tape} (env : Env) (at : Pos) (base : Node) (self : TyId) {s t : State} → Walks f s t (nodes_of
+    base) → Walked (λ n u. Walks f s u (nodes_of n)) (rows.received env at base self t)
+received_walks {f} env at base self {s} {t} w = by (reference_of t.items self)
   where
-    if_place : (b : Bool) → Walked (λ n u. Walks s u (nodes_of n)) ((if b then rows.taken env None base else (λ v. Ok
+    if_place : (b : Bool) → Walked (λ n u. Walks f s u (nodes_of n)) ((if b then rows.taken env None base else (λ v. Ok
         (base, v))) t)
     if_place true = taken_walks env None base w
     if_place false = walk_ends w
 
-    by : (o : Option (Bool × TyId)) → Walked (λ n u. Walks s u (nodes_of n)) (rows.received_by env at base o t)
+    by : (o : Option (Bool × TyId)) → Walked (λ n u. Walks f s u (nodes_of n)) (rows.received_by env at base o t)
     by None = if_place (is_place (form_of base))
     by (Some r) =
         walk_interned (rows.reference_ty r.0 (ty_of base)) (numbered t) λ ty u e. walk_ends (on_same e (walks_outer at ty None (tree.Borrow r.0
         (used_if_place (borrow_by r.0) base)) (walks_used_if (borrow_by r.0) base w)))
 
-pub method_walks : (env : Env) (at : Pos) (named : ItemTable → TyId → Option Method) (count : ℕ) (receiver : Check Node)
-    (args : List TyId → Check Nodes) → WalksNode receiver → WalksArgs count args → WalksTyper (rows.method_call env at
+pub method_walks : {f g : Tape} (env : Env) (at : Pos) (named : ItemTable → TyId → Option Method) (count : ℕ) (receiver : Check Node)
+    (args : List TyId → Check Nodes) → WalksNode f receiver → WalksArgs g count args → WalksTyper (f ⨾ g) (rows.method_call env at
     named count receiver args)
-method_walks env at named count receiver args good_r good want s =
+method_walks {f} {g} env at named count receiver args good_r good want s =
     walk (good_r (numbered s)) λ b t w. walk (through_walks named at b w) λ r u w. by r.0 r.1 u w
   where
     R : Node → State → Type 0
-    R n t = Walks s t (nodes_of n)
+    R n t = Walks (f ⨾ g) s t (nodes_of n)
 
-    with_self : (base : Node) (m : Method) (params : List TyId) (u : State) → Walks (numbered s) u (nodes_of base) →
+    with_self : (base : Node) (m : Method) (params : List TyId) (u : State) → Walks f (numbered s) u (nodes_of base) →
         Walked R (rows.with_self env at s.next_node base m count args want params u)
     with_self base m [] u w = walk_nothing Rule.T12 at (args [] u)
     with_self base m (self ∷ params) u w =
         walk (received_walks env at base self w) λ receiver t w. walk (good params t) λ ns v x. walk (walk_fitted want
         (a_node_of s.next_node at (rows.head_of m).result (rows.method_form m receiver ns)) (walks_node at
-        (rows.head_of m).result None (rows.method_form m receiver ns) (subst (λ xs. Walks (numbered s) v xs) (sym
+        (rows.head_of m).result None (rows.method_form m receiver ns) (subst (λ xs. Walks (f ⨾ g) (numbered s) v xs) (sym
         (method_nodes m receiver ns)) (walks_both w x.0)))) λ n y w. walk_obeyed Rule.T04 at (count == length params) _ λ _. walk_obeyed
         Rule.T08 at (not (rows.is_unique_borrow (form_of receiver) && is_behind_shared y.items base)) _ λ _. walk_obeyed Rule.T13 at (not (rows.is_drop_method m)) _ λ _. walk_ends w
 
-    if_takes : (base : Node) (m : Method) (u : State) → Walks (numbered s) u (nodes_of base) → (b : Bool) → Walked R
+    if_takes : (base : Node) (m : Method) (u : State) → Walks f (numbered s) u (nodes_of base) → (b : Bool) → Walked R
         ((if b then rows.with_self env at s.next_node base m count args want (rows.head_of m).params else (args [] >>
         breaks Rule.T12 at)) u)
     if_takes base m u w true = with_self base m (rows.head_of m).params u w
     if_takes base m u w false = walk_nothing Rule.T12 at (args [] u)
 
-    by : (base : Node) (o : Option Method) (u : State) → Walks (numbered s) u (nodes_of base) → Walked R
+    by : (base : Node) (o : Option Method) (u : State) → Walks f (numbered s) u (nodes_of base) → Walked R
         (rows.with_method env at s.next_node base o count args want u)
     by base None u w = walk_nothing Rule.T12 at (args [] u)
     by base (Some m) u w = if_takes base m u w (rows.takes_self u.items (ty_of base) (rows.head_of m).params)
 
-pub closure_call_walks : (at : Pos) (count : ℕ) (callee : Check Node) (args : List TyId → Check Nodes) → WalksNode
-    callee → WalksArgs count args → WalksTyper (rows.closure_call at count callee args)
-closure_call_walks at count callee args good_c good want s =
+pub closure_call_walks : {f g : Tape} (at : Pos) (count : ℕ) (callee : Check Node) (args : List TyId → Check Nodes) → WalksNode f callee → WalksArgs g count args → WalksTyper (f ⨾ g) (rows.closure_call at count callee args)
+closure_call_walks {f} {g} at count callee args good_c good want s =
     walk (good_c (numbered s)) λ c t w. by c t w _ _
   where
-    by : (c : Node) (t : State) → Walks (numbered s) t (nodes_of c) → (body : ℕ) (o : Option Sig) → Walked (λ n u. Walks
-        s u (nodes_of n)) (rows.with_closure at s.next_node c count args want body o t)
+    by : (c : Node) (t : State) → Walks f (numbered s) t (nodes_of c) → (body : ℕ) (o : Option Sig) → Walked (λ n u. Walks
+        (f ⨾ g) s u (nodes_of n)) (rows.with_closure at s.next_node c count args want body o t)
     by c t w body None = walk_nothing Rule.T13 at (args [] t)
     by c t w body (Some head) =
         walk (good (drop 1 head.params) t) λ ns u x. walk (walk_fitted want _ (walks_node at head.result None
@@ -312,69 +323,66 @@ none_given (a_node first rest) e = absurd (by (count_of rest) e)
     by : (n : ℕ) → suc n ≡ 0 → ⊥
     by n h = omega (arith, h)
 
-pub built_in_walks : (at : Pos) (answer : TyId) (form : Nodes → Form) (count wants : ℕ) (params : List TyId) (args :
-    List TyId → Check Nodes) → ((ns : Nodes) → count_of ns ≡ wants → nodes_in (form ns) ≡ nodes_among ns) → WalksArgs
-    count args → WalksTyper (rows.built_in at answer form count wants (args params))
-built_in_walks at answer form count wants params args same good want s =
+pub built_in_walks : {f : Tape} (at : Pos) (answer : TyId) (form : Nodes → Form) (count wants : ℕ) (params : List TyId) (args :
+    List TyId → Check Nodes) → ((ns : Nodes) → count_of ns ≡ wants → nodes_in (form ns) ≡ nodes_among ns) → WalksArgs f count args → WalksTyper f (rows.built_in at answer form count wants (args params))
+built_in_walks {f} at answer form count wants params args same good want s =
     walk (good params (numbered s)) λ ns t w. walk (fitted_when {C = IsTrue (count == wants)} want (a_node_of
-    s.next_node at answer (form ns)) (λ c. walks_node at answer None (form ns) (subst (λ xs. Walks (numbered s) t xs)
+    s.next_node at answer (form ns)) (λ c. walks_node at answer None (form ns) (subst (λ xs. Walks f (numbered s) t xs)
     (sym (same ns (w.1 ∙ eqb-true count wants c))) w.0))) λ n u w. walk_obeyed Rule.T04 at (count == wants) _ λ c.
     walk_ends (w c)
 
-pub print_walks : (at : Pos) (count : ℕ) (params : List TyId) (args : List TyId → Check Nodes) → WalksArgs count args →
-    WalksTyper (rows.built_in at unit rows.print_form count 1 (args params))
+pub print_walks : {f : Tape} (at : Pos) (count : ℕ) (params : List TyId) (args : List TyId → Check Nodes) → WalksArgs f count args →
+    WalksTyper f (rows.built_in at unit rows.print_form count 1 (args params))
 print_walks at count params args good =
     built_in_walks at unit rows.print_form count 1 params args (λ ns e. one_alone ns tree.Print (λ n. refl) e) good
 
-pub drop_walks : (at : Pos) (count : ℕ) (params : List TyId) (args : List TyId → Check Nodes) → WalksArgs count args →
-    WalksTyper (rows.built_in at unit rows.drop_form count 1 (args params))
+pub drop_walks : {f : Tape} (at : Pos) (count : ℕ) (params : List TyId) (args : List TyId → Check Nodes) → WalksArgs f count args →
+    WalksTyper f (rows.built_in at unit rows.drop_form count 1 (args params))
 drop_walks at count params args good =
     built_in_walks at unit rows.drop_form count 1 params args (λ ns e. one_alone ns tree.DropValue (λ n. refl) e) good
 
-pub forget_walks : (at : Pos) (count : ℕ) (params : List TyId) (args : List TyId → Check Nodes) → WalksArgs count args →
-    WalksTyper (rows.built_in at unit rows.forget_form count 1 (args params))
+pub forget_walks : {f : Tape} (at : Pos) (count : ℕ) (params : List TyId) (args : List TyId → Check Nodes) → WalksArgs f count args →
+    WalksTyper f (rows.built_in at unit rows.forget_form count 1 (args params))
 forget_walks at count params args good =
     built_in_walks at unit rows.forget_form count 1 params args (λ ns e. one_alone ns tree.Forget (λ n. refl) e) good
 
-pub ask_walks : (at : Pos) (count : ℕ) (params : List TyId) (args : List TyId → Check Nodes) → WalksArgs count args →
-    WalksTyper (rows.built_in at (int IntKind.I32) rows.ask_form count 0 (args params))
+pub ask_walks : {f : Tape} (at : Pos) (count : ℕ) (params : List TyId) (args : List TyId → Check Nodes) → WalksArgs f count args →
+    WalksTyper f (rows.built_in at (int IntKind.I32) rows.ask_form count 0 (args params))
 ask_walks at count params args good =
     built_in_walks at (int IntKind.I32) rows.ask_form count 0 params args (λ ns e. sym (none_given ns e)) good
 
-pub new_box_walks : (at : Pos) (count : ℕ) (args : List TyId → Check Nodes) → WalksArgs count args → WalksTyper
-    (rows.new_box at count args)
-new_box_walks at count args good want s =
+pub new_box_walks : {f : Tape} (at : Pos) (count : ℕ) (args : List TyId → Check Nodes) → WalksArgs f count args → WalksTyper f (rows.new_box at count args)
+new_box_walks {f} at count args good want s =
     walk (good _ (numbered s)) λ ns t w. by ns t (w.1) w.0 (wanted rows.box_wanted s.items want)
   where
-    by : (ns : Nodes) (t : State) → count_of ns ≡ count → Walks (numbered s) t (nodes_among ns) → (content : Option
-        TyId) → Walked (λ n u. Walks s u (nodes_of n)) (rows.box_by at s.next_node count want content (rows.first_node
+    by : (ns : Nodes) (t : State) → count_of ns ≡ count → Walks f (numbered s) t (nodes_among ns) → (content : Option
+        TyId) → Walked (λ n u. Walks f s u (nodes_of n)) (rows.box_by at s.next_node count want content (rows.first_node
         ns) t)
     by no_node t e w content = record { so = tt }
     by (a_node first rest) t e w content =
         walk_interned (Ty.Boxed (rows.part_ty content first)) t λ ty u same. walk (fitted_when {C = IsTrue (count == 1)} want (a_node_of s.next_node at ty
-        (tree.NewBox first)) (λ c. walks_node at ty None (tree.NewBox first) (on_same same (subst (λ xs. Walks (numbered
+        (tree.NewBox first)) (λ c. walks_node at ty None (tree.NewBox first) (on_same same (subst (λ xs. Walks f (numbered
         s) t xs) (sym (one_alone (a_node first rest) tree.NewBox (λ n. refl) (e ∙ eqb-true count 1 c))) w)))) λ n x w.
         walk_obeyed Rule.T04 at (count == 1) _ λ c. walk_ends (w c)
 
 -- ---- constructors
 
-pub struct_walks : (at : Pos) (adt variant : ℕ) (types : List TyId) (fields : Check (Fields × Given)) → ((s : State) →
-    Walked (λ fs t. Walks s t (nodes_of_fields fs.0)) (fields s)) → WalksTyper (rows.struct_row at adt variant types
+pub struct_walks : {f : Tape} (at : Pos) (adt variant : ℕ) (types : List TyId) (fields : Check (Fields × Given)) → ((s : State) →
+    Walked (λ fs t. Walks f s t (nodes_of_fields fs.0)) (fields s)) → WalksTyper f (rows.struct_row at adt variant types
     fields)
 struct_walks at adt variant types fields good want s =
     walk_interned (Ty.Adt adt) (numbered s) λ ty t e. walk (good t) λ fs u w. walk (walk_fitted want _ (walks_node at ty
     None (tree.Make adt variant fs.0) (walks_both (on_same e (walks_none (numbered s))) w))) λ n x w. walk_obeyed
     Rule.T04 at (rows.all_given (length types) fs.1 && length fs.1 == length types) _ λ _. walk_obeyed Rule.T12 at (rows.are_known fs.1) _ λ _. walk_ends w
 
-pub tuple_walks : (at : Pos) (count : ℕ) (parts : List (Option TyId) → Check (Nodes × List TyId)) → ((wants : List
-    (Option TyId)) (s : State) → Walked (λ ps t. Walks s t (nodes_among ps.0)) (parts wants s)) → WalksTyper
-    (rows.tuple_row at count parts)
+pub tuple_walks : {f : Tape} (at : Pos) (count : ℕ) (parts : List (Option TyId) → Check (Nodes × List TyId)) → ((wants : List
+    (Option TyId)) (s : State) → Walked (λ ps t. Walks f s t (nodes_among ps.0)) (parts wants s)) → WalksTyper f (rows.tuple_row at count parts)
 tuple_walks at count parts good want s =
     walk (good _ (numbered s)) λ ps t w. walk_interned (Ty.Tuple ps.1) t λ ty u e. walk (walk_fitted want _ (walks_node at ty None
     (tree.Tuple ps.0) (on_same e w))) λ n x w. walk_obeyed Rule.T19 at (nat_le count 12) _ λ _. walk_ends w
 
-pub array_walks : (at : Pos) (count : ℕ) (elements : Option TyId → Check (Nodes × List TyId)) → ((want : Option TyId) (s
-    : State) → Walked (λ ps t. Walks s t (nodes_among ps.0)) (elements want s)) → WalksTyper (rows.array_row at count
+pub array_walks : {f : Tape} (at : Pos) (count : ℕ) (elements : Option TyId → Check (Nodes × List TyId)) → ((want : Option TyId) (s
+    : State) → Walked (λ ps t. Walks f s t (nodes_among ps.0)) (elements want s)) → WalksTyper f (rows.array_row at count
     elements)
 array_walks at count elements good want s =
     walk (good _ (numbered s)) λ ps t w. walk_found Rule.T03 at (rows.element_ty t.items (wanted rows.element_wanted s.items want) ps.1) _ λ el is. walk_obeyed Rule.T16 at (is_some (wanted rows.element_wanted s.items want) || not (count == 0)) _ λ _.
@@ -383,90 +391,97 @@ array_walks at count elements good want s =
 
 -- ---- blocks and branches
 
-settle : (s : State) (want : Option TyId) (at : Pos) (ty : TyId) (form : Form) {t : State} → Walks (numbered s) t
-    (nodes_in form) → Walked (λ m u. Walks s u (nodes_of m)) (rows.settled want (a_node_of s.next_node at ty form) t)
+settle : {f : Tape} (s : State) (want : Option TyId) (at : Pos) (ty : TyId) (form : Form) {t : State} → Walks f (numbered
+    s) t (nodes_in form) → Walked (λ m u. Walks f s u (nodes_of m)) (rows.settled want (a_node_of s.next_node at ty form) t)
 settle s want at ty form w = walk_settled want (a_node_of s.next_node at ty form) (walks_node at ty None form w)
 
-pub block_walks : (at : Pos) (check : Check (Nodes × Bool × Env)) (tail : Env → Option TyId → Check MaybeNode) → ((s :
-    State) → Walked (λ done t. Walks s t (nodes_among done.0)) (check s)) → ((inner : Env) → WalksMaybe (tail inner)) →
-    WalksTyper (rows.block at check tail)
-block_walks at check tail good good_t want s =
-    walk (good (numbered s)) λ done t w. walk (good_t done.2 want t) λ v u x. settle s want at (rows.block_ty v done.1) (tree.Block done.0 v) (walks_both w x)
+pub block_walks : {f g : Tape} (P : Env → Type 0) (at : Pos) (check : Check (Nodes × Bool × Env)) (tail : Env → Option TyId → Check MaybeNode) → ((s :
+    State) → Walked (λ done t. Walks f s t (nodes_among done.0) × P done.2) (check s)) → ((inner : Env) → P inner → WalksMaybe g
+    (tail inner)) →
+    WalksTyper (f ⨾ g) (rows.block at check tail)
+block_walks P at check tail good good_t want s =
+    walk (good (numbered s)) λ done t w. walk (good_t done.2 w.1 want t) λ v u x. settle s want at (rows.block_ty v done.1)
+    (tree.Block done.0 v) (walks_both w.0 x)
 
-nothing_more : {s t : State} {xs : List Node} → Walks s t xs → Walks s t (xs ++ [])
-nothing_more {s} {t} {xs} w = subst (λ ns. Walks s t ns) (sym (append-nil xs)) w
+nothing_more : {f : Tape} {s t : State} {xs : List Node} → Walks f s t xs → Walks f s t (xs ++ [])
+nothing_more {f} {s} {t} {xs} w = subst (λ ns. Walks f s t ns) (sym (append-nil xs)) w
 
-pub if_alone_walks : (at : Pos) (c body : Typer) → WalksTyper c → WalksTyper body → WalksTyper (rows.if_alone at c body)
+pub if_alone_walks : {f g : Tape} (at : Pos) (c body : Typer) → WalksTyper f c → WalksTyper g body → WalksTyper (f ⨾ g) (rows.if_alone at c body)
 if_alone_walks at c body good_c good_b want s =
     walk (good_c (Some bool) (numbered s)) λ n t w. walk (good_b (Some unit) t) λ b u x. settle s want at unit (tree.If n b absent) (nothing_more (walks_both w x))
 
-pub if_else_walks : (at : Pos) (c body otherwise : Typer) → WalksTyper c → WalksTyper body → WalksTyper otherwise →
-    WalksTyper (rows.if_else at c body otherwise)
+pub if_else_walks : {f g h : Tape} (at : Pos) (c body otherwise : Typer) → WalksTyper f c → WalksTyper g body → WalksTyper h otherwise →
+    WalksTyper (f ⨾ g ⨾ h) (rows.if_else at c body otherwise)
 if_else_walks at c body otherwise good_c good_b good_o want s =
     walk (good_c (Some bool) (numbered s)) λ n t w. walk (good_b want t) λ b u x. walk (good_o want u) λ o v y.
     walk_found Rule.T03 at (rows.one_of_two v.items (ty_of b) (ty_of o)) _ λ ty is. settle s want at ty (tree.If n b (present o)) (walks_both (walks_both w x) y)
 
-scrutinised_walks : {check : Check Node} → WalksNode check → WalksNode (rows.scrutinised check)
+scrutinised_walks : {f : Tape} {check : Check Node} → WalksNode f check → WalksNode f (rows.scrutinised check)
 scrutinised_walks good s = walk (plain_walks good s) λ n t w. walk_ends (walks_used_if Use.Borrow n w)
 
-pub if_let_alone_walks : (env : Env) (at : Pos) (scrutinee : Check Node) (matcher : Matcher) (body : List Entry → Typer)
-    → WalksNode scrutinee → WalksMatcher matcher → ((xs : List Entry) → WalksTyper (body xs)) → WalksTyper
-    (rows.if_let_alone env at scrutinee matcher body)
+pub if_let_alone_walks : {f g : Tape} (env : Env) (at : Pos) (scrutinee : Check Node) (matcher : Matcher) (body : List Entry → Typer)
+    → WalksNode f scrutinee → WalksMatcher matcher → ((xs : List Entry) → WalksTyper g (body xs)) → WalksTyper (f ⨾ g) (rows.if_let_alone env at scrutinee matcher body)
 if_let_alone_walks env at scrutinee matcher body good good_m good_b want s =
     walk (scrutinised_walks good (numbered s)) λ n t w. walk (good_m _ (ty_of n) t) λ p u x. walk (good_b p.1 (Some
     unit) u) λ b v y. settle s want at unit (tree.IfLet p.0 n b absent) (nothing_more (walks_both (walks_swapped w x) y))
 
-pub if_let_else_walks : (env : Env) (at : Pos) (scrutinee : Check Node) (matcher : Matcher) (body : List Entry → Typer)
-    (otherwise : Typer) → WalksNode scrutinee → WalksMatcher matcher → ((xs : List Entry) → WalksTyper (body xs)) →
-    WalksTyper otherwise → WalksTyper (rows.if_let_else env at scrutinee matcher body otherwise)
+pub if_let_else_walks : {f g h : Tape} (env : Env) (at : Pos) (scrutinee : Check Node) (matcher : Matcher) (body : List Entry → Typer)
+    (otherwise : Typer) → WalksNode f scrutinee → WalksMatcher matcher → ((xs : List Entry) → WalksTyper g (body xs)) →
+    WalksTyper h otherwise → WalksTyper (f ⨾ g ⨾ h) (rows.if_let_else env at scrutinee matcher body otherwise)
 if_let_else_walks env at scrutinee matcher body otherwise good good_m good_b good_o want s =
     walk (scrutinised_walks good (numbered s)) λ n t w. walk (good_m _ (ty_of n) t) λ p u x. walk (good_b p.1 want u) λ
     b v y. walk (good_o want v) λ o z q. walk_found Rule.T03 at (rows.one_of_two z.items (ty_of b) (ty_of o)) _ λ ty is. settle s want at ty (tree.IfLet p.0 n b (present o)) (walks_both (walks_both (walks_swapped w x) y) q)
 
-pub arm_walks : (check : Check (Node × List Entry)) (guard : List Entry → Check MaybeNode) (body : List Entry → Typer) →
-    ((s : State) → Walked (λ b t. Walks s t (nodes_of b.0)) (check s)) → ((xs : List Entry) (s : State) → Walked (λ v
-    t. Walks s t (nodes_if_any v)) (guard xs s)) → ((xs : List Entry) → WalksTyper (body xs)) → WalksTyper (rows.arm
+pub arm_walks : {f g : Tape} (check : Check (Node × List Entry)) (guard : List Entry → Check MaybeNode) (body : List Entry → Typer) →
+    ((s : State) → Walked (λ b t. Walks no_closure s t (nodes_of b.0)) (check s)) → ((xs : List Entry) (s : State) → Walked (λ v
+    t. Walks f s t (nodes_if_any v)) (guard xs s)) → ((xs : List Entry) → WalksTyper g (body xs)) → WalksTyper (f ⨾ g) (rows.arm
     check guard body)
 arm_walks check guard body good good_g good_b want s =
     walk (good (numbered s)) λ p t w. walk (good_g p.1 t) λ g u x. walk (good_b p.1 want u) λ b v y. walk_ends
     (walks_node (place_in_text p.0) (ty_of b) None (tree.Arm p.0 g b) (walks_both (walks_both w x) y))
 
-pub match_walks : (env : Env) (at : Pos) (scrutinee : Check Node) (arms : Expected → TyId → Option TyId → Check (Nodes
-    × List TyId)) → WalksNode scrutinee → ((e : Expected) (ty : TyId) (want : Option TyId) (s : State) → Walked (λ ns
-    t. Walks s t (nodes_among ns.0)) (arms e ty want s)) → WalksTyper (rows.match_row env at scrutinee arms)
+pub match_walks : {f g : Tape} (env : Env) (at : Pos) (scrutinee : Check Node) (arms : Expected → TyId → Option TyId → Check (Nodes
+    × List TyId)) → WalksNode f scrutinee → ((e : Expected) (ty : TyId) (want : Option TyId) (s : State) → Walked (λ ns
+    t. Walks g s t (nodes_among ns.0)) (arms e ty want s)) → WalksTyper (f ⨾ g) (rows.match_row env at scrutinee arms)
 match_walks env at scrutinee arms good good_a want s =
     walk (scrutinised_walks good (numbered s)) λ n t w. walk (good_a _ (ty_of n) want t) λ ns u x. walk_found Rule.T03
     at (rows.one_type u.items ns.1) _ λ ty is. settle s want at ty (tree.Match n ns.0) (walks_both w x)
 
 -- ---- loops and jumps
 
-pub loop_walks : (at : Pos) (label : Option Word) (body : Around → Typer) → ((a : Around) → WalksTyper (body a)) →
-    WalksTyper (rows.loop_row at label body)
+pub loop_walks : {f : Tape} (at : Pos) (label : Option Word) (body : Around → Typer) → ((a : Around) → WalksTyper f (body a)) →
+    WalksTyper f (rows.loop_row at label body)
 loop_walks at label body good want s =
     walk (good _ (Some unit) (numbered s)) λ b t w. walk_found Rule.T03 at (rows.one_type t.items (types_for s.next_node t.breaks)) _ λ ty is. settle s want at ty (tree.Loop b) w
 
-pub while_walks : (at : Pos) (label : Option Word) (c body : Around → Typer) → ((a : Around) → WalksTyper (c a)) → ((a :
-    Around) → WalksTyper (body a)) → WalksTyper (rows.while_row at label c body)
+pub while_walks : {f g : Tape} (at : Pos) (label : Option Word) (c body : Around → Typer) → ((a : Around) → WalksTyper f (c a)) → ((a :
+    Around) → WalksTyper g (body a)) → WalksTyper (f ⨾ g) (rows.while_row at label c body)
 while_walks at label c body good_c good_b want s =
     walk (good_c _ (Some bool) (numbered s)) λ n t w. walk (good_b _ (Some unit) t) λ b u x. settle s want at unit (tree.While n b) (walks_both w x)
 
-pub while_let_walks : (env : Env) (at : Pos) (label : Option Word) (scrutinee : Around → Check Node) (matcher : Matcher)
-    (body : Around → List Entry → Typer) → ((a : Around) → WalksNode (scrutinee a)) → WalksMatcher matcher → ((a :
-    Around) (xs : List Entry) → WalksTyper (body a xs)) → WalksTyper (rows.while_let_row env at label scrutinee matcher
+pub while_let_walks : {f g : Tape} (env : Env) (at : Pos) (label : Option Word) (scrutinee : Around → Check Node) (matcher : Matcher)
+    (body : Around → List Entry → Typer) → ((a : Around) → WalksNode f (scrutinee a)) → WalksMatcher matcher → ((a :
+    Around) (xs : List Entry) → WalksTyper g (body a xs)) → WalksTyper (f ⨾ g) (rows.while_let_row env at label scrutinee matcher
     body)
 while_let_walks env at label scrutinee matcher body good good_m good_b want s =
     walk (scrutinised_walks (good _) (numbered s)) λ n t w. walk (good_m _ (ty_of n) t) λ p u x. walk (good_b _ p.1
     (Some unit) u) λ b v y. settle s want at unit (tree.WhileLet p.0 n b) (walks_both (walks_swapped w x) y)
 
 -- a break carries what is added to the breaks
-pub break_walks : (at : Pos) (to : Option Around) (value : Option TyId → Check MaybeNode) → WalksMaybe value →
-    WalksTyper (rows.break_row at to value)
-break_walks at to value good want s =
+pub break_walks : {f : Tape} (at : Pos) (to : Option Around) (value : Option TyId → Check MaybeNode) → WalksMaybe f value →
+    WalksTyper f (rows.break_row at to value)
+break_walks {f} at to value good want s =
     walk (good _ (numbered s)) λ v t w. walk_found Rule.T06 at to _ λ a is. walk_obeyed Rule.T06 at (rows.may_carry v a) _ λ _.
     walk_settled want (a_node_of s.next_node at never (Break a.loop v)) (carries v a.loop t (walks_node at never None (Break a.loop v) w))
   where
-    carries : (v : MaybeNode) (loop : ℕ) (t : State) → Walks s t (nodes_of (node s.next_node at never None (Break loop
-        v))) → Walks s (record t { breaks = t.breaks ++ (loop, ty_carried v) ∷ [] }) (nodes_of (node s.next_node at
+    broken_off : (t : State) (loop : ℕ) (v : MaybeNode) → Stays t (record t {
+      breaks = t.breaks ++ (loop, ty_carried v) ∷
+          [];
+    })
+    broken_off t loop v = record { types = λ n ty h. h; distinct = λ h. h; adts = refl; heads = refl; next_body = refl; bodies = refl; closures = refl }
+
+    carries : (v : MaybeNode) (loop : ℕ) (t : State) → Walks f s t (nodes_of (node s.next_node at never None (Break loop
+        v))) → Walks f s (record t { breaks = t.breaks ++ (loop, ty_carried v) ∷ [] }) (nodes_of (node s.next_node at
         never None (Break loop v)))
     carries v loop t w =
         record {
@@ -475,7 +490,8 @@ break_walks at to value good want s =
           behind = w.behind;
           once = w.once;
           carried = λ b h. by b (Contains-append_cases t.breaks ((loop, ty_carried v) ∷ []) b h);
-          ordered = ordered_both w.ordered (ordered_of (record { next_body = refl; bodies = refl; closures = refl }));
+          ordered = ordered_both w.ordered (ordered_of (broken_off t loop v));
+          met = met_both w.met (met_none (broken_off t loop v));
         }
       where
         ns : List Node
@@ -498,39 +514,40 @@ break_walks at to value good want s =
         by b (inl was) = w.carried b was
         by b (inr new_) = last b (contains_cases (loop, ty_carried v) [] b new_)
 
-pub continue_walks : (at : Pos) (to : Option Around) → WalksTyper (rows.continue_row at to)
+pub continue_walks : (at : Pos) (to : Option Around) → WalksTyper no_closure (rows.continue_row at to)
 continue_walks at to want s =
     walk_found Rule.T06 at to _ λ a is. settle s want at never (tree.Continue a.loop) (walks_none
     (numbered s))
 
-pub return_walks : (at : Pos) (answer : TyId) (value : Option TyId → Check MaybeNode) → WalksMaybe value → WalksTyper
-    (rows.return_row at answer value)
+pub return_walks : {f : Tape} (at : Pos) (answer : TyId) (value : Option TyId → Check MaybeNode) → WalksMaybe f value → WalksTyper f (rows.return_row at answer value)
 return_walks at answer value good want s =
     walk (good (Some answer) (numbered s)) λ v t w. walk_obeyed Rule.T03 at (rows.is_some_node v || is_unit t.items answer) _ λ _. settle s want at never (tree.Return v) w
 
 -- ---- statements
 
-pub in_parts_walks : (env : Env) (want : Option TyId) (n : Node) {s t : State} → Walks s t (nodes_of n) → Walked (λ m u.
-    Walks s u (nodes_of m)) (rows.place_for_parts env want n t)
+pub in_parts_walks : {f : Tape} (env : Env) (want : Option TyId) (n : Node) {s t : State} → Walks f s t (nodes_of n) →
+    Walked (λ m u. Walks f s u (nodes_of m)) (rows.place_for_parts env want n t)
 in_parts_walks env None n {t = t} w = walk_obeyed Rule.T08 (place_in_text n) (not (is_reference t.items (ty_of n))) _ λ _. walk_ends w
-in_parts_walks env (Some want) n {s} {t} w = by (fit t.items want (ty_of n))
+in_parts_walks {f} env (Some want) n {s} {t} w = by (fit t.items want (ty_of n))
   where
-    by : (how : Fit) → Walked (λ m u. Walks s u (nodes_of m)) (rows.as_part env (Some want) n how t)
+    by : (how : Fit) → Walked (λ m u. Walks f s u (nodes_of m)) (rows.as_part env (Some want) n how t)
     by Fits = walk_obeyed Rule.T08 (place_in_text n) (not (is_reference t.items (ty_of n))) _ λ _. walk_ends w
     by (Coerced trait_no) = taken_walks env (Some want) n w
     by Differs = taken_walks env (Some want) n w
 
-pub let_walks : (at : Pos) (env : Env) (one : Bool) (written : Check (Option TyId)) (value : Option TyId → Check
-    MaybeNode) (matcher : Matcher) (behind : List Entry → Env) → ((s : State) → Walked (λ _ t. SameWalk s t) (written
-    s)) → WalksMaybe value → WalksMatcher matcher → (s : State) → Walked (λ done t. Walks s t (nodes_of done.0))
+pub let_walks : {f : Tape} (P : Env → Type 0) (at : Pos) (env : Env) (one : Bool) (written : Check (Option TyId)) (value : Option TyId → Check
+    MaybeNode) (matcher : Matcher) (behind : List Entry → Env) → ((xs : List Entry) → P (behind xs)) → ((s : State) → Walked (λ _ t. SameWalk s t) (written
+    s)) → WalksMaybe f value → WalksMatcher matcher → (s : State) → Walked (λ done t. Walks f s t (nodes_of done.0) × P done.2)
     (rows.let_row at env one written value matcher behind s)
-let_walks at env one written value matcher behind good_w good_v good_m s =
+let_walks P at env one written value matcher behind stays good_w good_v good_m s =
     walk (good_w (numbered s)) λ ty t e. walk (good_v ty t) λ v u w. walk_found Rule.T16 at (rows.let_ty ty v) _ λ t is. walk (good_m _ _
-    u) λ p x y. walk_ends (walks_node at unit None (tree.Let p.0 v) (walks_both (on_same e (walks_none (numbered s)))
-    (walks_swapped w y)))
+    u) λ p x y. walk_ends (
+      walks_node at unit None (tree.Let p.0 v) (walks_both (on_same e (walks_none (numbered s)))
+          (walks_swapped w y)),
+      stays p.1,
+    )
 
-pub evaluate_walks : (at : Pos) (env : Env) (has_semicolon : Bool) (e : Typer) → WalksTyper e → (s : State) → Walked (λ
-    done t. Walks s t (nodes_of done.0)) (rows.evaluate at env has_semicolon e s)
-evaluate_walks at env has_semicolon e good s =
-    walk (good None (numbered s)) λ n t w. walk_obeyed Rule.T03 (place_in_text n) (has_semicolon || (is_unit t.items (ty_of n) || is_never t.items (ty_of n))) _ λ _. walk_ends (walks_node at unit
-    None (tree.Evaluate n) w)
+pub evaluate_walks : {f : Tape} (P : Env → Type 0) (at : Pos) (env : Env) (has_semicolon : Bool) (e : Typer) → P env → WalksTyper f e → (s : State) →
+    Walked (λ done t. Walks f s t (nodes_of done.0) × P done.2) (rows.evaluate at env has_semicolon e s)
+evaluate_walks P at env has_semicolon e stays good s =
+    walk (good None (numbered s)) λ n t w. walk_obeyed Rule.T03 (place_in_text n) (has_semicolon || (is_unit t.items (ty_of n) || is_never t.items (ty_of n))) _ λ _. walk_ends (walks_node at unit None (tree.Evaluate n) w, stays)

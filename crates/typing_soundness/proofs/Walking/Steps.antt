@@ -1,10 +1,14 @@
 -- Rules for what a check adds, one a step of a row.
-use Rattle.std.proofs.Common.{◌≡◌, ℕ, Bool, true, false, List, Option, Some, None, Result, Ok, Err, IsTrue, refl}
+use Rattle.std.proofs.Common.{◌≡◌, ℕ, Bool, true, false, List, [], ◌∷◌, ◌++◌, length, slice_get, Option, Some, None, Result, Ok, Err, IsTrue, ◌⊎◌, inl, inr, refl, ap, sym, ◌∙◌}
 use Rattle.std.specs.List.{position as position_of}
 use Rattle.mir_base.specs.declared.place_in_text.Pos.{Pos}
 use Rattle.mir_base.specs.declared.rule.Rule.{Rule}
 use Rattle.mir_ty.specs.declared.ty.Ty.{Ty}
 use Rattle.mir_ty.specs.declared.ty.TyId.{TyId}
+use Rattle.mir_ty.specs.ItemTable.{type_at, with_type}
+use Rattle.mir_ty.specs.AreItems.{AreDistinct}
+use Rattle.mir_ty.proofs.ListLemmas.{slice_get-append_left, slice_get-last, slice_get-push_cases}
+use Rattle.typing_rules.proofs.Sound.Interned.{found_at, not_there}
 use Rattle.typed_tree.specs.Nodes.{nodes_of}
 use Rattle.typed_tree.specs.Tree as tree
 use Rattle.typed_tree.specs.Tree.{Node, node, Form, MaybeNode}
@@ -12,8 +16,9 @@ use Rattle.well_typed.specs.Items.{is_equal}
 use Rattle.typing_rules.specs.Check.{Check, State, Broken, and_then, obeys, known, breaks, interned, interned_at}
 use Rattle.typing_rules.specs.Places.{Fit, Fits, Coerced, Differs, fit, place_in_text, agrees}
 use Rattle.typing_rules.specs.Rows.{fitted, fitted_by, settled}
+use Rattle.typing_soundness.specs.Closures.{Tape}
 use Rattle.typing_soundness.specs.Walks.{Walks, Walked}
-use Rattle.typing_soundness.proofs.Walking.Adding.{Stays, walks_same, walks_outer}
+use Rattle.typing_soundness.proofs.Walking.Adding.{Stays, stays_refl, walks_same, walks_outer}
 use Rattle.well_typed.specs.Places.{ty_of}
 
 -- ---- one step after another
@@ -57,38 +62,80 @@ pub record SameWalk (s t : State) : Type 0 where
   pub breaks : t.breaks ≡ s.breaks
   pub stays : Stays s t
 
-pub on_same : {s t u : State} {xs : List Node} → SameWalk t u → Walks s t xs → Walks s u xs
+pub on_same : {f : Tape} {s t u : State} {xs : List Node} → SameWalk t u → Walks f s t xs → Walks f s u xs
 on_same {u = u} e p = walks_same u e.number e.breaks e.stays p
 
--- a type gets a number
+-- a type that is new
+pub with_type_distinct : (ty : Ty) (tys : List Ty) → ((k : ℕ) → slice_get tys k ≡ Some ty → ⊥) → AreDistinct tys → AreDistinct
+    (tys ++ ty ∷ [])
+with_type_distinct ty tys absent all i j t a b =
+    by (slice_get-push_cases tys ty i t a) (slice_get-push_cases tys ty j t b)
+  where
+    by : (slice_get tys i ≡ Some t) ⊎ ((i ≡ length tys) × (ty ≡ t)) → (slice_get tys j ≡ Some t) ⊎ ((j ≡ length
+        tys) × (ty ≡ t)) → i ≡ j
+    by (inl a) (inl b) = all i j t a b
+    by (inl a) (inr b) = absurd (absent i (a ∙ ap Some (sym b.1)))
+    by (inr a) (inl b) = absurd (absent j (b ∙ ap Some (sym a.1)))
+    by (inr a) (inr b) = a.0 ∙ sym b.0
+
+with_type_stays : (ty : Ty) (s : State) → position_of (is_equal ty) s.items.types ≡ None → Stays s (record s {
+  items =
+      with_type s.items ty;
+})
+with_type_stays ty s is = record {
+  types = λ n t h. slice_get-append_left s.items.types (ty ∷ []) n t h;
+  distinct = with_type_distinct ty s.items.types (not_there ty s.items.types is);
+  adts = refl;
+  heads = refl;
+  next_body = refl;
+  bodies = refl;
+  closures = refl;
+}
+
+-- a type gets a number, and has it
+pub walk_interned_as : {B : Type 0} {R : B → State → Type 0} (ty : Ty) (s : State) {f : TyId → Check B} → ((id : TyId) (t
+    : State) → SameWalk s t → type_at t.items id ≡ Some ty → Walked R (f id t)) → Walked R (and_then (interned ty s) f)
+walk_interned_as {R = R} ty s {f} k = by (position_of (is_equal ty) s.items.types) refl
+  where
+    by : (o : Option ℕ) → position_of (is_equal ty) s.items.types ≡ o → Walked R (and_then (interned_at ty o s) f)
+    by (Some n) is =
+        k _ s (record { number = refl; breaks = refl; stays = stays_refl s }) (found_at ty s.items.types n is)
+    by None is =
+        k _ _ (record { number = refl; breaks = refl; stays = with_type_stays ty s is }) (slice_get-last s.items.types ty)
+
 pub walk_interned : {B : Type 0} {R : B → State → Type 0} (ty : Ty) (s : State) {f : TyId → Check B} → ((id : TyId) (t :
     State) → SameWalk s t → Walked R (f id t)) → Walked R (and_then (interned ty s) f)
-walk_interned {R = R} ty s {f} k = by (position_of (is_equal ty) s.items.types)
+walk_interned ty s k = walk_interned_as ty s λ id t e is. k id t e
+
+-- nothing comes behind it
+pub interned_ends : {R : TyId → State → Type 0} (ty : Ty) (s : State) → ((id : TyId) (t : State) → SameWalk s t → R id t) →
+    Walked R (interned ty s)
+interned_ends {R} ty s k = by (position_of (is_equal ty) s.items.types) refl
   where
-    by : (o : Option ℕ) → Walked R (and_then (interned_at ty o s) f)
-    by (Some n) = k _ s record { number = refl; breaks = refl; stays = record { next_body = refl; bodies = refl; closures = refl } }
-    by None = k _ _ record { number = refl; breaks = refl; stays = record { next_body = refl; bodies = refl; closures = refl } }
+    by : (o : Option ℕ) → position_of (is_equal ty) s.items.types ≡ o → Walked R (interned_at ty o s)
+    by (Some n) is = walk_ends (k _ s (record { number = refl; breaks = refl; stays = stays_refl s }))
+    by None is = walk_ends (k _ _ (record { number = refl; breaks = refl; stays = with_type_stays ty s is }))
 
 -- ---- the end of a row
 
-fitted_so : {C : Type 0} (want : TyId) (n : Node) {s t : State} (how : Fit) → (C → Walks s t (nodes_of n)) → Walked (λ m
-    u. C → Walks s u (nodes_of m)) (fitted_by want n how t)
+fitted_so : {C : Type 0} {f : Tape} (want : TyId) (n : Node) {s t : State} (how : Fit) → (C → Walks f s t (nodes_of n)) →
+    Walked (λ m u. C → Walks f s u (nodes_of m)) (fitted_by want n how t)
 fitted_so want n Fits p = walk_ends p
 fitted_so want n (Coerced trait_no) p = walk_ends (λ c. walks_outer (place_in_text n) want None (tree.Unsize trait_no n)
     (p c))
 fitted_so want n Differs p = record { so = tt }
 
 -- a leaf, which may be coerced, where something is so
-pub fitted_when : {C : Type 0} (want : Option TyId) (n : Node) {s t : State} → (C → Walks s t (nodes_of n)) → Walked (λ
-    m u. C → Walks s u (nodes_of m)) (fitted want n t)
+pub fitted_when : {C : Type 0} {f : Tape} (want : Option TyId) (n : Node) {s t : State} → (C → Walks f s t (nodes_of n)) →
+    Walked (λ m u. C → Walks f s u (nodes_of m)) (fitted want n t)
 fitted_when None n p = walk_ends p
 fitted_when (Some want) n {t = t} p = fitted_so want n (fit t.items want (ty_of n)) p
 
-pub walk_fitted : (want : Option TyId) (n : Node) {s t : State} → Walks s t (nodes_of n) → Walked (λ m u. Walks s u
+pub walk_fitted : {f : Tape} (want : Option TyId) (n : Node) {s t : State} → Walks f s t (nodes_of n) → Walked (λ m u. Walks f s u
     (nodes_of m)) (fitted want n t)
 walk_fitted want n p = walk_map (fitted_when {C = Unit {0}} want n (λ _. p)) λ m u h. h tt
 
-pub walk_settled : (want : Option TyId) (n : Node) {s t : State} → Walks s t (nodes_of n) → Walked (λ m u. Walks s u
+pub walk_settled : {f : Tape} (want : Option TyId) (n : Node) {s t : State} → Walks f s t (nodes_of n) → Walked (λ m u. Walks f s u
     (nodes_of m)) (settled want n t)
 walk_settled want n {t = t} p = walk_obeyed Rule.T03 (place_in_text n) (agrees t.items want (ty_of n)) _ λ is. walk_ends
     p

@@ -1,0 +1,109 @@
+-- The heads that are collected for the bodies of a text, before any body is looked at.
+use Rattle.std.specs.Prelude.{◌≡◌, ℕ, true, List, [], ◌∷◌, length, Some}
+use Rattle.mir_ty.specs.declared.adt.Adt.{Adt}
+use Rattle.mir_ty.specs.declared.adt.Variant.{Variant}
+use Rattle.mir_ty.specs.declared.def.Sig.{Sig}
+use Rattle.mir_ty.specs.declared.ty.Ty.{Ty}
+use Rattle.mir_ty.specs.declared.ty.TyId.{TyId}
+use Rattle.mir_ty.specs.ItemTable.{ItemTable, type_at}
+use Rattle.typing_rules.specs.Items.{ItemSyn}
+use Rattle.typing_rules.specs.Places.{unit}
+use Rattle.typing_rules.specs.Written.{Around}
+use Rattle.src_ast.specs.Syntax.{Syn, syn, MoveOf, StructItem, EnumItem, VariantDecl, ImplItem, FnItem, ParamOf, Syns, no_syn, a_syn, list_of, MaybeSyn, nothing, just}
+use Rattle.typing_soundness.specs.Closures.{BodySyn, Function, Closure, Tape, HasTypes, functions_text, function_text}
+use Rattle.well_typed.specs.Claim.{Claim, fact}
+use Rattle.typing_soundness.specs.Shapes.{no_self}
+use Rattle.typing_soundness.specs.Types.{Means}
+
+-- ---- the types of a head
+
+-- a type that is written, where it can be written at all
+module _ (around : Around) (items : ItemTable) where
+  abbrev pub MeansIfAny : Syn → TyId → Type 0
+  MeansIfAny written ty = (others : ItemTable) (t : TyId) → Means around others written t → Means around items written ty
+
+  abbrev pub MeansClosureParam : Syn → TyId → Type 0
+  MeansClosureParam (syn at (ParamOf p written)) ty = MeansIfAny written ty
+  MeansClosureParam _ ty = Unit {0}
+
+  abbrev pub MeanClosureParams : Syns → List TyId → Type 0
+  MeanClosureParams no_syn [] = Unit {0}
+  MeanClosureParams no_syn (ty ∷ tys) = ⊥
+  MeanClosureParams (a_syn first rest) [] = ⊥
+  MeanClosureParams (a_syn first rest) (ty ∷ tys) = MeansClosureParam first ty × MeanClosureParams rest tys
+
+  abbrev pub MeansClosureAnswer : MaybeSyn → TyId → Type 0
+  MeansClosureAnswer nothing ty = unit ≡ ty
+  MeansClosureAnswer (just written) ty = MeansIfAny written ty
+
+abbrev pub AreHeadTypes : ItemTable → ℕ → BodySyn → List TyId → TyId → Type 0
+AreHeadTypes items closure (Function head) params answer = HasTypes items head params answer
+AreHeadTypes items closure (Closure head) [] answer = ⊥
+AreHeadTypes items closure (Closure head) (self ∷ params) answer =
+    (type_at items self ≡ Some (Ty.Closure closure)) × MeanClosureParams head.around items head.params
+    params × MeansClosureAnswer head.around items head.answer answer
+
+abbrev pub IsHeadOf : ItemTable → ℕ → BodySyn → Sig → Type 0
+IsHeadOf items closure text head = AreHeadTypes items closure text head.params head.result
+
+-- ---- structs and enums
+
+-- as many fields as are declared, each with a name
+abbrev pub IsVariantOf : Syns → Variant → Type 0
+IsVariantOf fields v =
+    (length v.fields ≡ length (list_of fields)) × (length v.field_names ≡ length (list_of fields))
+
+abbrev pub AreVariantsOf : Syns → List Variant → Type 0
+AreVariantsOf no_syn [] = Unit {0}
+AreVariantsOf no_syn (v ∷ vs) = ⊥
+AreVariantsOf (a_syn first rest) [] = ⊥
+AreVariantsOf (a_syn (syn at (VariantDecl name kind fields)) rest) (v ∷ vs) =
+    ((v.name ≡ name) × IsVariantOf fields v) × AreVariantsOf rest vs
+AreVariantsOf (a_syn first rest) (v ∷ vs) = ⊥
+
+abbrev pub IsAdtOf : Syn → Adt → Type 0
+IsAdtOf (syn at (StructItem derives name kind fields)) adt =
+    (adt.name ≡ name.1) × (v : Variant) × (adt.variants ≡ v ∷ []) × IsVariantOf fields v
+IsAdtOf (syn at (EnumItem derives name variants)) adt =
+    (adt.name ≡ name.1) × (adt.is_enum ≡ true) × AreVariantsOf variants adt.variants
+IsAdtOf _ adt = ⊥
+
+-- structs and enums in the order of the text
+abbrev pub AreAdtsOf : List Syn → List Adt → Type 0
+AreAdtsOf [] [] = Unit {0}
+AreAdtsOf (i ∷ is) (adt ∷ adts) = IsAdtOf i adt × AreAdtsOf is adts
+AreAdtsOf _ _ = ⊥
+
+-- ---- the bodies that are listed for an item
+
+module _ (around : Around) where
+  abbrev pub body_text : Syn → Tape
+  body_text (syn at (FnItem name params answer block)) =
+      λ rest. Function (record { around = around; params = params; answer = answer }) ∷ rest
+  body_text (syn at (MoveOf captures params answer body)) =
+      λ rest. Closure (record { around = around; params = params; answer = answer }) ∷ rest
+  body_text _ = λ rest. rest
+
+  abbrev pub bodies_text : List Syn → Tape
+  bodies_text [] = λ rest. rest
+  bodies_text (b ∷ bs) = λ rest. body_text b (bodies_text bs rest)
+
+  -- the bodies of an item, in the order of the text
+  abbrev pub inner_text : Syn → Tape
+  inner_text (syn at (ImplItem trait_ name methods)) = functions_text around (list_of methods)
+  inner_text (syn at (FnItem name params answer block)) =
+      function_text around (syn at (FnItem name params answer block))
+  inner_text _ = λ rest. rest
+
+-- an item is listed with all its bodies
+abbrev pub TellsBodies : ItemSyn → Type 0
+TellsBodies i = (around : Around) → bodies_text around i.bodies ≡ inner_text around i.item
+
+abbrev pub TellBodies : List ItemSyn → Type 0
+TellBodies [] = Unit {0}
+TellBodies (i ∷ is) = TellsBodies i × TellBodies is
+
+-- no closure has a parameter `self`
+abbrev pub has_no_self : BodySyn → Claim
+has_no_self (Function head) = fact true
+has_no_self (Closure head) = fact (no_self head.params)
