@@ -1,10 +1,10 @@
 mod Allowing
 mod Blocks
 mod Coming
-mod Elsewhere
+pub mod Elsewhere
 mod Examples
 mod Following
-mod Law
+pub mod Law
 mod Leaving
 mod Lines
 mod Performing

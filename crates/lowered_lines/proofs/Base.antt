@@ -1,8 +1,7 @@
 -- What is known of a body, of its cells and of what is around a node; effects whose lines are well typed.
-use Rattle.std.proofs.Common.{◌≡◌, ◌⊎◌, inl, inr, ℕ, ◌==◌, ◌&&◌, ◌||◌, not, nat_lt, Bool, true, false, List, [], ◌∷◌, ◌++◌, length, map, Option, Some, None, slice_get, if◌then◌else◌, refl, sym, ap, subst, ◌∙◌}
+use Rattle.std.proofs.Common.{◌≡◌, ◌⊎◌, inl, inr, ℕ, ◌&&◌, ◌||◌, not, nat_lt, Bool, true, false, List, [], ◌∷◌, ◌++◌, length, Option, Some, None, slice_get, refl, sym, ap, subst, ◌∙◌}
 use Rattle.std.proofs.lemmas.Bool.{eqb-true}
-use Rattle.std.proofs.lemmas.Option.{none-some, same_Some}
-use Rattle.std.specs.Prelude.{option_and_then}
+use Rattle.std.proofs.lemmas.Option.{same_Some}
 use Rattle.cfg_graph.specs.declared.graph.Body.{Body}
 use Rattle.cfg_graph.specs.declared.place.Operand as graph_operand
 use Rattle.cfg_graph.specs.declared.statement.Stmt.{Stmt}
@@ -23,9 +22,9 @@ use Rattle.typed_tree.specs.Nodes.{number_of}
 use Rattle.typed_tree.specs.Tree as tree
 use Rattle.src_meaning.specs.Forms as source
 use Rattle.src_meaning.specs.Forms.{Destination, Into, Coerced, Around, loop_destination, entry_of, site_in, site_of_key, moved}
-use Rattle.src_meaning.specs.Scopes.{Entry, Exit, Value, Breaks, Continues, Returns, Panics, Scope, Scopes, innermost, nearest_temporary, entry_site, with_entry, with_pending, becomes_entry}
+use Rattle.src_meaning.specs.Scopes.{Entry, Exit, Breaks, entry_site}
 use Rattle.src_meaning.specs.Shape.{Head, Bound, Aliases, place_of_key}
-use Rattle.well_typed.specs.Claim.{Claim, Holds, fact, some}
+use Rattle.well_typed.specs.Claim.{Claim, Holds, some}
 use Rattle.well_typed.specs.Nodes.{is_closure_body}
 use Rattle.well_typed.specs.Places.{InScope, LoopAround, Context, entry_with, loop_with}
 use Rattle.well_typed.specs.Types as types
@@ -34,7 +33,7 @@ use Rattle.cfg_build.specs.Build as build
 use Rattle.cfg_graph.specs.declared.terminator.Unwind.{Unwind}
 use Rattle.cfg_build.specs.Build.{Frame, Lowers, act, act_by, is_last, done_by, then_lower, change, from_changed, jumps_if}
 use Rattle.cfg_build.specs.Lower as lower
-use Rattle.cfg_build.proofs.KnownTypes.{same_never, never_known}
+use Rattle.cfg_build.proofs.KnownTypes.{same_never}
 use Rattle.cfg_build.proofs.Lines as lines
 use Rattle.cfg_build.proofs.Lines.{Wanted}
 use Rattle.cfg_build.proofs.TypedLines as typed_lines

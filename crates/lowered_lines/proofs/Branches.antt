@@ -1,33 +1,25 @@
 -- The rules of branches, patterns, arms, statements, jumps and loops, for nodes that are well typed.
-use Rattle.std.proofs.Common.{◌≡◌, ◌⊎◌, inl, inr, ℕ, zero, suc, ◌==◌, ◌&&◌, ◌||◌, not, Bool, true, false, List, [], ◌∷◌, ◌++◌, length, Option, Some, None, if◌then◌else◌, cond, refl, sym, ap, subst, ◌∙◌}
-use Rattle.std.proofs.lemmas.Bool.{eqb-true}
-use Rattle.std.proofs.lemmas.Option.{none-some, same_Some}
+use Rattle.std.proofs.Common.{◌≡◌, inl, inr, ℕ, ◌==◌, ◌&&◌, ◌||◌, Bool, true, false, List, [], ◌∷◌, ◌++◌, length, Some, if◌then◌else◌, cond, refl, sym, ap, subst, ◌∙◌}
 use Rattle.cfg_graph.specs.declared.graph.Kind.{Kind}
 use Rattle.cfg_graph.specs.declared.terminator.Term.{Term}
-use Rattle.cfg_graph.specs.declared.terminator.Unwind.{Unwind}
 use Rattle.mir_base.specs.declared.trace.Why.{Why}
-use Rattle.mir_ty.specs.declared.ty.Ty.{Ty}
 use Rattle.mir_ty.specs.declared.ty.TyId.{TyId}
 use Rattle.mir_ty.specs.Facts.{needs_drop}
-use Rattle.mir_ty.specs.ItemTable.{type_at}
 use Rattle.store_model.specs.Effects as effects
 use Rattle.store_model.specs.Effects.{Site, Action}
-use Rattle.store_model.specs.Places.Place.{Place, whole_local}
-use Rattle.typed_tree.specs.Nodes.{number_of, nodes_of}
+use Rattle.store_model.specs.Places.Place.{Place}
+use Rattle.typed_tree.specs.Nodes.{nodes_of}
 use Rattle.typed_tree.specs.Tree as tree
-use Rattle.src_meaning.specs.Forms as source
 use Rattle.src_meaning.specs.Forms.{Destination, Into, Around, in_guard, entry_of, bound_entry, site_of_key, moved}
 use Rattle.src_meaning.specs.Locals.OfBody.{cells, reached_cells}
-use Rattle.src_meaning.specs.Scopes.{Exit, Value, Breaks, Continues, Returns, Panics, Entry, Scope, Scopes, with_scope, innermost, around_innermost, with_entry, with_pending, without_pending}
+use Rattle.src_meaning.specs.Scopes.{Exit, Value, Breaks, Continues, Returns, Panics, Entry, Scopes, with_scope, innermost, with_entry, with_pending, without_pending}
 use Rattle.src_meaning.specs.Shape.{Head, Bound, PatternTests}
 use Rattle.well_typed.specs.Places.{LoopAround, Context, loop_with, ty_of}
-use Rattle.well_typed.specs.Types as types
 use Rattle.cfg_code.specs.Spots.{Ways}
 use Rattle.cfg_build.specs.Build as build
 use Rattle.cfg_build.specs.Build.{Frame, Rest, Building, Lowers, closed, ending, joined, jumps_if, act, breaks_from, is_left_by, names, outside, change, from_changed, back_in, then_lower, branches, looped, leave, if_true, tests}
 use Rattle.cfg_build.specs.Lower as lower
 use Rattle.cfg_build.specs.Lower.{LowersArm, NodeLower, LowerIfAny, no_lower, a_lower}
-use Rattle.cfg_build.proofs.KnownTypes.{bool_known, unit_known}
 use Rattle.cfg_build.proofs.Lines as lines
 use Rattle.cfg_build.proofs.TypedLines as typed_lines
 use Rattle.lowered_lines.proofs.Base as base

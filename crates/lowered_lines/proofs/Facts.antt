@@ -1,10 +1,10 @@
 -- What well typed items and bodies tell of the parts that lines name.
-use Rattle.std.proofs.Common.{◌≡◌, ◌⊎◌, inl, inr, ℕ, zero, suc, ◌+◌, ◌<◌, ◌==◌, ◌&&◌, ◌||◌, not, nat_lt, Bool, true, false, List, [], ◌∷◌, ◌++◌, length, map, Option, Some, None, slice_get, position, cond, if◌then◌else◌, refl, sym, ap, subst, ◌∙◌, arith}
-use Rattle.std.proofs.lemmas.Bool.{lt-ltb, ltb-true, eqb-true}
-use Rattle.std.proofs.lemmas.Option.{none-some, same_Some, slice_get_within, slice_get_past}
+use Rattle.std.proofs.Common.{◌≡◌, ℕ, zero, suc, ◌+◌, ◌<◌, ◌==◌, ◌&&◌, ◌||◌, not, nat_lt, Bool, true, false, List, [], ◌∷◌, ◌++◌, length, Option, Some, None, slice_get, position, if◌then◌else◌, refl, sym, ap, subst, ◌∙◌, arith}
+use Rattle.std.proofs.lemmas.Bool.{lt-ltb, eqb-true}
+use Rattle.std.proofs.lemmas.Option.{none-some, same_Some, slice_get_within}
 use Rattle.std.specs.Prelude.{is_some, replicate, option_and_then, codes}
 use Rattle.std.specs.Str.{bytes_eq}
-use Rattle.std.specs.List.{find, list_any, list_all}
+use Rattle.std.specs.List.{list_any, list_all}
 use Rattle.std.specs.Option.{option_map_or}
 use Rattle.cfg_graph.specs.WellFormed.LineFaults.{local_faults, local_tests}
 use Rattle.cfg_graph.specs.WellFormed.TypeFaults.{is_drop_body, ty_exists, misplaces_dyn, existing, misplacing}
@@ -30,7 +30,7 @@ use Rattle.well_typed.specs.Nodes as typing
 use Rattle.well_typed.specs.Program.{WellTyped, are_bodies, is_body}
 use Rattle.well_typed.specs.Types as types
 use Rattle.well_typed.proofs.ItemLemmas.{are_distinct}
-use Rattle.cfg_build.proofs.KnownTypes.{closure_known, reference_known}
+use Rattle.cfg_build.proofs.KnownTypes.{closure_known}
 use Rattle.lowered_lines.proofs.Base.{untrue, and_first, and_second, found}
 
 -- ---- lists of which all are so

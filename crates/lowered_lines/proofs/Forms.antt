@@ -1,5 +1,5 @@
 -- What is lowered of a well typed node has well typed lines, and no end where the node is of type `!`: one line a form.
-use Rattle.std.proofs.Common.{◌≡◌, ◌⊎◌, inl, inr, ℕ, zero, suc, ◌==◌, ◌&&◌, ◌||◌, not, nat_lt, Bool, true, false, List, [], ◌∷◌, ◌++◌, length, map, Option, Some, None, slice_get, ℤ, if◌then◌else◌, cond, refl, sym, ap, subst, ◌∙◌}
+use Rattle.std.proofs.Common.{◌≡◌, inl, inr, ℕ, suc, ◌==◌, ◌&&◌, ◌||◌, not, Bool, true, false, List, [], ◌∷◌, ◌++◌, length, map, Option, Some, None, slice_get, ℤ, if◌then◌else◌, cond, refl, sym, ap, subst, ◌∙◌}
 use Rattle.std.proofs.lemmas.Bool.{eqb-true}
 use Rattle.std.proofs.lemmas.Option.{none-some, same_Some}
 use Rattle.std.specs.Prelude.{option_and_then, is_some, is_none}
@@ -7,9 +7,6 @@ use Rattle.std.proofs.lemmas.List.{append-nil}
 use Rattle.cfg_graph.specs.declared.graph.Body.{Body}
 use Rattle.std.specs.List.{list_any, list_all}
 use Rattle.std.specs.Option.{option_map_or}
-use Rattle.cfg_graph.specs.declared.statement.Stmt.{Stmt}
-use Rattle.cfg_graph.specs.declared.terminator.Term.{Term}
-use Rattle.cfg_graph.specs.declared.place.Operand as graph_operand
 use Rattle.cfg_graph.specs.WellFormed.TypeFaults.{is_drop_body}
 use Rattle.cfg_graph.specs.WellFormed.Typing.{method_at}
 use Rattle.cfg_graph.specs.WellFormed.Typing.{method_at}
@@ -18,12 +15,11 @@ use Rattle.mir_base.specs.declared.place_in_text.Pos.{Pos}
 use Rattle.mir_base.specs.declared.trace.Why.{Why}
 use Rattle.mir_ty.specs.declared.adt.Adt.{Adt}
 use Rattle.mir_ty.specs.declared.adt.Variant.{Variant}
-use Rattle.mir_ty.specs.declared.def.ImplDef.{ImplDef}
 use Rattle.mir_ty.specs.declared.def.Sig.{Sig}
 use Rattle.mir_ty.specs.declared.ty.Ty.{Ty}
 use Rattle.mir_ty.specs.declared.ty.TyId.{TyId}
 use Rattle.mir_ty.specs.Facts.{needs_drop}
-use Rattle.mir_ty.specs.ItemTable.{ItemTable, type_at}
+use Rattle.mir_ty.specs.ItemTable.{type_at}
 use Rattle.mir_ty.specs.Parts.{field_ty, parts_of}
 use Rattle.store_model.specs.Concrete.Effects.{impl_of}
 use Rattle.store_model.specs.Effects as effects
@@ -35,14 +31,14 @@ use Rattle.typed_tree.specs.declared.node.Use.{Use}
 use Rattle.typed_tree.specs.Nodes.{number_of, nodes_of, nodes_in, nodes_among, nodes_of_fields, nodes_if_any}
 use Rattle.typed_tree.specs.Tree as tree
 use Rattle.typed_tree.specs.Tree.{Node, Form, Nodes, no_node, a_node, Fields, no_field, a_field, MaybeNode, absent, present}
-use Rattle.src_meaning.specs.Evaluation.{in_number_order, to_own_key}
+use Rattle.src_meaning.specs.Evaluation.{in_number_order}
 use Rattle.src_meaning.specs.Forms as source
 use Rattle.src_meaning.specs.Forms.{Destination, Into, Coerced, coerced, Around, in_loop, loop_destination, in_guard, entry_of, site_in, site_of_key, moved}
 use Rattle.src_meaning.specs.Locals.OfBody.{cells, reached_cells, cells_in, all_cells, cells_of_fields, cells_if_any, initial_cells, is_place_form}
-use Rattle.src_meaning.specs.Scopes.{Entry, Exit, Breaks, Continues, Returns, innermost, around_innermost, nearest_temporary}
-use Rattle.src_meaning.specs.Shape.{Head, head, Shape, Bound, Aliases, kind_of, shape, shape_of, extended, place_of_key, site_at, operand_at}
+use Rattle.src_meaning.specs.Scopes.{Entry, Breaks, Continues, Returns, innermost, around_innermost}
+use Rattle.src_meaning.specs.Shape.{Head, head, Shape, Aliases, kind_of, shape, shape_of, extended, place_of_key, site_at}
 use Rattle.cfg_code.specs.Code.{field_keys, moved_fields}
-use Rattle.well_typed.specs.Claim.{Claim, Holds, fact, some, ◌&◌, nothing}
+use Rattle.well_typed.specs.Claim.{Claim, Holds, fact, some, ◌&◌}
 use Rattle.well_typed.specs.Names.{are_distinct_numbers}
 use Rattle.well_typed.specs.Nodes as typing
 use Rattle.well_typed.specs.Patterns as patterns

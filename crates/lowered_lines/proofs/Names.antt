@@ -1,11 +1,11 @@
 -- The names of patterns, as entries in scope and as what the names take; what is around a node behind a pattern, in a
 -- guard, and in a loop.
-use Rattle.std.proofs.Common.{◌≡◌, ◌⊎◌, inl, inr, ℕ, ◌==◌, ◌&&◌, ◌<◌, nat_lt, Bool, true, false, List, [], ◌∷◌, ◌++◌, Option, Some, None, suc, if◌then◌else◌, cond, refl, sym, ap, subst, ◌∙◌, arith}
+use Rattle.std.proofs.Common.{◌≡◌, ◌⊎◌, inl, inr, ℕ, ◌==◌, nat_lt, Bool, true, false, List, [], ◌∷◌, ◌++◌, Option, Some, None, suc, if◌then◌else◌, cond, refl, sym, ap, subst, ◌∙◌, arith}
 use Rattle.std.proofs.lemmas.Bool.{eqb-true, ltb-true}
 use Rattle.std.proofs.lemmas.Bool.Decides.{eqb_tells}
 use Rattle.std.proofs.lemmas.List.Elements.{filter_map-append}
 use Rattle.std.proofs.lemmas.Option.{none-some, same_Some}
-use Rattle.std.specs.List.{find, filter_map}
+use Rattle.std.specs.List.{filter_map}
 use Rattle.mir_ty.specs.declared.ty.TyId.{TyId}
 use Rattle.store_model.specs.Places.Place.{Step, ToPart, ToField, Place, whole_local}
 use Rattle.typed_tree.specs.Nodes.{number_of, nodes_of, nodes_in, nodes_among, nodes_of_fields}
@@ -14,7 +14,7 @@ use Rattle.typed_tree.specs.Tree.{Node, Form, Nodes, no_node, a_node, Fields, no
 use Rattle.src_meaning.specs.Forms.{Destination, Around, in_guard, in_loop, loop_destination, aliases_with}
 use Rattle.src_meaning.specs.Locals.OfBody.{cells, all_cells, cells_of_fields}
 use Rattle.src_meaning.specs.Shape.{head, Bound, Aliases, shape, shape_of, in_fields, in_parts, extended, place_of_key}
-use Rattle.well_typed.specs.Claim.{Claim, Holds, fact, some}
+use Rattle.well_typed.specs.Claim.{Holds}
 use Rattle.well_typed.specs.Patterns as patterns
 use Rattle.well_typed.specs.Patterns.{Matched, binding_name, binding_entry, entries_of}
 use Rattle.well_typed.specs.Places.{InScope, LoopAround, Context, with_entries, within, entry_with, loop_with}

@@ -1,44 +1,37 @@
 -- Patterns that are well typed: their tests and what their names take, at places of their types; and the names that they
 -- bring into scope.
-use Rattle.std.proofs.Common.{◌≡◌, ◌⊎◌, inl, inr, ℕ, zero, suc, ◌+◌, ◌<◌, ◌≤◌, ◌==◌, ◌&&◌, ◌||◌, not, nat_lt, Bool, true, false, List, [], ◌∷◌, ◌++◌, length, map, Option, Some, None, ℤ, slice_get, slice_index_or, if◌then◌else◌, cond, position, refl, sym, ap, subst, ◌∙◌, arith}
-use Rattle.std.proofs.lemmas.Bool.{eqb-true, ltb-true}
+use Rattle.std.proofs.Common.{◌≡◌, inl, inr, ℕ, suc, ◌+◌, ◌≤◌, ◌==◌, nat_lt, Bool, true, false, List, [], ◌∷◌, ◌++◌, length, Option, Some, None, ℤ, slice_get, slice_index_or, if◌then◌else◌, cond, position, refl, sym, ap, subst, ◌∙◌, arith}
+use Rattle.std.proofs.lemmas.Bool.{ltb-true}
 use Rattle.std.proofs.lemmas.Bool.Decides.{eqb_tells}
-use Rattle.std.proofs.lemmas.List.Elements.{filter_map-append}
 use Rattle.std.proofs.lemmas.Option.{none-some, same_Some, slice_get-get_or, slice_get_past}
-use Rattle.std.specs.Prelude.{option_and_then, option_map, replicate}
-use Rattle.std.specs.List.{find, filter_map, position_or_len}
+use Rattle.std.specs.Prelude.{replicate}
+use Rattle.std.specs.List.{find, position_or_len}
 use Rattle.std.proofs.lemmas.List.Folds.{find_at}
-use Rattle.std.specs.Option.{option_map_or, unwrap_or}
+use Rattle.std.specs.Option.{option_map_or}
 use Rattle.cfg_graph.specs.declared.terminator.Term.{Term}
 use Rattle.mir_base.specs.declared.int_kind.IntKind.{IntKind}
 use Rattle.mir_ty.specs.declared.adt.Adt.{Adt}
 use Rattle.mir_ty.specs.declared.adt.Variant.{Variant}
 use Rattle.mir_ty.specs.declared.ty.Ty.{Ty}
 use Rattle.mir_ty.specs.declared.ty.TyId.{TyId}
-use Rattle.mir_ty.specs.ItemTable.{ItemTable, type_at}
+use Rattle.mir_ty.specs.ItemTable.{type_at}
 use Rattle.mir_ty.specs.Parts.{field_ty, parts_of}
-use Rattle.store_model.specs.Effects as effects
-use Rattle.store_model.specs.Effects.{Site}
 use Rattle.store_model.specs.Places.Place.{Step, ToPart, ToField, Place, whole_local, step_ty}
 use Rattle.store_model.specs.Places.Place as places
 use Rattle.store_model.specs.Places.TypeForms as forms
 use Rattle.typed_tree.specs.declared.node.Use.{Use}
-use Rattle.typed_tree.specs.Nodes.{number_of, nodes_of, nodes_in, nodes_among, nodes_of_fields}
 use Rattle.typed_tree.specs.Tree as tree
 use Rattle.typed_tree.specs.Tree.{Node, Form, Nodes, no_node, a_node, Fields, no_field, a_field}
-use Rattle.src_meaning.specs.Forms.{Around, in_guard, aliases_with}
-use Rattle.src_meaning.specs.Locals.OfBody.{cells, cells_in, all_cells, cells_of_fields, bool_ty}
+use Rattle.src_meaning.specs.Locals.OfBody.{cells, all_cells, cells_of_fields, bool_ty}
 use Rattle.src_meaning.specs.Scopes.{Entry}
-use Rattle.src_meaning.specs.Shape.{Head, head, Bound, Aliases, IsNumber, IsTruth, PatternTests, no_test, a_test, followed_by, kind_of, shape, shape_of, in_fields, in_parts, alternatives_at, extended, place_of_key, site_at}
-use Rattle.well_typed.specs.Claim.{Claim, Holds, fact, some, ◌&◌}
+use Rattle.src_meaning.specs.Shape.{head, Bound, IsNumber, IsTruth, PatternTests, no_test, a_test, followed_by, kind_of, shape, shape_of, in_fields, in_parts, alternatives_at, extended}
+use Rattle.well_typed.specs.Claim.{Holds}
 use Rattle.well_typed.specs.Patterns as patterns
 use Rattle.well_typed.specs.Patterns.{Matched, binding_name, binding_entry, entries_of}
-use Rattle.well_typed.specs.Places.{InScope, Context, with_entries, entry_with}
-use Rattle.well_typed.specs.Places as scopes
 use Rattle.well_typed.specs.Types as types
 use Rattle.cfg_build.specs.Build as build
 use Rattle.cfg_build.specs.Build.{Frame}
-use Rattle.cfg_build.proofs.KnownTypes.{never_known, int_known, bool_known, adt_known, tuple_known, array_known, unit_known}
+use Rattle.cfg_build.proofs.KnownTypes.{never_known, int_known, bool_known, adt_known, tuple_known, array_known}
 use Rattle.cfg_build.proofs.Lines as lines
 use Rattle.cfg_build.proofs.TypedLines as typed_lines
 use Rattle.cfg_build.proofs.TypedPlaces as typed_places

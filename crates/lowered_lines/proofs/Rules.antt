@@ -1,15 +1,10 @@
 -- The rules of the lowering, for nodes that are well typed: one lemma a rule.
-use Rattle.std.proofs.Common.{◌≡◌, ◌⊎◌, inl, inr, ℕ, zero, suc, ◌==◌, ◌&&◌, ◌||◌, not, nat_lt, Bool, true, false, List, [], ◌∷◌, ◌++◌, length, map, Option, Some, None, slice_get, if◌then◌else◌, refl, sym, ap, subst, ◌∙◌}
-use Rattle.std.proofs.lemmas.Option.{none-some, same_Some}
-use Rattle.cfg_graph.specs.declared.graph.Kind.{Kind}
-use Rattle.cfg_graph.specs.declared.place.Operand as graph_operand
+use Rattle.std.proofs.Common.{◌≡◌, ◌⊎◌, inl, inr, ℕ, zero, suc, ◌&&◌, not, Bool, true, false, List, [], ◌∷◌, ◌++◌, length, Some, refl, sym, ap, subst, ◌∙◌}
 use Rattle.cfg_graph.specs.declared.statement.Stmt.{Stmt}
-use Rattle.cfg_graph.specs.declared.terminator.Term.{Term}
-use Rattle.mir_base.specs.declared.trace.Why.{Why}
 use Rattle.mir_ty.specs.declared.ty.Ty.{Ty}
 use Rattle.mir_ty.specs.declared.ty.TyId.{TyId}
 use Rattle.mir_ty.specs.Facts.{needs_drop, drop_rule, in_rounds}
-use Rattle.mir_ty.specs.ItemTable.{ItemTable, type_at}
+use Rattle.mir_ty.specs.ItemTable.{type_at}
 use Rattle.store_model.specs.Effects as effects
 use Rattle.store_model.specs.Effects.{Site, Action}
 use Rattle.store_model.specs.Places.Place.{Place, whole_local}
@@ -20,11 +15,10 @@ use Rattle.src_meaning.specs.Evaluation.{to_own_key}
 use Rattle.src_meaning.specs.Forms as source
 use Rattle.src_meaning.specs.Forms.{Destination, Into, Coerced, Around, in_loop, in_guard, entry_of, bound_entry, site_in, site_of_key, moved}
 use Rattle.src_meaning.specs.Locals.OfBody.{cells, reached_cells, is_place_form}
-use Rattle.src_meaning.specs.Scopes.{Entry, Exit, Breaks, Continues, Returns, Scope, Scopes, with_scope, innermost, around_innermost, nearest_temporary, with_entry, with_pending, without_pending, becomes_entry}
-use Rattle.src_meaning.specs.Shape.{Head, head, Shape, Bound, shape, Aliases, site_at, operand_at, operand_of_bound, moves, copied_or_moved}
-use Rattle.well_typed.specs.Places.{InScope, LoopAround, Context, loop_with, ty_of, form_of}
+use Rattle.src_meaning.specs.Scopes.{Entry, Scope, Scopes, innermost, nearest_temporary, with_entry, with_pending, becomes_entry}
+use Rattle.src_meaning.specs.Shape.{Head, Shape, Bound, shape, Aliases, site_at, operand_at, operand_of_bound, moves, copied_or_moved}
+use Rattle.well_typed.specs.Places.{LoopAround, Context, ty_of, form_of}
 use Rattle.well_typed.specs.Types as types
-use Rattle.cfg_code.specs.Spots.{Ways}
 use Rattle.cfg_build.specs.Build as build
 use Rattle.cfg_build.specs.Build.{Frame, Rest, Building, Lowers, closed, ending, joined, jumps_if, act, act_by, is_last, done_by, change, from_changed, back_in, then_lower, branches, looped, leave, in_scope, taken, if_true, tests}
 use Rattle.cfg_build.specs.Lower as lower
@@ -32,7 +26,6 @@ use Rattle.cfg_build.specs.Lower.{Evaluates, Reaches, MakesInto, LowersArm, Node
 use Rattle.cfg_build.proofs.KnownTypes.{never_known, unit_known, bool_known}
 use Rattle.cfg_build.proofs.Lines as lines
 use Rattle.cfg_build.proofs.TypedLines as typed_lines
-use Rattle.cfg_build.proofs.TypedPlaces as typed_places
 use Rattle.lowered_lines.proofs.Base as base
 use Rattle.lowered_lines.proofs.Base.{Ground, untrue, and_first, and_second, and_false, false_and, both_false}
 

@@ -1,49 +1,42 @@
 -- The law: no line of a lowered body has a fault, where its program is well typed and its locals have none.
-use Rattle.std.proofs.Common.{◌≡◌, ◌⊎◌, inl, inr, ℕ, zero, suc, ◌+◌, ◌<◌, ◌==◌, ◌&&◌, ◌||◌, not, nat_lt, Bool, true, false, List, [], ◌∷◌, ◌++◌, length, map, Option, Some, None, slice_get, cond, if◌then◌else◌, refl, sym, ap, subst, ◌∙◌, arith}
+use Rattle.std.proofs.Common.{◌≡◌, inl, inr, ℕ, zero, suc, ◌==◌, ◌&&◌, ◌||◌, not, nat_lt, Bool, true, false, List, [], ◌∷◌, ◌++◌, length, map, Option, Some, None, slice_get, cond, refl, sym, ap, subst, ◌∙◌, arith}
 use Rattle.std.proofs.lemmas.Bool.{lt-ltb, ltb-true, eqb-true}
-use Rattle.std.proofs.lemmas.List.Elements.{filter_map-append, All-contains}
-use Rattle.std.proofs.lemmas.Option.{none-some, same_Some, slice_get-map}
-use Rattle.std.specs.Prelude.{option_map, unwrap_or, option_and_then, All, Contains}
-use Rattle.std.specs.List.{find, flat_map, filter_map, list_all, position_or_len}
+use Rattle.std.proofs.lemmas.Option.{none-some, same_Some}
+use Rattle.std.specs.Prelude.{unwrap_or, Contains}
+use Rattle.std.specs.List.{flat_map, list_all, position_or_len}
 use Rattle.std.proofs.lemmas.List.Folds.{find_at}
 use Rattle.std.specs.Option.{option_map_or}
 use Rattle.cfg_graph.specs.declared.graph.Block.{Block}
-use Rattle.cfg_graph.specs.declared.graph.Body.{Body}
 use Rattle.cfg_graph.specs.declared.graph.Kind.{Kind}
 use Rattle.cfg_graph.specs.declared.statement.Stmt.{Stmt}
 use Rattle.cfg_graph.specs.declared.terminator.Term.{Term}
 use Rattle.cfg_graph.specs.Edges.{targets, lowers, is_turn}
 use Rattle.cfg_graph.specs.WellFormed.Broken.{broken}
-use Rattle.cfg_graph.specs.WellFormed.Cleanup.{edges_lower, keeps_to_cleanup}
-use Rattle.cfg_graph.specs.WellFormed.LineFaults.{stmt_faults, term_faults, local_faults, term_numbers_exist, blocks_exist, locals_exist}
-use Rattle.cfg_graph.specs.WellFormed.Typing.{term_is_typed}
-use Rattle.cfg_graph.specs.Uses.{places_of_term}
+use Rattle.cfg_graph.specs.WellFormed.Cleanup.{edges_lower}
+use Rattle.cfg_graph.specs.WellFormed.LineFaults.{term_numbers_exist}
 use Rattle.mir_ty.specs.declared.def.ClosureDef.{ClosureDef}
 use Rattle.mir_ty.specs.declared.def.Sig.{Sig}
 use Rattle.mir_ty.specs.declared.ty.Ty.{Ty}
 use Rattle.mir_ty.specs.declared.ty.TyId.{TyId}
-use Rattle.mir_ty.specs.Facts.{needs_drop}
-use Rattle.mir_ty.specs.ItemTable.{ItemTable, type_at}
-use Rattle.store_model.specs.Places.Place.{Place, whole_local, is_enum}
-use Rattle.typed_tree.specs.Nodes.{number_of, numbers_of, nodes_of, nodes_in, param_nodes, body_nodes}
+use Rattle.mir_ty.specs.ItemTable.{type_at}
+use Rattle.store_model.specs.Places.Place.{whole_local, is_enum}
+use Rattle.typed_tree.specs.Nodes.{number_of, nodes_of, param_nodes, body_nodes}
 use Rattle.typed_tree.specs.Tree as tree
 use Rattle.typed_tree.specs.Tree.{Node, Form, ParamTree, BodyTree, ProgramTree}
 use Rattle.src_meaning.specs.Forms.{Around, Into}
-use Rattle.src_meaning.specs.Locals.OfBody as locals_of
 use Rattle.src_meaning.specs.Locals.OfBody.{cells, cells_in, locals, local_of, local_tys, param_key, answer_key}
-use Rattle.src_meaning.specs.Scopes.{Entry, Scope, Scopes, innermost, with_entry}
-use Rattle.src_meaning.specs.Shape.{Bound, shape}
-use Rattle.well_typed.specs.Claim.{Claim, Holds, fact, some, nothing, ◌&◌}
+use Rattle.src_meaning.specs.Scopes.{Entry, innermost, with_entry}
+use Rattle.src_meaning.specs.Shape.{shape}
+use Rattle.well_typed.specs.Claim.{Claim, Holds, fact, nothing, ◌&◌}
 use Rattle.well_typed.specs.Names.{do_rise}
 use Rattle.well_typed.specs.Nodes as typing
 use Rattle.well_typed.specs.Patterns as patterns
 use Rattle.well_typed.specs.Patterns.{Matched, entries_of, binding_entry}
-use Rattle.well_typed.specs.Places.{InScope, LoopAround, Context, Wanted, entry_with, loop_with, form_of, ty_of}
+use Rattle.well_typed.specs.Places.{InScope, Context, Wanted, entry_with, form_of}
 use Rattle.well_typed.specs.Program.{WellTyped, is_body, is_inside, closure_with}
 use Rattle.well_typed.specs.Types as types
 use Rattle.cfg_code.specs.Spots.{body_ways}
-use Rattle.cfg_build.specs.Build as build
-use Rattle.cfg_build.specs.Build.{Frame, Rest, Made, Building, Lowers, ending, reserved}
+use Rattle.cfg_build.specs.Build.{Frame, Rest, Made, ending, reserved}
 use Rattle.cfg_build.specs.Laws.{NamesItsLoops}
 use Rattle.cfg_build.specs.Lower as lower
 use Rattle.cfg_build.specs.Lower.{body_of, frame}

@@ -1,0 +1,32 @@
+-- What the paths of a lowered body meet, and where the free runs of its source are refused.
+use Rattle.std.specs.Prelude.{◌≡◌, ℕ, Bool, List, Option, Some, None}
+use Rattle.mir_ty.specs.ItemTable.{ItemTable}
+use Rattle.store_model.specs.Effects.{Site}
+use Rattle.cfg_graph.specs.declared.graph.Body.{Body}
+use Rattle.cfg_graph.specs.Moves.BadUses.{BadUse}
+use Rattle.bad_uses.specs.Reaches.{MeetsNone}
+use Rattle.free_walks.specs.Meets.{site_of, RunsReach}
+use Rattle.typed_tree.specs.Tree.{BodyTree}
+use Rattle.src_meaning.specs.Programs.{reached_by}
+use Rattle.cfg_build.specs.Laws.{NamesItsLoops}
+use Rattle.cfg_build.specs.Lower.{body_of, node_of}
+
+-- A body of a graph beside the body of the source that it is lowered from. No value of type `!` is ever made, so no run
+-- comes behind a copy or a store of one, while a path does: a path reaches a use before the first of these.
+pub record MeetsItsRefusals (items : ItemTable) (tree : BodyTree) (body : Body) : Type 0 where
+  -- with the choices of a path that reaches a bad use the free run is refused, at the use's place and node
+  pub refused :
+      (path : List ℕ) (given : List Bool) (bad : BadUse) → RunsReach items body path given bad →
+      reached_by items tree given ≡ Some (site_of (node_of items tree) bad.action)
+  -- with the choices by which a free run is refused a path reaches a bad use, at the same place and node
+  pub reached :
+      (given : List Bool) (site : Site) → reached_by items tree given ≡ Some site →
+      (path : List ℕ) × (bad : BadUse) × RunsReach items body path given bad
+      × (site ≡ site_of (node_of items tree) bad.action)
+  -- where no path meets a bad use, no free run is refused
+  pub accepted : MeetsNone items body → (given : List Bool) → reached_by items tree given ≡ None
+
+-- what the law of lowered paths says
+abbrev pub LoweredPathsMeetItsRefusals : Type 0
+LoweredPathsMeetItsRefusals =
+    (items : ItemTable) (tree : BodyTree) → NamesItsLoops tree → MeetsItsRefusals items tree (body_of items tree)
