@@ -280,7 +280,7 @@ module _ (items : ItemTable) (distinct : AreDistinct items.types) where
       no_texts : (text ∷ texts) ≡ [] → ⊥
       no_texts e = none-some text (sym (ap (λ ts. slice_get ts 0) e))
   heads_once from to last (text ∷ texts) plain (head ∷ heads) (body ∷ bodies) h g = (
-    head_once from text plain.0 (types_of body) body.answer head.params head.result h.0.0 g.0,
+    head_once from text plain.0 (types_of body) body.answer head.params head.result h.0.0 g.0.0,
     heads_once (behind text from) to last texts plain.1 heads bodies h.1 g.1,
   )
 
@@ -459,13 +459,3 @@ pub have_heads : (parts : Parts Pos) (end : Pos) (items : ItemTable) (p : Progra
 have_heads parts end items p is_collected is_checked shape tell =
     let h = headed parts end items p is_collected is_checked shape tell in
     (h.heads, closures_headed p h (bodies_in_order parts items p is_checked))
-
-pub programs_typed : (parts : Parts Pos) (end : Pos) (items : ItemTable) (p : ProgramTree) → rules.collected parts end ≡ Ok
-    items → AreCollected parts items → checked parts items ≡ Ok p → TellBodies (items_of parts) → Holds (are_items p.items)
-    → WellTyped p
-programs_typed parts end items p is_collected c is_checked tell are =
-    let h = have_heads parts end items p is_collected is_checked c.shaped tell in (
-      are,
-      heads_typed p.items 0 p.items.bodies p.bodies (λ k head is. ap (slice_get p.items.bodies) (omega arith) ∙ is)
-          ((bodies_typed parts items p c is_checked).2 h.1) (bodies_in_order parts items p is_checked) h.0,
-    )
