@@ -1,5 +1,5 @@
 -- What is proved of typed programs as a whole.
-use Rattle.std.specs.Prelude.{◌≡◌, List, [], ◌∷◌, length, map, None, Ok, Contains}
+use Rattle.std.specs.Prelude.{◌≡◌, List, [], ◌∷◌, length, map, None, Ok}
 use Rattle.mir_base.specs.declared.place_in_text.Pos.{Pos}
 use Rattle.mir_ty.specs.declared.def.Sig.{Sig}
 use Rattle.mir_ty.specs.ItemTable.{ItemTable}
@@ -11,7 +11,7 @@ use Rattle.well_typed.specs.Program.{WellTyped, are_bodies}
 use Rattle.typing_rules.specs.Collected.{collected}
 use Rattle.typing_rules.specs.Items.{items_of, item_syns, all_kinds}
 use Rattle.typing_rules.specs.Program.{checked}
-use Rattle.typing_rules.specs.Promises.{AreReady, AreClosures, IsBodyIn, Extends, KnowsItems}
+use Rattle.typing_rules.specs.Promises.{AreReady, AreClosures, KnowsItems}
 use Rattle.typing_soundness.specs.Heads.{TellBodies}
 use Rattle.typing_soundness.specs.Shapes.{item_shaped}
 use Rattle.typing_soundness.specs.Walks.{counted}

@@ -1,5 +1,5 @@
 -- What is so of an accepted text.
-use Rattle.std.proofs.Common.{◌≡◌, slice_get, ap, ◌∙◌, arith}
+use Rattle.std.proofs.Common.{slice_get, ap, ◌∙◌, arith}
 use Rattle.mir_ty.specs.ItemTable.{ItemTable}
 use Rattle.mir_base.specs.declared.place_in_text.Pos.{Pos}
 use Rattle.src_tree.specs.Layout.{Parts}

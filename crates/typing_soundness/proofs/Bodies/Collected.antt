@@ -1,10 +1,10 @@
 -- The heads that are collected are those of the bodies of the text.
-use Rattle.std.proofs.Common.{◌≡◌, ◌==◌, ℕ, suc, ◌+◌, Bool, true, false, ◌||◌, not, List, [], ◌∷◌, ◌++◌, map, length, slice_get, Option, Some, None, Result, Ok, Err, IsTrue, refl, ap, sym, subst, ◌∙◌, arith}
+use Rattle.std.proofs.Common.{◌≡◌, ◌==◌, ℕ, suc, ◌+◌, Bool, true, false, ◌||◌, not, List, [], ◌∷◌, ◌++◌, length, slice_get, Option, Some, None, Result, Ok, Err, IsTrue, refl, ap, sym, subst, ◌∙◌, arith}
 use Rattle.std.specs.Prelude.{option_and_then, codes, is_some, if◌then◌else◌}
 use Rattle.typing_rules.specs.Promises.{is_plain_name}
 use Rattle.std.specs.List.{list_any, position as position_of, filter_map}
 use Rattle.std.proofs.lemmas.Bool.{false≢true}
-use Rattle.std.proofs.lemmas.List.{append_assoc, append-nil, map-append}
+use Rattle.std.proofs.lemmas.List.{append_assoc, append-nil}
 use Rattle.mir_base.specs.declared.place_in_text.Pos.{Pos}
 use Rattle.mir_base.specs.declared.rule.Rule.{Rule}
 use Rattle.mir_ty.specs.AreItems.{AreDistinct}
@@ -207,8 +207,11 @@ collects_both {f} {g} {is} {js} {a} {b} {c} {s} {t} {u} p q = record {
   new = p.new ++ q.new;
   heads = q.heads ∙ (ap (λ hs. hs ++ q.new) p.heads ∙ append_assoc s.items.bodies p.new q.new);
   made = λ rest. made_both (IsHeadOf u.items) a b c (f (g rest)) (g rest) rest p.new q.new (made_map (IsHeadOf t.items)
-      (IsHeadOf u.items) (λ closure text head h. (head_later t.items u.items q.types closure text head.params head.result
-      h.0, h.1)) a b (f (g rest)) (g rest) p.new (p.made (g rest))) (q.made rest);
+      (IsHeadOf u.items) (λ closure text head h. (
+        head_later t.items u.items q.types closure text head.params head.result
+            h.0,
+        h.1,
+      )) a b (f (g rest)) (g rest) p.new (p.made (g rest))) (q.made rest);
 }
 
 -- ---- heads
@@ -331,8 +334,10 @@ module _ (around : types.Around) where
     closures = e.stays.closures;
     new = sig ∷ [];
     heads = ap (λ hs. hs ++ sig ∷ []) e.stays.heads;
-    made = λ rest. ((head_later t.items (with_body t.items sig) (λ k ty h. h) n text sig.params sig.result is.0, is.1),
-      (refl, refl));
+    made = λ rest. (
+      (head_later t.items (with_body t.items sig) (λ k ty h. h) n text sig.params sig.result is.0, is.1),
+      (refl, refl),
+    );
   }
 
   sig_collected : (at : Pos) (name : Word) (params : Syns) (answer : MaybeSyn) (s : State) → Walked (λ sig t. SameWalk s
@@ -405,16 +410,19 @@ body_collected k owner c (syn at (MoveOf captures params answer body)) s =
           around = all_names k owner;
           params = params;
           answer = answer;
-        })) c.closures s u (record { name = name; params = tys; result = ty }) (onward h.0 g.0) ((subst (λ xs. AreHeadTypes
-        u.items c.closures (Closure (record {
-          around = all_names k owner;
-          params = params;
-          answer = answer;
-        })) xs ty) (sym h.3) (
-          g.0.stays.types h.1.0 (Ty.Closure c.closures) h.4,
-          closure_params_later t.items u.items g.0.stays.types (all_names k owner) params h.2 h.5,
-          g.1,
-        )), marked c.outer (c.in_outer + 1)))
+        })) c.closures s u (record { name = name; params = tys; result = ty }) (onward h.0 g.0) (
+          (subst (λ xs. AreHeadTypes
+              u.items c.closures (Closure (record {
+                around = all_names k owner;
+                params = params;
+                answer = answer;
+              })) xs ty) (sym h.3) (
+                g.0.stays.types h.1.0 (Ty.Closure c.closures) h.4,
+                closure_params_later t.items u.items g.0.stays.types (all_names k owner) params h.2 h.5,
+                g.1,
+              )),
+          marked c.outer (c.in_outer + 1),
+        ))
 body_collected k owner c (syn at _) s = record { so = tt }
 
 pub bodies_collected : (k : rules.Known) (owner : Option Word) (c : rules.Count) (bs : List Syn) (s : State) → Walked (λ d t.
@@ -667,8 +675,11 @@ pub record AreHeads (parts : Parts Pos) (items : ItemTable) : Type 0 where
 pub heads_later : (old new : ItemTable) → HaveTypes old new → (from to : ℕ) (texts rest : List BodySyn) (heads : List Sig) →
     AreMade (IsHeadOf old) from to texts rest heads → AreMade (IsHeadOf new) from to texts rest heads
 heads_later old new e from to texts rest heads =
-    made_map (IsHeadOf old) (IsHeadOf new) (λ closure text head h. (head_later old new e closure text head.params
-    head.result h.0, h.1)) from to texts rest heads
+    made_map (IsHeadOf old) (IsHeadOf new) (λ closure text head h. (
+      head_later old new e closure text head.params
+          head.result h.0,
+      h.1,
+    )) from to texts rest heads
 
 pub collecting_collects : (is : List ItemSyn) (end : Pos) → Walked (λ _ t. (u : State) × (n : ℕ) × Collects (listed_text
     (rules.known_of is) is) (all_adts is) 0 n (rules.starting_with rules.no_items) u × SameHeads u t)

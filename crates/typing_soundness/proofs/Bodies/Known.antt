@@ -1,8 +1,7 @@
 -- What the table of kinds and the names of items say of the items of a text: structs have a variant, what is written
 -- without parts has none, and the first parameter of a function is no closure.
-use Rattle.std.proofs.Common.{◌≡◌, ℕ, zero, suc, ◌+◌, Bool, true, false, ◌&&◌, ◌||◌, ◌==◌, not, List, [], ◌∷◌, ◌++◌, map, length, slice_get, Option, Some, None, Result, Ok, Err, IsTrue, refl, ap, sym, subst, ◌∙◌, arith}
-use Rattle.std.specs.Prelude.{option_and_then, codes, is_some}
-use Rattle.std.specs.List.{list_any, filter_map}
+use Rattle.std.proofs.Common.{◌≡◌, ℕ, zero, suc, Bool, true, false, List, [], ◌∷◌, ◌++◌, length, slice_get, Option, Some, None, IsTrue, refl, ap, sym, subst, ◌∙◌, arith}
+use Rattle.std.specs.Prelude.{option_and_then}
 use Rattle.std.proofs.lemmas.Bool.{false≢true}
 use Rattle.std.proofs.lemmas.Option.{same_Some, none-some}
 use Rattle.mir_base.specs.declared.place_in_text.Pos.{Pos}
@@ -15,7 +14,6 @@ use Rattle.mir_ty.specs.ItemTable.{ItemTable, type_at}
 use Rattle.src_tree.specs.Layout.{Parts}
 use Rattle.well_typed.specs.Claim.{Holds, each}
 use Rattle.well_typed.specs.Types.{variant_at, closure_in}
-use Rattle.typing_rules.specs.Collected as collected
 use Rattle.typing_rules.specs.Items.{ItemSyn, items_of, item_syns, all_kinds}
 use Rattle.typing_rules.specs.Patterns.{is_unit_kind}
 use Rattle.typing_rules.specs.Promises.{AreReady, KnowsItems, is_plain_name}
@@ -25,7 +23,7 @@ use Rattle.src_ast.specs.Syntax.{Kind, Unit_, Tuple_, Fields_, Word, Receiver, B
 use Rattle.typing_soundness.specs.Closures.{BodySyn, Function, Closure, IsReceiver, MeansParam, MeanParams, AreMade, behind}
 use Rattle.typing_soundness.specs.Types.{Means, MeansForm, NamesTy, IsTupleOf}
 use Rattle.typing_soundness.proofs.Bodies.Types.{unit_plain, never_plain, scalar_plain}
-use Rattle.typing_soundness.specs.Heads.{IsHeadOf, IsVariantOf, AreVariantsOf, IsAdtOf, AreAdtsOf}
+use Rattle.typing_soundness.specs.Heads.{IsHeadOf, IsVariantOf, AreVariantsOf, AreAdtsOf}
 use Rattle.typing_soundness.specs.Shapes.{has_kind, variant_shaped, item_shaped}
 use Rattle.typing_soundness.proofs.Bodies.Collected.{AreHeads, all_adts, adts_in}
 
