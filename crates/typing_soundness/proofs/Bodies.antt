@@ -1,10 +1,12 @@
 -- Bodies that are whole.
 pub mod Accepted
+pub mod Accepting
 pub mod Closures
 pub mod Collected
 pub mod Functions
 pub mod Headed
 pub mod Inner
+pub mod Known
 pub mod Meanings
 pub mod Order
 pub mod Params

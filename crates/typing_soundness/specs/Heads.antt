@@ -1,5 +1,5 @@
 -- The heads that are collected for the bodies of a text, before any body is looked at.
-use Rattle.std.specs.Prelude.{◌≡◌, ℕ, true, List, [], ◌∷◌, length, Some}
+use Rattle.std.specs.Prelude.{◌≡◌, ℕ, true, false, List, [], ◌∷◌, length, Some}
 use Rattle.mir_ty.specs.declared.adt.Adt.{Adt}
 use Rattle.mir_ty.specs.declared.adt.Variant.{Variant}
 use Rattle.mir_ty.specs.declared.def.Sig.{Sig}
@@ -8,6 +8,7 @@ use Rattle.mir_ty.specs.declared.ty.TyId.{TyId}
 use Rattle.mir_ty.specs.ItemTable.{ItemTable, type_at}
 use Rattle.typing_rules.specs.Items.{ItemSyn}
 use Rattle.typing_rules.specs.Places.{unit}
+use Rattle.typing_rules.specs.Promises.{is_plain_name}
 use Rattle.typing_rules.specs.Written.{Around}
 use Rattle.src_ast.specs.Syntax.{Syn, syn, MoveOf, StructItem, EnumItem, VariantDecl, ImplItem, FnItem, ParamOf, Syns, no_syn, a_syn, list_of, MaybeSyn, nothing, just}
 use Rattle.typing_soundness.specs.Closures.{BodySyn, Function, Closure, Tape, HasTypes, functions_text, function_text}
@@ -43,8 +44,14 @@ AreHeadTypes items closure (Closure head) (self ∷ params) answer =
     (type_at items self ≡ Some (Ty.Closure closure)) × MeanClosureParams head.around items head.params
     params × MeansClosureAnswer head.around items head.answer answer
 
+-- the name of a closure has a mark that no name in a text has
+abbrev pub HasName : BodySyn → List ℕ → Type 0
+HasName (Function head) name = Unit {0}
+HasName (Closure head) name = is_plain_name name ≡ false
+
 abbrev pub IsHeadOf : ItemTable → ℕ → BodySyn → Sig → Type 0
-IsHeadOf items closure text head = AreHeadTypes items closure text head.params head.result
+IsHeadOf items closure text head =
+    AreHeadTypes items closure text head.params head.result × HasName text head.name
 
 -- ---- structs and enums
 

@@ -1,7 +1,6 @@
 -- Types that keep all rules, as they are written: a reference is the type of a parameter alone, a tuple has at most 12
 -- parts, an array at most 32 elements, counted by a `usize`.
-use Rattle.std.specs.Prelude.{ℕ, suc, Bool, true, false, ◌&&◌, nat_le, List, [], ◌∷◌, length}
-use Rattle.well_typed.specs.Claim.{Claim, fact, ◌&◌, each}
+use Rattle.std.specs.Prelude.{Bool, true, false, ◌&&◌, nat_le, List, [], ◌∷◌, length}
 use Rattle.typing_rules.specs.Program.{behind_self}
 use Rattle.typing_rules.specs.Written.{is_usize}
 use Rattle.src_ast.specs.Syntax.{Syn, syn, Shape, NamedType, GenericType, DynType, SelfType, ParensType, TupleType, ArrayType, NeverType, RefType, StructItem, EnumItem, FieldDecl, VariantDecl, TraitItem, FnItem, MoveOf, ParamOf, SelfParam, Syns, no_syn, a_syn, list_of, MaybeSyn, nothing, just}

@@ -1,5 +1,5 @@
 -- What is proved of typed programs as a whole.
-use Rattle.std.specs.Prelude.{◌≡◌, List, [], ◌∷◌, length, map, None, Ok, Contains}
+use Rattle.std.specs.Prelude.{◌≡◌, List, [], ◌∷◌, length, map, None, Ok}
 use Rattle.mir_base.specs.declared.place_in_text.Pos.{Pos}
 use Rattle.mir_ty.specs.declared.def.Sig.{Sig}
 use Rattle.mir_ty.specs.ItemTable.{ItemTable}
@@ -7,11 +7,11 @@ use Rattle.src_tree.specs.Layout.{Parts}
 use Rattle.typed_tree.specs.Tree.{BodyTree, ProgramTree}
 use Rattle.well_typed.specs.Claim.{Holds, each}
 use Rattle.well_typed.specs.Items.{are_items}
-use Rattle.well_typed.specs.Program.{WellTyped}
+use Rattle.well_typed.specs.Program.{WellTyped, are_bodies}
 use Rattle.typing_rules.specs.Collected.{collected}
 use Rattle.typing_rules.specs.Items.{items_of, item_syns, all_kinds}
 use Rattle.typing_rules.specs.Program.{checked}
-use Rattle.typing_rules.specs.Promises.{AreReady, AreClosures, IsBodyIn, Extends, KnowsItems}
+use Rattle.typing_rules.specs.Promises.{AreReady, AreClosures, KnowsItems}
 use Rattle.typing_soundness.specs.Heads.{TellBodies}
 use Rattle.typing_soundness.specs.Shapes.{item_shaped}
 use Rattle.typing_soundness.specs.Walks.{counted}
@@ -23,11 +23,22 @@ pub record AreCollected (parts : Parts Pos) (items : ItemTable) : Type 0 where
   pub ready : AreReady items
   pub known : KnowsItems (all_kinds (item_syns (items_of parts))) None items
 
--- Each body of a typed program whose head has its types is well typed, where the closures have their heads.
-abbrev pub BodiesAreTyped : Type 0
-BodiesAreTyped = (parts : Parts Pos) (items : ItemTable) (p : ProgramTree) → AreCollected parts items → checked parts
-    items ≡ Ok p → Extends items p.items × AreReady p.items × (AreClosures p.items → (body : BodyTree) → Contains
-    p.bodies body → IsBodyIn p.items body)
+-- a syntax tree of a text: it is shaped as those are, and each item is listed with all its bodies
+pub record IsOfText (parts : Parts Pos) : Type 0 where
+  pub shaped : Holds (each item_shaped (item_syns (items_of parts)))
+  pub listed : TellBodies (items_of parts)
+
+-- a text that is accepted: its items, and its typed program
+pub record IsAccepted (parts : Parts Pos) (items : ItemTable) (p : ProgramTree) : Type 0 where
+  pub text : IsOfText parts
+  pub end : Pos
+  pub collected : collected parts end ≡ Ok items
+  pub checked : checked parts items ≡ Ok p
+
+-- The items of an accepted text are collected so.
+abbrev pub ItemsAreReady : Type 0
+ItemsAreReady = (parts : Parts Pos) (items : ItemTable) (p : ProgramTree) → IsAccepted parts items p → AreCollected parts
+    items
 
 -- Bodies stand in the order of their numbers.
 abbrev pub AreInTextOrder : Type 0
@@ -41,14 +52,17 @@ HaveHeads (head ∷ heads) (body ∷ bodies) =
     ((head.params ≡ map (λ p. p.ty) body.params) × (head.result ≡ body.answer)) × HaveHeads heads bodies
 HaveHeads _ _ = ⊥
 
--- Of an accepted text whose items are listed with all their bodies, each body has its head, and each closure its body.
+-- Each body of an accepted text has its head, and each closure its body.
 abbrev pub BodiesHaveHeads : Type 0
-BodiesHaveHeads = (parts : Parts Pos) (end : Pos) (items : ItemTable) (p : ProgramTree) → collected parts end ≡ Ok items →
-    checked parts items ≡ Ok p → Holds (each item_shaped (item_syns (items_of parts))) → TellBodies (items_of parts) →
-    HaveHeads p.items.bodies p.bodies × AreClosures p.items
+BodiesHaveHeads = (parts : Parts Pos) (items : ItemTable) (p : ProgramTree) → IsAccepted parts items p → HaveHeads
+    p.items.bodies p.bodies × AreClosures p.items
 
--- So a typed program is well typed where its items are.
+-- Each body of an accepted text is well typed.
+abbrev pub BodiesAreTyped : Type 0
+BodiesAreTyped = (parts : Parts Pos) (items : ItemTable) (p : ProgramTree) → IsAccepted parts items p → AreReady
+    p.items × Holds (are_bodies p.items 0 p.items.bodies p.bodies)
+
+-- So its program is well typed where its items are.
 abbrev pub ProgramsAreTyped : Type 0
-ProgramsAreTyped = (parts : Parts Pos) (end : Pos) (items : ItemTable) (p : ProgramTree) → collected parts end ≡ Ok items →
-    AreCollected parts items → checked parts items ≡ Ok p → TellBodies (items_of parts) → Holds (are_items p.items) →
-    WellTyped p
+ProgramsAreTyped = (parts : Parts Pos) (items : ItemTable) (p : ProgramTree) → IsAccepted parts items p → Holds (are_items
+    p.items) → WellTyped p

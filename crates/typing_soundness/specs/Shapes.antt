@@ -1,9 +1,10 @@
 -- What the syntax tree of a text has beyond its form: the names in its paths are without the mark of closures' names, the
--- body of a closure is a block, `self` is the first of parameters, and no parameter of a closure.
+-- body of a closure is a block, `self` is the first of parameters, and no parameter of a closure; a struct or a variant
+-- that is written without parts has none.
 use Rattle.std.specs.Prelude.{Bool, true, false, Option, Some, None}
 use Rattle.well_typed.specs.Claim.{Claim, fact, ◌&◌, each}
 use Rattle.typing_rules.specs.Promises.{is_plain_name}
-use Rattle.src_ast.specs.Syntax.{Word, Syn, syn, Shape, Path, Minus, Bang, Star, Ampersand, Calculate, Compare, Both, Either, Store, CallOf, MethodOf, FieldOf, PartOf, ElementOf, StructOf, FieldInit, Parens, TupleOf, ArrayOf, Braces, IfElse, IfLetElse, MatchOn, ArmOf, LoopOf, WhileOf, WhileLetOf, BreakOf, ReturnOf, MoveOf, SelfParam, LetOf, Semi, FnItem, TraitItem, ImplItem, list_of, Syns, no_syn, a_syn, MaybeSyn, nothing, just}
+use Rattle.src_ast.specs.Syntax.{Kind, Unit_, Word, Syn, syn, Shape, Path, Minus, Bang, Star, Ampersand, Calculate, Compare, Both, Either, Store, CallOf, MethodOf, FieldOf, PartOf, ElementOf, StructOf, FieldInit, Parens, TupleOf, ArrayOf, Braces, IfElse, IfLetElse, MatchOn, ArmOf, LoopOf, WhileOf, WhileLetOf, BreakOf, ReturnOf, MoveOf, SelfParam, LetOf, Semi, FnItem, StructItem, EnumItem, VariantDecl, TraitItem, ImplItem, list_of, Syns, no_syn, a_syn, MaybeSyn, nothing, just}
 
 abbrev pub is_plain : Option Word → Bool
 is_plain None = true
@@ -82,7 +83,20 @@ abbrev pub function_shaped : Syn → Claim
 function_shaped (syn at (FnItem name params answer block)) = fact (self_first params) & body_shaped block
 function_shaped _ = fact true
 
+-- what is written without parts has none
+abbrev pub has_kind : Kind → Syns → Bool
+has_kind Unit_ (a_syn first rest) = false
+has_kind kind fields = true
+
+abbrev pub variant_shaped : Syn → Claim
+variant_shaped (syn at (VariantDecl name kind fields)) = fact (has_kind kind fields)
+variant_shaped _ = fact true
+
 abbrev pub item_shaped : Syn → Claim
+item_shaped (syn at (StructItem derives name kind fields)) =
+    fact (is_plain_name name.1) & fact (has_kind kind fields)
+item_shaped (syn at (EnumItem derives name variants)) =
+    fact (is_plain_name name.1) & each variant_shaped (list_of variants)
 item_shaped (syn at (TraitItem name heads)) = each function_shaped (list_of heads)
 item_shaped (syn at (ImplItem trait_ name methods)) = each function_shaped (list_of methods)
 item_shaped item = function_shaped item

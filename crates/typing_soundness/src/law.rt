@@ -5,6 +5,7 @@ ghost use Rattle.typing_soundness.specs.Program.{
   AreInTextOrder,
   BodiesAreTyped,
   BodiesHaveHeads,
+  ItemsAreReady,
   ProgramsAreTyped,
 };
 ghost use Rattle.typing_soundness.specs.Types.{OneNumber, OneParamNumber};
@@ -44,12 +45,13 @@ pub fn law_of_written_types()
     ensures params { OneParamNumber }
 {}
 
-/// Of a typed program: its bodies stand in the order of their numbers. Over items that are collected as the walk asks,
-/// each body whose head has its types is well typed. Each body of an accepted text has its head, and each closure its
-/// body; so the program is well typed where its items are.
+/// Of a typed program: its bodies stand in the order of their numbers. Of a text that is accepted: its items are ready,
+/// so that each type is there and what it holds may stand alone; each body has its head and each closure its body; each
+/// body is well typed, and the program is where its items are.
 pub fn law_of_programs()
     ensures order { AreInTextOrder }
-    ensures bodies { BodiesAreTyped }
+    ensures items { ItemsAreReady }
     ensures heads { BodiesHaveHeads }
+    ensures bodies { BodiesAreTyped }
     ensures programs { ProgramsAreTyped }
 {}

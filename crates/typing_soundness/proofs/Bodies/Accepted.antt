@@ -1,23 +1,19 @@
 -- The items of an accepted text keep all rules as they are written, and so they are ready.
-use Rattle.std.proofs.Common.{◌≡◌, ℕ, zero, suc, Bool, true, false, ◌&&◌, ◌||◌, ◌==◌, not, nat_le, if◌then◌else◌, List, [], ◌∷◌, ◌++◌, map, length, slice_get, flat_map, Option, Some, None, Result, Ok, Err, IsTrue, Contains, refl, ap, sym, subst, ◌∙◌, arith}
-use Rattle.std.specs.Prelude.{option_and_then, codes, is_some}
+use Rattle.std.proofs.Common.{◌≡◌, ℕ, Bool, true, false, ◌&&◌, not, nat_le, List, [], ◌∷◌, length, slice_get, Option, Some, None, Result, Ok, Err, IsTrue, Contains, refl, sym, subst, arith}
+use Rattle.std.specs.Prelude.{option_and_then, codes}
 use Rattle.std.specs.Str.{bytes_eq}
 use Rattle.std.proofs.lemmas.Bool.{false≢true}
-use Rattle.std.proofs.lemmas.Option.{same_Some, none-some}
-use Rattle.mir_base.specs.declared.int_kind.IntKind.{IntKind}
+use Rattle.std.proofs.lemmas.Option.{none-some}
 use Rattle.mir_base.specs.declared.place_in_text.Pos.{Pos}
 use Rattle.mir_base.specs.declared.rule.Rule.{Rule}
-use Rattle.mir_ty.specs.AreItems.{AreDistinct}
-use Rattle.mir_ty.specs.declared.def.Sig.{Sig}
 use Rattle.mir_ty.specs.declared.ty.Ty.{Ty}
 use Rattle.mir_ty.specs.declared.ty.TyId.{TyId}
 use Rattle.mir_ty.specs.ItemTable.{ItemTable, type_at}
-use Rattle.mir_ty.specs.Parts.{held_by, parts_of, fields_of, variants_of}
+use Rattle.mir_ty.specs.Parts.{held_by, parts_of}
 use Rattle.src_tree.specs.Layout.{Parts}
 use Rattle.typed_tree.specs.Tree.{BodyTree, ProgramTree}
-use Rattle.well_typed.specs.Claim.{Holds, each}
 use Rattle.well_typed.specs.Names.{is_among}
-use Rattle.well_typed.specs.Types.{inside_in, is_reference}
+use Rattle.well_typed.specs.Types.{inside_in}
 use Rattle.typing_rules.specs.Bodies as bodies
 use Rattle.typing_rules.specs.Bodies.{all_rules}
 use Rattle.typing_rules.specs.Check.{Check, State, Broken, in_new_body, within_body}
@@ -25,27 +21,27 @@ use Rattle.typing_rules.specs.Collected as collected
 use Rattle.typing_rules.specs.Items.{ItemSyn, items_of, item_syns, impl_owner}
 use Rattle.typing_rules.specs.Places.{scalars}
 use Rattle.typing_rules.specs.Program as rules
-use Rattle.typing_rules.specs.Promises.{IsAlone, IsKnown, IsReady, AreReady}
-use Rattle.typing_rules.specs.Scope.{Env, adt_named, body_named}
+use Rattle.typing_rules.specs.Promises.{AreReady}
+use Rattle.typing_rules.specs.Scope.{Env, adt_named}
 use Rattle.typing_rules.specs.Written as types
-use Rattle.src_ast.specs.Syntax.{Word, Named, Syn, syn, MoveOf, StructItem, EnumItem, FieldDecl, VariantDecl, TraitItem, ImplItem, FnItem, Syns, list_of, MaybeSyn}
-use Rattle.typing_soundness.specs.Closures.{BodySyn, Function, Closure, Tape, IsBodyOf, AreMade, behind, text_legal, program_text}
+use Rattle.src_ast.specs.Syntax.{Word, Syn, syn, MoveOf, StructItem, EnumItem, FieldDecl, VariantDecl, TraitItem, FnItem, Syns, list_of, MaybeSyn}
+use Rattle.typing_soundness.specs.Closures.{BodySyn, Tape, IsBodyOf, AreMade, behind, text_legal, program_text}
 use Rattle.typing_soundness.specs.Heads.{body_text, bodies_text, TellBodies}
-use Rattle.typing_soundness.specs.Legal.{legal, legal_param, params_legal, answer_legal, head_legal, field_legal, fields_legal, variant_legal, variants_legal, trait_head_legal, trait_heads_legal, body_legal, item_legal}
-use Rattle.typing_soundness.specs.Shapes.{item_shaped}
+use Rattle.typing_soundness.specs.Legal.{legal_param, params_legal, head_legal, field_legal, fields_legal, variants_legal, trait_heads_legal, body_legal, item_legal}
 use Rattle.typing_soundness.specs.Walks.{Walked}
 use Rattle.typing_soundness.proofs.Bodies.Collected.{AreHeads, all_names, listed_text}
 use Rattle.typing_soundness.proofs.Bodies.Headed.{ok_same, no_ok as no_items_ok, heads_of_text, items_listed, words_collected, scalars_distinct}
 use Rattle.typing_soundness.proofs.Bodies.Order.{no_ok, walk_adds}
 use Rattle.typing_soundness.proofs.Bodies.Ready.{All, all_at, ItemKeeps, collecting_ready}
 use Rattle.typing_soundness.proofs.Walking.Lawful.{whatever, and_so, written_legal, written_param_legal, params_are_legal, answer_is_legal}
-use Rattle.typing_soundness.proofs.Walking.Rows.{no_closure, ◌⨾◌}
 use Rattle.typing_soundness.proofs.Walking.Steps.{walk, walk_map, walk_obeyed, walk_ends}
 
 -- ---- items, by the rules on heads
 
-in_body_so : {A : Type 0} {P : Type 0} (check : Check A) (s : State) → Walked (λ a t. P) (check (record s { next_node = 0;
-  breaks = [] })) → Walked (λ a t. P) (in_new_body check s)
+in_body_so : {A : Type 0} {P : Type 0} (check : Check A) (s : State) → Walked (λ a t. P) (check (record s {
+  next_node = 0;
+  breaks = [];
+})) → Walked (λ a t. P) (in_new_body check s)
 in_body_so {A} {P} check s h = by (check (record s { next_node = 0; breaks = [] })) h
   where
     by : (r : Result (A × State) Broken) → Walked (λ a t. P) r → Walked (λ a t. P) (within_body s r)

@@ -1,9 +1,10 @@
 -- The heads that are collected are those of the bodies of the text.
-use Rattle.std.proofs.Common.{◌≡◌, ℕ, suc, ◌+◌, Bool, true, false, ◌||◌, not, List, [], ◌∷◌, ◌++◌, map, length, slice_get, Option, Some, None, Result, Ok, Err, IsTrue, refl, ap, sym, subst, ◌∙◌, arith}
+use Rattle.std.proofs.Common.{◌≡◌, ◌==◌, ℕ, suc, ◌+◌, Bool, true, false, ◌||◌, not, List, [], ◌∷◌, ◌++◌, length, slice_get, Option, Some, None, Result, Ok, Err, IsTrue, refl, ap, sym, subst, ◌∙◌, arith}
 use Rattle.std.specs.Prelude.{option_and_then, codes, is_some, if◌then◌else◌}
-use Rattle.std.specs.List.{position as position_of, filter_map}
+use Rattle.typing_rules.specs.Promises.{is_plain_name}
+use Rattle.std.specs.List.{list_any, position as position_of, filter_map}
 use Rattle.std.proofs.lemmas.Bool.{false≢true}
-use Rattle.std.proofs.lemmas.List.{append_assoc, append-nil, map-append}
+use Rattle.std.proofs.lemmas.List.{append_assoc, append-nil}
 use Rattle.mir_base.specs.declared.place_in_text.Pos.{Pos}
 use Rattle.mir_base.specs.declared.rule.Rule.{Rule}
 use Rattle.mir_ty.specs.AreItems.{AreDistinct}
@@ -20,7 +21,7 @@ use Rattle.typing_rules.specs.Check.{Check, State, Broken, and_then, obeys, know
 use Rattle.typing_rules.specs.Collected as rules
 use Rattle.typing_rules.specs.Items.{ItemSyn, items_of, item_syns, body_paths, impl_owner, full_name, closure_name}
 use Rattle.typing_rules.specs.Written as types
-use Rattle.src_ast.specs.Syntax.{Word, Named, Receiver, ByValue, ByShared, ByUnique, Syn, syn, Shape, NamedType, GenericType, DynType, SelfType, ParensType, TupleType, ArrayType, NeverType, RefType, MoveOf, StructItem, EnumItem, VariantDecl, TraitItem, ImplItem, FnItem, ParamOf, SelfParam, Syns, no_syn, a_syn, list_of, MaybeSyn, nothing, just}
+use Rattle.src_ast.specs.Syntax.{number_word, Word, Named, Receiver, ByValue, ByShared, ByUnique, Syn, syn, Shape, NamedType, GenericType, DynType, SelfType, ParensType, TupleType, ArrayType, NeverType, RefType, MoveOf, StructItem, EnumItem, VariantDecl, TraitItem, ImplItem, FnItem, ParamOf, SelfParam, Syns, no_syn, a_syn, list_of, MaybeSyn, nothing, just}
 use Rattle.typing_soundness.specs.Closures.{BodySyn, Function, Closure, Head, Tape, IsReceiver, MeansParam, MeanParams, MeansAnswer, HasTypes, AreMade, behind}
 use Rattle.typing_soundness.specs.Heads.{MeansIfAny, MeansClosureParam, MeanClosureParams, MeansClosureAnswer, AreHeadTypes, IsHeadOf, IsVariantOf, AreVariantsOf, IsAdtOf, AreAdtsOf, body_text, bodies_text}
 use Rattle.typing_soundness.specs.Types.{HaveTypes, NamesTy, Means, MeansForm, MeanAll}
@@ -206,8 +207,11 @@ collects_both {f} {g} {is} {js} {a} {b} {c} {s} {t} {u} p q = record {
   new = p.new ++ q.new;
   heads = q.heads ∙ (ap (λ hs. hs ++ q.new) p.heads ∙ append_assoc s.items.bodies p.new q.new);
   made = λ rest. made_both (IsHeadOf u.items) a b c (f (g rest)) (g rest) rest p.new q.new (made_map (IsHeadOf t.items)
-      (IsHeadOf u.items) (λ closure text head h. head_later t.items u.items q.types closure text head.params head.result
-      h) a b (f (g rest)) (g rest) p.new (p.made (g rest))) (q.made rest);
+      (IsHeadOf u.items) (λ closure text head h. (
+        head_later t.items u.items q.types closure text head.params head.result
+            h.0,
+        h.1,
+      )) a b (f (g rest)) (g rest) p.new (p.made (g rest))) (q.made rest);
 }
 
 -- ---- heads
@@ -330,7 +334,10 @@ module _ (around : types.Around) where
     closures = e.stays.closures;
     new = sig ∷ [];
     heads = ap (λ hs. hs ++ sig ∷ []) e.stays.heads;
-    made = λ rest. (head_later t.items (with_body t.items sig) (λ k ty h. h) n text sig.params sig.result is, (refl, refl));
+    made = λ rest. (
+      (head_later t.items (with_body t.items sig) (λ k ty h. h) n text sig.params sig.result is.0, is.1),
+      (refl, refl),
+    );
   }
 
   sig_collected : (at : Pos) (name : Word) (params : Syns) (answer : MaybeSyn) (s : State) → Walked (λ sig t. SameWalk s
@@ -351,12 +358,25 @@ all_names k owner = record {
   traits = k.traits;
 }
 
+either_so : (a b : Bool) → b ≡ true → (a || b) ≡ true
+either_so true b h = refl
+either_so false b h = h
+
+-- the name of a closure has the mark
+marked_behind : (n : ℕ) (ws : Word) → list_any (λ byte. byte == 35) (ws ++ codes "::closure#" ++ number_word n) ≡ true
+marked_behind n [] = refl
+marked_behind n (w ∷ ws) =
+    either_so (w == 35) (list_any (λ byte. byte == 35) (ws ++ codes "::closure#" ++ number_word n)) (marked_behind n ws)
+
+marked : (outer : Word) (n : ℕ) → is_plain_name (closure_name outer n) ≡ false
+marked outer n = ap not (marked_behind n outer)
+
 pub body_collected : (k : rules.Known) (owner : Option Word) (c : rules.Count) (b : Syn) (s : State) → Walked (λ d t. Collects
     (body_text (all_names k owner) b) [] c.closures d.closures s t) (rules.body_sig k owner c b s)
 body_collected k owner c (syn at (FnItem name params answer block)) s =
     walk (sig_collected (all_names k owner) at (full_name owner name.1) params answer s) λ sig t h. walk_ends (with_head
     (all_names k owner) (Function (record { around = all_names k owner; params = params; answer = answer })) c.closures s
-    t sig h.0 h.1)
+    t sig h.0 (h.1, tt))
 body_collected k owner c (syn at (MoveOf captures params answer body)) s =
     walk closure_collected λ _ t h. walk_ends (subst (λ n. Collects (body_text (all_names k owner) (syn at (MoveOf captures
     params answer body))) [] c.closures n s t) (omega arith) h)
@@ -390,16 +410,19 @@ body_collected k owner c (syn at (MoveOf captures params answer body)) s =
           around = all_names k owner;
           params = params;
           answer = answer;
-        })) c.closures s u (record { name = name; params = tys; result = ty }) (onward h.0 g.0) (subst (λ xs. AreHeadTypes
-        u.items c.closures (Closure (record {
-          around = all_names k owner;
-          params = params;
-          answer = answer;
-        })) xs ty) (sym h.3) (
-          g.0.stays.types h.1.0 (Ty.Closure c.closures) h.4,
-          closure_params_later t.items u.items g.0.stays.types (all_names k owner) params h.2 h.5,
-          g.1,
-        )))
+        })) c.closures s u (record { name = name; params = tys; result = ty }) (onward h.0 g.0) (
+          (subst (λ xs. AreHeadTypes
+              u.items c.closures (Closure (record {
+                around = all_names k owner;
+                params = params;
+                answer = answer;
+              })) xs ty) (sym h.3) (
+                g.0.stays.types h.1.0 (Ty.Closure c.closures) h.4,
+                closure_params_later t.items u.items g.0.stays.types (all_names k owner) params h.2 h.5,
+                g.1,
+              )),
+          marked c.outer (c.in_outer + 1),
+        ))
 body_collected k owner c (syn at _) s = record { so = tt }
 
 pub bodies_collected : (k : rules.Known) (owner : Option Word) (c : rules.Count) (bs : List Syn) (s : State) → Walked (λ d t.
@@ -652,8 +675,11 @@ pub record AreHeads (parts : Parts Pos) (items : ItemTable) : Type 0 where
 pub heads_later : (old new : ItemTable) → HaveTypes old new → (from to : ℕ) (texts rest : List BodySyn) (heads : List Sig) →
     AreMade (IsHeadOf old) from to texts rest heads → AreMade (IsHeadOf new) from to texts rest heads
 heads_later old new e from to texts rest heads =
-    made_map (IsHeadOf old) (IsHeadOf new) (λ closure text head h. head_later old new e closure text head.params
-    head.result h) from to texts rest heads
+    made_map (IsHeadOf old) (IsHeadOf new) (λ closure text head h. (
+      head_later old new e closure text head.params
+          head.result h.0,
+      h.1,
+    )) from to texts rest heads
 
 pub collecting_collects : (is : List ItemSyn) (end : Pos) → Walked (λ _ t. (u : State) × (n : ℕ) × Collects (listed_text
     (rules.known_of is) is) (all_adts is) 0 n (rules.starting_with rules.no_items) u × SameHeads u t)

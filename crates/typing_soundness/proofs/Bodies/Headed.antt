@@ -18,8 +18,7 @@ use Rattle.mir_ty.specs.ItemTable.{ItemTable, type_at}
 use Rattle.src_tree.specs.Layout.{Parts}
 use Rattle.typed_tree.specs.Tree.{BodyTree, ProgramTree}
 use Rattle.well_typed.specs.Claim.{Holds, each}
-use Rattle.well_typed.specs.Items.{is_equal, are_items}
-use Rattle.well_typed.specs.Program.{WellTyped}
+use Rattle.well_typed.specs.Items.{is_equal}
 use Rattle.typing_rules.specs.Bodies.{all_rules}
 use Rattle.typing_rules.specs.Check.{State, Broken}
 use Rattle.typing_rules.specs.Collected as rules
@@ -32,7 +31,7 @@ use Rattle.src_ast.specs.Syntax.{Word, Receiver, ByValue, ByShared, ByUnique, Sy
 use Rattle.typing_rules.proofs.Sound.Interned.{not_there}
 use Rattle.typing_soundness.specs.Closures.{BodySyn, Function, Closure, Head, Tape, IsReceiver, MeansParam, MeanParams, MeansAnswer, AreTypesOf, IsBodyOf, AreMade, Met, types_of, behind, closures_of, closures_in, closures_among, closures_if_any, function_text, functions_text, around_impl, item_text, items_text, program_text}
 use Rattle.typing_soundness.specs.Heads.{MeanClosureParams, MeansClosureAnswer, AreHeadTypes, IsHeadOf, IsAdtOf, AreAdtsOf, inner_text, TellBodies, has_no_self}
-use Rattle.typing_soundness.specs.Program.{AreCollected, HaveHeads}
+use Rattle.typing_soundness.specs.Program.{HaveHeads}
 use Rattle.typing_soundness.specs.Shapes.{shaped, shaped_form, all_shaped, maybe_shaped, body_shaped, function_shaped, item_shaped, no_self}
 use Rattle.typing_soundness.specs.Walks.{Walked}
 use Rattle.typing_soundness.proofs.Bodies.Collected as collected
@@ -40,7 +39,7 @@ use Rattle.typing_soundness.proofs.Bodies.Collected.{AreHeads, SameHeads, all_na
 use Rattle.typing_soundness.proofs.Bodies.Meanings.{same_type, means_once}
 use Rattle.typing_soundness.specs.Walks.{counted}
 use Rattle.typing_soundness.proofs.Bodies.Order.{walk_adds, bodies_in_order}
-use Rattle.typing_soundness.proofs.Bodies.Program.{first_of, others_of, bodies_typed, heads_typed}
+use Rattle.typing_soundness.proofs.Bodies.Program.{first_of, others_of}
 use Rattle.typing_soundness.proofs.Walking.Steps.{with_type_distinct}
 
 -- ---- no closure has a parameter `self`
@@ -280,7 +279,7 @@ module _ (items : ItemTable) (distinct : AreDistinct items.types) where
       no_texts : (text ∷ texts) ≡ [] → ⊥
       no_texts e = none-some text (sym (ap (λ ts. slice_get ts 0) e))
   heads_once from to last (text ∷ texts) plain (head ∷ heads) (body ∷ bodies) h g = (
-    head_once from text plain.0 (types_of body) body.answer head.params head.result h.0.0 g.0,
+    head_once from text plain.0 (types_of body) body.answer head.params head.result h.0.0 g.0.0,
     heads_once (behind text from) to last texts plain.1 heads bodies h.1 g.1,
   )
 
@@ -459,13 +458,3 @@ pub have_heads : (parts : Parts Pos) (end : Pos) (items : ItemTable) (p : Progra
 have_heads parts end items p is_collected is_checked shape tell =
     let h = headed parts end items p is_collected is_checked shape tell in
     (h.heads, closures_headed p h (bodies_in_order parts items p is_checked))
-
-pub programs_typed : (parts : Parts Pos) (end : Pos) (items : ItemTable) (p : ProgramTree) → rules.collected parts end ≡ Ok
-    items → AreCollected parts items → checked parts items ≡ Ok p → TellBodies (items_of parts) → Holds (are_items p.items)
-    → WellTyped p
-programs_typed parts end items p is_collected c is_checked tell are =
-    let h = have_heads parts end items p is_collected is_checked c.shaped tell in (
-      are,
-      heads_typed p.items 0 p.items.bodies p.bodies (λ k head is. ap (slice_get p.items.bodies) (omega arith) ∙ is)
-          ((bodies_typed parts items p c is_checked).2 h.1) (bodies_in_order parts items p is_checked) h.0,
-    )

@@ -1,10 +1,9 @@
 -- The items of a text whose types keep all rules are ready: what types hold is there, and stands alone.
-use Rattle.std.proofs.Common.{◌≡◌, ℕ, zero, suc, ◌+◌, Bool, true, false, ◌&&◌, ◌||◌, ◌==◌, not, nat_le, if◌then◌else◌, List, [], ◌∷◌, ◌++◌, map, length, slice_get, flat_map, Option, Some, None, Result, Ok, Err, IsTrue, Contains, ◌⊎◌, inl, inr, refl, ap, sym, subst, ◌∙◌, arith}
+use Rattle.std.proofs.Common.{◌≡◌, ℕ, zero, suc, ◌+◌, Bool, true, false, ◌||◌, ◌==◌, not, nat_le, if◌then◌else◌, List, [], ◌∷◌, ◌++◌, length, slice_get, flat_map, Option, Some, None, Result, Ok, Err, IsTrue, Contains, ◌⊎◌, inl, inr, refl, ap, sym, subst, ◌∙◌, arith}
 use Rattle.std.specs.Prelude.{option_and_then, codes, is_some}
 use Rattle.std.proofs.lemmas.Bool.{false≢true}
 use Rattle.std.proofs.lemmas.Option.{same_Some, none-some}
 use Rattle.std.proofs.lemmas.List.Elements.{Contains-append_cases}
-use Rattle.mir_base.specs.declared.int_kind.IntKind.{IntKind}
 use Rattle.mir_base.specs.declared.place_in_text.Pos.{Pos}
 use Rattle.mir_base.specs.declared.rule.Rule.{Rule}
 use Rattle.mir_ty.specs.declared.adt.Adt.{Adt}
@@ -26,14 +25,14 @@ use Rattle.well_typed.specs.Types.{closure_in, reference_in, is_reference}
 use Rattle.typing_rules.specs.Program.{behind_self}
 use Rattle.typing_rules.proofs.Sound.References.{reference_made}
 use Rattle.typing_rules.proofs.Sound.Written.{dyn_made}
-use Rattle.typing_rules.specs.Places.{unit, scalars}
+use Rattle.typing_rules.specs.Places.{unit}
 use Rattle.typing_rules.specs.Promises.{IsAlone, IsKnown, IsReady, IsThere, AreReady, Gives, Extends}
 use Rattle.typing_rules.specs.Written as types
 use Rattle.src_ast.specs.Syntax.{Word, Named, Receiver, ByValue, ByShared, ByUnique, Syn, syn, Shape, NamedType, GenericType, DynType, SelfType, ParensType, TupleType, ArrayType, NeverType, RefType, StructItem, EnumItem, FieldDecl, VariantDecl, TraitItem, ImplItem, FnItem, MoveOf, ParamOf, SelfParam, Syns, no_syn, a_syn, list_of, MaybeSyn, nothing, just}
 use Rattle.typing_rules.proofs.Sound.Gives.{bind, weaker, with_ready, given, gives_nothing, obeyed, found, grows_refl, grows_trans}
 use Rattle.typing_rules.specs.RowPromises.{IsMade}
 use Rattle.typing_rules.proofs.Sound.Interned.{interned_sound}
-use Rattle.typing_rules.proofs.Sound.Later.{alone_later, known_later, ready_later}
+use Rattle.typing_rules.proofs.Sound.Later.{known_later, ready_later}
 use Rattle.typing_soundness.specs.Legal.{legal, legal_form, all_legal, legal_param, legal_param_form, param_legal, params_legal, answer_legal, head_legal, field_legal, fields_legal, variant_legal, variants_legal, trait_head_legal, trait_heads_legal, body_legal, item_legal}
 use Rattle.typing_soundness.specs.Walks.{Walked}
 use Rattle.typing_soundness.proofs.Bodies.Collected.{all_names, body_collected, bodies_collected, item_head_collected, names_still}
@@ -75,11 +74,11 @@ module _ (around : types.Around) where
         few_parts (Err e) w = refl
         few_parts (Ok a) w =
             let few : true ≡ nat_le (length a.0) 12 = sym (true_right (all_legal parts) _ h) ∙ ap (λ n. nat_le n 12) (sym
-                w.so.1) in
+            w.so.1) in
             λ i. and_then (types.tuple_by a.0 a.1) (λ ty u. and_then (obeys Rule.T19 at (few i) u) (λ _ v. Ok (ty, v)))
     same_form at (ArrayType element count suffix) h s =
         let sized : true ≡ types.is_usize suffix = sym (true_left (types.is_usize suffix) _ (true_right (legal element) _
-            h)) in
+        h)) in
         let few : true ≡ nat_le count 32 = sym (true_right (types.is_usize suffix) _ (true_right (legal element) _ h)) in
         λ i. and_then (same_written element (true_left (legal element) _ h) s i) (λ ty t. and_then (obeys Rule.T03 at
         (sized i) t) (λ _ u. and_then (obeys Rule.T19 at (few i) u) (λ _. interned (Ty.Array ty (types.length_shown
@@ -611,15 +610,19 @@ item_head_ready k (syn at (TraitItem name heads)) s h =
         own (list_of heads) t (heads_all (list_of heads) h) b)
       where
         by : (r : Result (List Sig × State) Broken) → (MayBeBorrowed t.items own → Gives t (λ w sigs. All (HasKnown w.items)
-            sigs) r) → Readies s Kept (and_then r (λ sigs. rules.added (λ items. with_trait items (record { name =
-            name.1; methods = sigs }))))
+            sigs) r) → Readies s Kept (and_then r (λ sigs. rules.added (λ items. with_trait items (record {
+              name =
+                  name.1;
+              methods = sigs;
+            }))))
         by (Err x) g = record { so = tt }
         by (Ok a) g =
             walk_ends (λ ready.
             let r = e ready in
-            let m = (g (borrowed t.items own r.1)).so r.0 in
-            (ready_with_trait a.1.items (record { name = name.1; methods = a.0 }) (m.0.ready r.0) (m.1 a.1 (grows_refl a.1)),
-              tt))
+            let m = (g (borrowed t.items own r.1)).so r.0 in (
+              ready_with_trait a.1.items (record { name = name.1; methods = a.0 }) (m.0.ready r.0) (m.1 a.1 (grows_refl a.1)),
+              tt,
+            ))
 item_head_ready k (syn at (ImplItem None name methods)) s h =
     ready_of (λ items u. Unit {0}) _ (obeyed_ready Rule.T01 name.0 (is_some (types.number_of k.adts name.1)) s)
 item_head_ready k (syn at (ImplItem (Some trait_) name methods)) s h =
@@ -634,9 +637,11 @@ body_ready : (k : rules.Known) (owner : Option Word) (c : rules.Count) (b : Syn)
 body_ready k owner c (syn at (FnItem name params answer block)) s h none =
     walk (ready_of (λ items sig. HasParams items sig) _ (sig_ready (all_names k owner) at (full_name owner name.1) params
     answer s h)) λ sig t e. walk_ends (λ ready.
-    let r = e ready in
-    (ready_with_body t.items sig r.0 (all_map (IsParamTy t.items) (IsKnown t.items) (λ ty p. (p.0, p.1)) sig.params r.1.0)
-      (plain_alone t.items sig.result r.1.1), tt))
+    let r = e ready in (
+      ready_with_body t.items sig r.0 (all_map (IsParamTy t.items) (IsKnown t.items) (λ ty p. (p.0, p.1)) sig.params r.1.0)
+          (plain_alone t.items sig.result r.1.1),
+      tt,
+    ))
 body_ready k owner c (syn at (MoveOf captures params answer body)) s h none =
     walk (walk (ready_of (λ items tys. All (IsKnown items) tys) _ (closure_params_ready (all_names k owner) c.closures params
     s none (true_left (params_legal legal params) _ h))) λ tys t e. behind tys t e) λ _ t e. walk_ends e
@@ -646,10 +651,10 @@ body_ready k owner c (syn at (MoveOf captures params answer body)) s h none =
 
     behind : (tys : List TyId) (t : State) → (AreReady s.items → AreReady t.items × All (IsKnown t.items) tys) → Readies s Kept
         (and_then (types.or_unit (rules.answer_ty (names (all_names k owner)) answer) t) (λ ty. rules.body_added (record {
-      name = name;
-      params = tys;
-      result = ty;
-    })))
+          name = name;
+          params = tys;
+          result = ty;
+        })))
     behind tys t e =
         by (types.or_unit (rules.answer_ty (names (all_names k owner)) answer) t) (closure_answer_ready (all_names k owner)
         answer t (true_right (params_legal legal params) _ h))
@@ -660,10 +665,12 @@ body_ready k owner c (syn at (MoveOf captures params answer body)) s h none =
         by (Ok a) g =
             walk_ends (λ ready.
             let r = e ready in
-            let m = g.so r.0 in
-            (ready_with_body a.1.items (record { name = name; params = tys; result = a.0 }) (m.0.ready r.0) (all_map (IsKnown
-              t.items) (IsKnown a.1.items) (λ ty known. known_later m.0.items ty known) tys r.1) (plain_alone a.1.items a.0
-              (m.1 a.1 (grows_refl a.1))), tt))
+            let m = g.so r.0 in (
+              ready_with_body a.1.items (record { name = name; params = tys; result = a.0 }) (m.0.ready r.0) (all_map (IsKnown
+                  t.items) (IsKnown a.1.items) (λ ty known. known_later m.0.items ty known) tys r.1) (plain_alone a.1.items a.0
+                  (m.1 a.1 (grows_refl a.1))),
+              tt,
+            ))
 body_ready k owner c (syn at _) s h none = record { so = tt }
 
 -- two facts of one check

@@ -89,10 +89,10 @@ bool_plain items all = (Ty.Bool, all.begins 1 Ty.Bool refl, tt, refl)
 pub unit_plain : (items : ItemTable) → AreReady items → IsPlain items unit
 unit_plain items all = (Ty.Unit, all.begins 0 Ty.Unit refl, tt, refl)
 
-never_plain : (items : ItemTable) → AreReady items → IsPlain items never
+pub never_plain : (items : ItemTable) → AreReady items → IsPlain items never
 never_plain items all = (Ty.Never, all.begins 2 Ty.Never refl, tt, refl)
 
-scalar_plain : (items : ItemTable) → AreReady items → (name : Word) (ty : TyId) → rules.scalar_named name ≡ Some ty →
+pub scalar_plain : (items : ItemTable) → AreReady items → (name : Word) (ty : TyId) → rules.scalar_named name ≡ Some ty →
     IsPlain items ty
 scalar_plain items all name ty h = among_plain items names each name ty h
   where

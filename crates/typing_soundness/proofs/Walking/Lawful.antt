@@ -1,21 +1,18 @@
 -- What is accepted by all rules keeps them as it is written.
-use Rattle.std.proofs.Common.{◌≡◌, ℕ, suc, Bool, true, false, ◌&&◌, ◌||◌, not, nat_le, List, [], ◌∷◌, length, Option, Some, None, Result, Ok, Err, IsTrue, refl, ap, sym, subst, ◌∙◌}
+use Rattle.std.proofs.Common.{◌≡◌, suc, Bool, true, false, ◌&&◌, nat_le, List, length, Result, Ok, Err, IsTrue, refl, ap, subst}
 use Rattle.std.proofs.lemmas.Bool.{false≢true}
 use Rattle.mir_base.specs.declared.place_in_text.Pos.{Pos}
 use Rattle.mir_base.specs.declared.rule.Rule.{Rule}
-use Rattle.mir_ty.specs.declared.ty.Ty.{Ty}
 use Rattle.mir_ty.specs.declared.ty.TyId.{TyId}
-use Rattle.well_typed.specs.Types.{is_reference}
 use Rattle.typing_rules.specs.Bodies as bodies
 use Rattle.typing_rules.specs.Bodies.{param_expected, is_name_or_wildcard}
 use Rattle.typing_rules.specs.Check.{Check, State, Broken}
-use Rattle.typing_rules.specs.Patterns.{pattern}
 use Rattle.typing_rules.specs.Scope.{Env, Entry}
 use Rattle.typing_rules.specs.Written as types
 use Rattle.src_ast.specs.Syntax.{Syn, syn, Shape, NamedType, GenericType, DynType, SelfType, ParensType, TupleType, ArrayType, NeverType, RefType, ParamOf, SelfParam, Syns, no_syn, a_syn, list_of, MaybeSyn, nothing, just}
 use Rattle.typing_soundness.specs.Legal.{legal, legal_form, all_legal, legal_param, legal_param_form, param_legal, params_legal, answer_legal}
 use Rattle.typing_soundness.specs.Walks.{Walked}
-use Rattle.typing_soundness.proofs.Walking.Steps.{walk, walk_map, walk_obeyed, walk_found, walk_ends}
+use Rattle.typing_soundness.proofs.Walking.Steps.{walk, walk_obeyed, walk_ends}
 
 -- what does not depend on what is given
 pub whatever : {A : Type 0} {P : Type 0} (r : Result (A × State) Broken) → P → Walked (λ a t. P) r

@@ -1,16 +1,19 @@
+-- Proves the clauses of `law_of_programs`.
+use Rattle.typing_soundness.proofs.Bodies.Accepting.{are_collected, are_headed, are_typed, is_typed}
 use Rattle.typing_soundness.proofs.Bodies.Order.{bodies_in_order}
-use Rattle.typing_soundness.proofs.Bodies.Headed.{have_heads, programs_typed}
-use Rattle.typing_soundness.proofs.Bodies.Program.{bodies_typed}
 use Rattle.typing_soundness.proofs.law.law_of_programs.Goals as goal
 
 pub returns-clause-order : goal.returns-clause-order
 returns-clause-order c = bodies_in_order
 
-pub returns-clause-bodies : goal.returns-clause-bodies
-returns-clause-bodies c = bodies_typed
-
-pub returns-clause-programs : goal.returns-clause-programs
-returns-clause-programs c = programs_typed
+pub returns-clause-items : goal.returns-clause-items
+returns-clause-items c = are_collected
 
 pub returns-clause-heads : goal.returns-clause-heads
-returns-clause-heads c = have_heads
+returns-clause-heads c = are_headed
+
+pub returns-clause-bodies : goal.returns-clause-bodies
+returns-clause-bodies c = are_typed
+
+pub returns-clause-programs : goal.returns-clause-programs
+returns-clause-programs c = is_typed
