@@ -1,4 +1,5 @@
-//! Parameters of functions, methods and closures.
+//! Parameters of functions, methods and closures. Those of a function or a method are checked twice: with its head, and
+//! again with its body.
 #![tactic(auto)]
 
 mod named;
