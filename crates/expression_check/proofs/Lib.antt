@@ -5,3 +5,4 @@ pub mod Stores
 pub mod CallSteps
 pub mod Arms
 pub mod Lets
+pub mod Inits

@@ -11,10 +11,12 @@ use crate::aggregates::{array, tuple};
 use crate::blocks::block;
 use crate::branches::if_of;
 use crate::calls::{call, method_call};
+use crate::closures::closure;
 use crate::loops::{break_of, continue_of, loop_of, return_of, while_of};
 use crate::matches::{if_let, match_on, while_let};
 use crate::operators::{arithmetic, comparison, logic, minus, not, store};
 use crate::places::{borrowed_value, deref, element, field, part};
+use crate::structs::struct_of;
 use binding_rows::place_for_parts;
 use callee_rows::path_alone;
 use expression_forms::{PlaceForm, place_form};
@@ -176,7 +178,13 @@ fn value(
             scrutinee,
             body,
         } => while_let(checker, at, label, pattern, scrutinee, body, want),
-        ExpressionForm::Struct { .. } | ExpressionForm::Closure { .. } => Err(RuleError::Memory),
+        ExpressionForm::Struct { path, fields } => struct_of(checker, at, path, fields, want),
+        ExpressionForm::Closure {
+            captures,
+            params,
+            answer,
+            block,
+        } => closure(checker, at, captures, params, answer, block, want),
         ExpressionForm::Field { .. }
         | ExpressionForm::Part { .. }
         | ExpressionForm::Index { .. }

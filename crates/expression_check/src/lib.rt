@@ -7,10 +7,12 @@ mod arguments;
 mod blocks;
 mod branches;
 mod calls;
+mod closures;
 mod expressions;
 mod loops;
 mod matches;
 mod operators;
 mod places;
+mod structs;
 
 pub use expressions::{base_of, typed};

@@ -1,13 +1,32 @@
 use Rattle.std.proofs.Common.{◌≡◌, ℕ, ◌||◌, List, [], ◌∷◌, length, length-append, map, reverse, false, Option, None, Some, Result, Ok, slice_get, arith, refl, ap, sym, subst, ◌∙◌}
 use Rattle.std.specs.Prelude.{option_map}
 use Rattle.std.specs.Borrow.{Bor}
-use Rattle.call_rows.specs.Lists.{last_nodes}
+use Rattle.call_rows.specs.Lists.{below_all, last_nodes}
 use Rattle.callee_rows.specs.Callees.{callee_seen}
 use Rattle.callee_rows.specs.Rests.{begun_rest, callee_rest, closure_rest}
 use Rattle.member_rows.specs.Calls.{Arguments}
 use Rattle.member_rows.specs.Rests.{method_rest, receiver_rest}
 use Rattle.binding_rows.specs.Rests.{value_if}
 use Rattle.expression_check.proofs.Lets.{brings, let_done, let_refused}
+use Rattle.expression_check.proofs.Inits.{behind_fields, by_tables, named_init, none_given, refused_fields, refused_value}
+use Rattle.function_rows.proofs.Bodies.{block_given, block_refused, returned_if}
+use Rattle.function_rows.proofs.Rows.{closure_done, closure_refused, start_refused}
+use Rattle.function_rows.specs.Closures.{start_of}
+use Rattle.function_rows.specs.Heads.{unvalued}
+use Rattle.src_ast.specs.View.{idents, syns_of}
+use Rattle.typing_rules.specs.Bodies as bodies_of
+use Rattle.typing_rules.specs.Places.{a_node_of}
+use Rattle.init_rows.proofs.InitForms.{init_seen}
+use Rattle.init_rows.proofs.Turns.{below_more, field_refused, no_more, one_field}
+use Rattle.init_rows.specs.Inits.{GivesInit, behind_inits, init_by, one_init, variant_by}
+use Rattle.struct_rows.specs.Fields.{numbered_by, variant_of}
+use Rattle.struct_rows.specs.Rests.{struct_rest}
+use Rattle.mir_ty.specs.declared.adt.Variant.{Variant}
+use Rattle.src_ast.specs.Syntax.{Shape, Word}
+use Rattle.typed_tree.specs.Tree.{Fields}
+use Rattle.typing_rules.specs.Rows as rows_of
+use Rattle.typing_rules.specs.Rows.{Given}
+use Rattle.type_rows.specs.declared.tables.Tables.{Tables}
 use Rattle.expression_check.proofs.Arms.{if_let_looked, if_let_refused, matched, none_yet, one_arm, refused_arm, while_let_looked}
 use Rattle.typing_rules.specs.Rows.{loop_around, scrutinised}
 use Rattle.expression_check.specs.Matches.{arm_of_syn}
@@ -29,12 +48,13 @@ use Rattle.expression_forms.specs.Sizes.{sizes}
 use Rattle.item_heads.specs.Answers.{Refuses}
 use Rattle.list_rows.proofs.Lists.{below_next, below_part, one_argument, one_element, one_part, refused_argument, refused_part}
 use Rattle.list_rows.specs.Lists.{argument_at}
-use Rattle.src_ast.specs.Expressions.{expression_of}
+use Rattle.src_ast.specs.Expressions.{expression_of, init_of}
 use Rattle.src_ast.specs.Seen.{maybe_of, nodes_of, syn_of, word_of}
-use Rattle.src_ast.specs.Syntax.{BreakOf, IfElse, IfLetElse, LetOf}
+use Rattle.src_ast.specs.Syntax.{BreakOf, IfElse, IfLetElse, LetOf, MoveOf}
 use Rattle.src_ast.specs.declared.expression.ExpressionForm.{ExpressionForm}
+use Rattle.src_ast.specs.declared.expression.InitForm.{InitForm}
 use Rattle.src_tree.specs.declared.node.Node.{Node}
-use Rattle.type_rows.specs.Stand.{Gives, env, stack, state, top, below}
+use Rattle.type_rows.specs.Stand.{Gives, GivesValue, env, stack, state, top, below}
 use Rattle.typing_rules.specs.Patterns.{count_of}
 use Rattle.typing_rules.specs.Scope.{Env, in_guard, jumps_to, with_variables, within_loop}
 use Rattle.typing_rules.specs.Check.{Check, State, Broken}
@@ -537,3 +557,207 @@ blocks::let_statement-returns-clause-kept t c =
       c.in_ok-ends.ensures.kept.0 ∙ (c.in_ok-has_value.ensures.kept.0 ∙ (c.in_ok-declared.ensures.same.0 ∙ c.in_ok-id.ensures.same.0)),
       ((new.0, new.1 ∙ ap (with_variables new.0) same), c.in_ok-ends.ensures.kept.1 ∙ (c.in_ok-has_value.ensures.kept.1.1 ∙ (c.in_ok-declared.ensures.same.1.1 ∙ c.in_ok-id.ensures.same.1.1))),
     )
+
+-- ---- struct expressions
+
+pub structs::numbered_init-returns-clause-gives : goal.structs::numbered_init-returns-clause-gives
+structs::numbered_init-returns-clause-gives t c =
+    λ own.
+    let before = c.args.checker.now in
+    named_init (env before) (variant_by own before.tables c.args.adt c.args.variant c.args.types.now) c.args.at c.args.form.name.now (maybe_of c.args.form.value) _ _ _ (state before) _
+    (c.field_wanted-wanted.ensures.number own) (c.field_wanted-wanted.ensures.want own) c.in_ok-init_value.ensures.gives
+
+pub structs::numbered_init-returns-in_err-init_value-clause-gives : goal.structs::numbered_init-returns-in_err-init_value-clause-gives
+structs::numbered_init-returns-in_err-init_value-clause-gives t c =
+    λ own.
+    let before = c.args.checker.now in
+    let v = variant_by own before.tables c.args.adt c.args.variant c.args.types.now in
+    let refused : Refuses (init_by (env before) v c.args.at (Some (init_of c.args.form)) (state before)) c.in_err-init_value.field-0.0 =
+    refused_value (env before) v c.args.at c.args.form.name.now (maybe_of c.args.form.value) _ _ (state before) c.in_err-init_value.field-0.0
+    (c.field_wanted-wanted.ensures.number own) (c.field_wanted-wanted.ensures.want own) c.in_err-init_value.ensures.gives in
+    grind (arith, refused)
+
+pub structs::init_of_node-returns-in-Some-clause-gives : goal.structs::init_of_node-returns-in-Some-clause-gives
+structs::init_of_node-returns-in-Some-clause-gives t c =
+    λ own.
+    let before = c.args.checker.now in
+    let v = variant_by own before.tables c.args.adt c.args.variant c.args.types.now in
+    subst (λ (o : Result ((Option ℕ × tree.Node) × State) Broken). GivesInit o c.numbered_init.result c.numbered_init.new.checker)
+    (sym (init_seen (env before) v c.args.node.now (state before) ∙ ap (λ (form : Option Shape). init_by (env before) v c.args.node.now.at form (state before)) (sym c.init_form.ensures)
+    ∙ ap (λ (form : Option InitForm). init_by (env before) v c.args.node.now.at (option_map init_of form) (state before)) c.in-Some.is))
+    (c.numbered_init.ensures.gives own)
+
+pub structs::typed_inits-loop-split-init : goal.structs::typed_inits-loop-split-init
+structs::typed_inits-loop-split-init t c =
+    let before = c.args.checker.now in
+    record {
+      gives =
+          λ own.
+          let all = rules_of.typed_inits (env before) (variant_by own before.tables c.args.adt c.args.variant c.args.types.now) (nodes_of c.args.inits) (state before) in
+          none_given (stack before) all ∙ ap (λ (l : Given). behind_inits l (stack before) all) (sym c.new-given.ensures);
+      below = ap (λ (l : Given). below_all (length l) (stack before)) c.new-given.ensures;
+      place = (refl, refl);
+      smaller = omega arith;
+    }
+
+pub structs::typed_inits-loop-split-preserved : goal.structs::typed_inits-loop-split-preserved
+structs::typed_inits-loop-split-preserved t c =
+    let before = c.loop-split.checker in
+    let after = c.init_of_node.new.checker in
+    let origin = c.args.checker.now in
+    let e = env origin in
+    let v : Word → Variant = λ own. variant_by own origin.tables c.args.adt c.args.variant c.args.types.now in
+    let given = c.loop-split.given in
+    let number = c.in_ok-number.number in
+    record {
+      gives =
+          λ own.
+          subst (λ (l : Given). rules_of.typed_inits e (v own) (nodes_of c.args.inits) (state origin) ≡ behind_inits l (stack after) (rules_of.typed_inits e (v own) (nodes_of c.in-Some.split.rest) (state after))) (sym c.in_ok-pushed.ensures.pushed)
+          (one_field e (v own) _ given number (stack before) (stack after) _ _ _ (state before) (state after)
+          (c.loop-split.invariant.gives own) c.in-Some.ensures
+          (ap (λ (f : Env). one_init f (v own) (syn_of c.in-Some.split.first.now) (state before)) (sym c.loop-split.invariant.place.0)
+          ∙ ap (λ (tables : Tables). one_init (env before) (variant_by own tables c.args.adt c.args.variant c.args.types.now) (syn_of c.in-Some.split.first.now) (state before)) (sym c.loop-split.invariant.place.1)
+          ∙ c.in_ok-number.ensures.gives own)
+          c.in_ok-number.ensures.kept.0);
+      below =
+          ap (λ (l : Given). below_all (length l) (stack after)) c.in_ok-pushed.ensures.pushed ∙ below_more given number (stack after)
+          ∙ ap (below_all (length given)) c.in_ok-number.ensures.kept.0 ∙ c.loop-split.invariant.below;
+      place = (c.in_ok-number.ensures.kept.1.0 ∙ c.loop-split.invariant.place.0, c.in_ok-number.ensures.kept.1.1 ∙ c.loop-split.invariant.place.1);
+      smaller = omega (arith, ap sizes c.in-Some.ensures);
+    }
+
+pub structs::typed_inits-returns-clause-gives : goal.structs::typed_inits-returns-clause-gives
+structs::typed_inits-returns-clause-gives t c =
+    λ own.
+    let origin = c.args.checker.now in
+    no_more (env origin) (variant_by own origin.tables c.args.adt c.args.variant c.args.types.now) _ c.loop-split.given (stack c.loop-split.checker) _ (state c.loop-split.checker)
+    (c.loop-split.invariant.gives own) c.in_default.ensures
+
+pub structs::typed_inits-returns-in_err-number-clause-gives : goal.structs::typed_inits-returns-in_err-number-clause-gives
+structs::typed_inits-returns-in_err-number-clause-gives t c =
+    λ own.
+    let origin = c.args.checker.now in
+    let before = c.loop-split.checker in
+    let e = env origin in
+    let v = variant_by own origin.tables c.args.adt c.args.variant c.args.types.now in
+    let at_tables : Refuses (one_init (env before) (variant_by own origin.tables c.args.adt c.args.variant c.args.types.now) (syn_of c.in-Some.split.first.now) (state before)) c.in_err-number.field-0.0 =
+    subst (λ (tables : Tables). Refuses (one_init (env before) (variant_by own tables c.args.adt c.args.variant c.args.types.now) (syn_of c.in-Some.split.first.now) (state before)) c.in_err-number.field-0.0) c.loop-split.invariant.place.1 (c.in_err-number.ensures.gives own) in
+    let here : Refuses (one_init e v (syn_of c.in-Some.split.first.now) (state before)) c.in_err-number.field-0.0 =
+    subst (λ (f : Env). Refuses (one_init f v (syn_of c.in-Some.split.first.now) (state before)) c.in_err-number.field-0.0) c.loop-split.invariant.place.0 at_tables in
+    let refused : Refuses (rules_of.typed_inits e v (nodes_of c.args.inits) (state origin)) c.in_err-number.field-0.0 =
+    field_refused e v _ c.loop-split.given (stack before) _ _ _ (state before) c.in_err-number.field-0.0 (c.loop-split.invariant.gives own) c.in-Some.ensures here in
+    grind (arith, refused)
+
+pub structs::struct_row-returns-clause-gives : goal.structs::struct_row-returns-clause-gives
+structs::struct_row-returns-clause-gives t c =
+    let before = c.args.checker.now in
+    let middle = c.struct_begin.new.checker in
+    let after = c.typed_inits.new.checker in
+    let begun = c.in_ok-begun.begun in
+    let given = c.in_ok-given.given in
+    let items = before.walk.items in
+    let made = variant_of items c.args.adt c.args.variant in
+    let fields : Check (Fields × Given) = rules_of.typed_inits (env before) made (nodes_of c.args.inits) in
+    let here : fields (state middle) ≡ Ok ((numbered_by given (last_nodes (length given) (stack after)), given), state after) =
+    by_tables items before.tables middle.tables c.args.adt c.args.variant begun.types (env before) (env middle) (nodes_of c.args.inits) (state middle) before.ready c.in_ok-begun.ensures.same.1.1 c.in_ok-begun.ensures.types c.in_ok-begun.ensures.same.1.0
+    ∙ ap (λ (types : List TyId). rules_of.typed_inits (env middle) (variant_by made.name middle.tables c.args.adt c.args.variant types) (nodes_of c.args.inits) (state middle)) (sym c.as_slice.ensures)
+    ∙ c.in_ok-given.ensures.gives made.name in
+    subst (λ (o : Result (tree.Node × State) Broken). Gives o c.struct_end.result c.struct_end.new.checker)
+    (sym (behind_fields (λ fs. rows_of.struct_row c.args.at c.args.adt c.args.variant made.fields fs c.args.want) (struct_rest begun.id.0 c.args.at c.args.adt c.args.variant begun.ty (length begun.types) c.args.want) fields _ (state before) (state middle) (state after)
+    (c.in_ok-begun.ensures.gives c.args.at c.args.want fields) here
+    ∙ ap (λ (l : Given). struct_rest begun.id.0 c.args.at c.args.adt c.args.variant begun.ty (length begun.types) c.args.want (numbered_by l (last_nodes (length l) (stack after)), l) (state after)) (sym c.as_slice-2.ensures)))
+    c.struct_end.ensures.gives
+
+pub structs::struct_row-returns-in_err-begun-clause-gives : goal.structs::struct_row-returns-in_err-begun-clause-gives
+structs::struct_row-returns-in_err-begun-clause-gives t c =
+    let before = c.args.checker.now in
+    let made = variant_of before.walk.items c.args.adt c.args.variant in
+    let fields : Check (Fields × Given) = rules_of.typed_inits (env before) made (nodes_of c.args.inits) in
+    let refused : Refuses (rows_of.struct_row c.args.at c.args.adt c.args.variant made.fields fields c.args.want (state before)) c.in_err-begun.field-0.0 =
+    c.in_err-begun.ensures.gives c.args.at c.args.want fields in
+    grind (arith, refused)
+
+pub structs::struct_row-returns-in_err-given-clause-gives : goal.structs::struct_row-returns-in_err-given-clause-gives
+structs::struct_row-returns-in_err-given-clause-gives t c =
+    let before = c.args.checker.now in
+    let middle = c.struct_begin.new.checker in
+    let begun = c.in_ok-begun.begun in
+    let items = before.walk.items in
+    let made = variant_of items c.args.adt c.args.variant in
+    let fields : Check (Fields × Given) = rules_of.typed_inits (env before) made (nodes_of c.args.inits) in
+    let same : rules_of.typed_inits (env middle) (variant_by made.name middle.tables c.args.adt c.args.variant c.as_slice.result.now) (nodes_of c.args.inits) (state middle) ≡ fields (state middle) =
+    sym (by_tables items before.tables middle.tables c.args.adt c.args.variant begun.types (env before) (env middle) (nodes_of c.args.inits) (state middle) before.ready c.in_ok-begun.ensures.same.1.1 c.in_ok-begun.ensures.types c.in_ok-begun.ensures.same.1.0
+    ∙ ap (λ (types : List TyId). rules_of.typed_inits (env middle) (variant_by made.name middle.tables c.args.adt c.args.variant types) (nodes_of c.args.inits) (state middle)) (sym c.as_slice.ensures)) in
+    let here : Refuses (fields (state middle)) c.in_err-given.field-0.0 =
+    subst (λ (o : Result ((Fields × Given) × State) Broken). Refuses o c.in_err-given.field-0.0) same (c.in_err-given.ensures.gives made.name) in
+    let refused : Refuses (rows_of.struct_row c.args.at c.args.adt c.args.variant made.fields fields c.args.want (state before)) c.in_err-given.field-0.0 =
+    refused_fields (λ fs. rows_of.struct_row c.args.at c.args.adt c.args.variant made.fields fs c.args.want) (struct_rest begun.id.0 c.args.at c.args.adt c.args.variant begun.ty (length begun.types) c.args.want) fields (state before) (state middle) c.in_err-given.field-0.0
+    (c.in_ok-begun.ensures.gives c.args.at c.args.want fields) here in
+    grind (arith, refused)
+
+-- ---- closures
+
+pub closures::closure_body-returns-clause-gives : goal.closures::closure_body-returns-clause-gives
+closures::closure_body-returns-clause-gives t c =
+    let before = c.args.checker.now in
+    let middle = c.closure_head.new.checker in
+    let after = c.typed.new.checker in
+    let head = c.in_ok-head.head in
+    let block : Env → Option TyId → Check tree.Node = λ inner. rules_of.typed inner (syn_of c.args.block.now) in
+    subst (λ (o : Result (Unit {0} × State) Broken). GivesValue (λ u. u) o c.body_end.result c.body_end.new.checker)
+    (sym (block_given head _ block (env middle) (stack middle) (stack after) (state middle) (state after) (c.in_ok-head.ensures.gives block) c.in_ok-typed.ensures.gives c.in_ok-typed.ensures.kept.0))
+    c.body_end.ensures.gives
+
+pub closures::closure_body-returns-in_err-head-clause-gives : goal.closures::closure_body-returns-in_err-head-clause-gives
+closures::closure_body-returns-in_err-head-clause-gives t c =
+    let before = c.args.checker.now in
+    let block : Env → Option TyId → Check tree.Node = λ inner. rules_of.typed inner (syn_of c.args.block.now) in
+    let refused : Refuses (unvalued (bodies_of.closure_body (env before) c.args.at c.args.begun.now.body c.args.begun.now.ty (reverse c.args.begun.now.captures) (nodes_of c.args.params) (maybe_of c.args.answer) block) (state before)) c.in_err-head.field-0.0 =
+    c.in_err-head.ensures.gives block in
+    grind (arith, refused)
+
+pub closures::closure_body-returns-in_err-typed-clause-gives : goal.closures::closure_body-returns-in_err-typed-clause-gives
+closures::closure_body-returns-in_err-typed-clause-gives t c =
+    let before = c.args.checker.now in
+    let middle = c.closure_head.new.checker in
+    let head = c.in_ok-head.head in
+    let block : Env → Option TyId → Check tree.Node = λ inner. rules_of.typed inner (syn_of c.args.block.now) in
+    let refused : Refuses (unvalued (bodies_of.closure_body (env before) c.args.at c.args.begun.now.body c.args.begun.now.ty (reverse c.args.begun.now.captures) (nodes_of c.args.params) (maybe_of c.args.answer) block) (state before)) c.in_err-typed.field-0.0 =
+    block_refused head _ block (env middle) (stack middle) (state middle) c.in_err-typed.field-0.0 (c.in_ok-head.ensures.gives block) c.in_err-typed.ensures.gives in
+    grind (arith, refused)
+
+pub closures::closure-returns-clause-gives : goal.closures::closure-returns-clause-gives
+closures::closure-returns-clause-gives t c =
+    let before = c.args.checker.now in
+    let middle = c.closure_begin.new.checker in
+    let after = c.closure_body.new.checker in
+    let begun = c.in_ok-begun.begun in
+    let block : Env → Option TyId → Check tree.Node = λ inner. rules_of.typed inner (syn_of c.args.block.now) in
+    subst (λ (o : Result (tree.Node × State) Broken). Gives o c.closure_end.result c.closure_end.new.checker)
+    (sym (closure_done (env before) (env middle) c.args.at (syns_of (idents (nodes_of c.args.captures))) (nodes_of c.args.params) (maybe_of c.args.answer) block c.args.want (start_of begun (stack middle)) (state before) (state middle) (state after)
+    c.in_ok-begun.ensures.gives c.in_ok-begun.ensures.kept.1.0 c.in_ok-closure_body.ensures.gives
+    ∙ ap (λ (ns : List tree.Node). rows_of.fitted c.args.want (a_node_of begun.id.0 c.args.at begun.ty (tree.Closure begun.closure (last_nodes begun.count ns))) (state after)) (sym c.in_ok-closure_body.ensures.same.0)))
+    c.closure_end.ensures.gives
+
+pub closures::closure-returns-in_err-begun-clause-gives : goal.closures::closure-returns-in_err-begun-clause-gives
+closures::closure-returns-in_err-begun-clause-gives t c =
+    let before = c.args.checker.now in
+    let block : Env → Option TyId → Check tree.Node = λ inner. rules_of.typed inner (syn_of c.args.block.now) in
+    let refused : Refuses (rules_of.value (env before) c.args.at (MoveOf (syns_of (idents (nodes_of c.args.captures))) (nodes_of c.args.params) (maybe_of c.args.answer) (syn_of c.args.block.now)) c.args.want (state before)) c.in_err-begun.field-0.0 =
+    start_refused (env before) c.args.at (syns_of (idents (nodes_of c.args.captures))) (nodes_of c.args.params) (maybe_of c.args.answer) block c.args.want (state before) c.in_err-begun.field-0.0 c.in_err-begun.ensures.gives in
+    grind (arith, refused)
+
+pub closures::closure-returns-in_err-closure_body-clause-gives : goal.closures::closure-returns-in_err-closure_body-clause-gives
+closures::closure-returns-in_err-closure_body-clause-gives t c =
+    let before = c.args.checker.now in
+    let middle = c.closure_begin.new.checker in
+    let begun = c.in_ok-begun.begun in
+    let block : Env → Option TyId → Check tree.Node = λ inner. rules_of.typed inner (syn_of c.args.block.now) in
+    let refused : Refuses (rules_of.value (env before) c.args.at (MoveOf (syns_of (idents (nodes_of c.args.captures))) (nodes_of c.args.params) (maybe_of c.args.answer) (syn_of c.args.block.now)) c.args.want (state before)) c.in_err-closure_body.field-0.0 =
+    closure_refused (env before) (env middle) c.args.at (syns_of (idents (nodes_of c.args.captures))) (nodes_of c.args.params) (maybe_of c.args.answer) block c.args.want (start_of begun (stack middle)) (state before) (state middle) c.in_err-closure_body.field-0.0
+    c.in_ok-begun.ensures.gives c.in_ok-begun.ensures.kept.1.0 c.in_err-closure_body.ensures.gives in
+    grind (arith, refused)
+
+pub closures::closure_body-returns-clause-same : goal.closures::closure_body-returns-clause-same
+closures::closure_body-returns-clause-same t c =
+    returned_if c.in_ok-head.head c.args.checker.now c.closure_head.new.checker c.typed.new.checker c.body_end.new.checker c.body_end.result c.in_ok-head.ensures.kept c.in_ok-typed.ensures.kept.0 c.in_ok-typed.ensures.kept.1 c.body_end.ensures.kept

@@ -1,7 +1,9 @@
 use Rattle.std.proofs.Common.{◌≡◌, ◌≤◌, ◌+◌, ◌*◌, Some, drop, length, map}
-use Rattle.src_ast.specs.Expressions.{arm_of, expression_of}
+use Rattle.src_ast.specs.Expressions.{arm_of, expression_of, init_of}
 use Rattle.src_ast.specs.Seen.{maybe_of, nodes_of, syn_of}
 use Rattle.call_rows.specs.Lists.{below_all}
+use Rattle.init_rows.specs.Inits.{behind_inits, variant_by}
+use Rattle.src_ast.specs.Syntax.{Word}
 use Rattle.pattern_rows.specs.Expected.{expected_of}
 use Rattle.type_rows.specs.Stand.{Stays, env, stack, state}
 use Rattle.typing_rules.specs.Patterns.{count_of}
@@ -81,6 +83,19 @@ invariant-matches::typed_arms-loop-split l =
 
 abbrev pub decreases-matches::typed_arms-loop-split : goal.decreases-matches::typed_arms-loop-split
 decreases-matches::typed_arms-loop-split l = count_of (nodes_of l.rest)
+
+abbrev pub invariant-structs::typed_inits-loop-split : goal.invariant-structs::typed_inits-loop-split
+invariant-structs::typed_inits-loop-split l =
+    record {
+      gives : (own : Word) → rules.typed_inits (env l.initial.checker) (variant_by own l.initial.checker.tables l.adt l.variant l.types) (nodes_of l.initial.rest) (state l.initial.checker)
+          ≡ behind_inits l.given (stack l.checker) (rules.typed_inits (env l.initial.checker) (variant_by own l.initial.checker.tables l.adt l.variant l.types) (nodes_of l.rest) (state l.checker));
+      below : below_all (length l.given) (stack l.checker) ≡ stack l.initial.checker;
+      place : Stays l.initial.checker l.checker;
+      smaller : sizes (nodes_of l.rest) ≤ sizes (nodes_of l.initial.rest);
+    }
+
+abbrev pub decreases-structs::typed_inits-loop-split : goal.decreases-structs::typed_inits-loop-split
+decreases-structs::typed_inits-loop-split l = count_of (nodes_of l.rest)
 
 -- ---- how large what is checked is
 
@@ -308,3 +323,27 @@ decreases-matches::while_let_behind l = 16 * size (syn_of l.body.now) + 3
 
 abbrev pub decreases-matches::while_let : goal.decreases-matches::while_let
 decreases-matches::while_let l = 16 * (size (syn_of l.scrutinee.now) + size (syn_of l.body.now)) + 4
+
+abbrev pub decreases-structs::init_value : goal.decreases-structs::init_value
+decreases-structs::init_value l = 16 * size_if_any (maybe_of l.value) + 1
+
+abbrev pub decreases-structs::numbered_init : goal.decreases-structs::numbered_init
+decreases-structs::numbered_init l = 16 * form_size (init_of l.form) + 2
+
+abbrev pub decreases-structs::init_of_node : goal.decreases-structs::init_of_node
+decreases-structs::init_of_node l = 16 * size (syn_of l.node.now) + 1
+
+abbrev pub decreases-structs::typed_inits : goal.decreases-structs::typed_inits
+decreases-structs::typed_inits l = 16 * sizes (nodes_of l.inits) + 7
+
+abbrev pub decreases-structs::struct_row : goal.decreases-structs::struct_row
+decreases-structs::struct_row l = 16 * sizes (nodes_of l.inits) + 8
+
+abbrev pub decreases-structs::struct_of : goal.decreases-structs::struct_of
+decreases-structs::struct_of l = 16 * sizes (nodes_of l.inits) + 9
+
+abbrev pub decreases-closures::closure_body : goal.decreases-closures::closure_body
+decreases-closures::closure_body l = 16 * size (syn_of l.block.now) + 1
+
+abbrev pub decreases-closures::closure : goal.decreases-closures::closure
+decreases-closures::closure l = 16 * size (syn_of l.block.now) + 2

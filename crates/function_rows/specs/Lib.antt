@@ -1,0 +1,4 @@
+pub mod Aside
+pub mod Closures
+pub mod Heads
+pub mod Scoped
