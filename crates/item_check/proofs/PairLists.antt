@@ -18,7 +18,7 @@ any_seen : (k : NamePair) (keys : List NamePair) →
 any_seen k [] = refl
 any_seen k (x ∷ xs) =
     λ i. (nat_list_eq_equiv.symm (string_bytes k.owner) (string_bytes x.owner) i && nat_list_eq_equiv.symm (string_bytes k.name) (string_bytes x.name) i)
-        || any_seen k xs i
+    || any_seen k xs i
 
 -- a pair is new in whatever order
 pub is_new_pair : (k : NamePair) (keys : List NamePair) (owner name : Word) → string_bytes k.owner ≡ owner → string_bytes k.name ≡ name →

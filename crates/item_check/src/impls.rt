@@ -60,11 +60,7 @@ fn has_asked(checker: &Checker, trait_: Option<&Node>, given: &NameTable) -> boo
 /// # Errors
 ///
 /// [`RuleError::Memory`] alone, where memory is wanted.
-pub fn is_whole(
-    checker: &Checker,
-    trait_: Option<&Node>,
-    methods: Nodes,
-) -> Result<bool, RuleError>
+pub fn is_whole(checker: &Checker, trait_: Option<&Node>, methods: Nodes) -> Result<bool, RuleError>
     ensures told { IfOk result (λ is. is ≡ rules.has_all (rules.asked_for checker.now.walk.items (name_seen trait_.entry)) (rules.method_names (nodes_of methods.entry))) }
     ensures short { IfErr result (λ e. e ≡ RuleError.Memory) }
 {

@@ -63,11 +63,7 @@ fn fn_item(
 /// # Errors
 ///
 /// The first rule that it breaks, with its place; [`RuleError::Memory`] where memory is wanted.
-pub fn item_rules(
-    checker: &mut Checker,
-    before: &mut Before,
-    node: &Node,
-) -> Result<(), RuleError>
+pub fn item_rules(checker: &mut Checker, before: &mut Before, node: &Node) -> Result<(), RuleError>
     ensures gives { GivesValue (λ u. had before.new) (rules.item_rules (env checker.old) (had before.old) (syn_of node.now) (state checker.old)) result checker.new }
     ensures same { OnOk result (Same checker.old checker.new) }
 {

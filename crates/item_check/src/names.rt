@@ -82,4 +82,3 @@ pub fn has_drop(given: &NameTable) -> bool
 {
     given.find("drop").is_some()
 }
-

@@ -10,8 +10,8 @@ ghost use Rattle.type_rows.specs.Stand.{GivesValue, Same, env, state};
 ghost use Rattle.typing_rules.specs.Program as rules;
 ghost use Rattle.item_check.specs.Forms.{closed_head, named_head, trait_fn, trait_head_by};
 
-use crate::names::{is_new, with_name};
 use crate::heads::head_rules;
+use crate::names::{is_new, with_name};
 use crate::receivers::{behind_self, takes_reference};
 use item_heads::{NameTable, broken, obeys};
 use mir_base::{Pos, Rule, RuleError};
