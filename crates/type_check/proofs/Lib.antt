@@ -1,0 +1,3 @@
+pub mod BodyForms
+pub mod EachItem
+pub mod Outside
