@@ -1,2 +1,3 @@
 pub mod Fewer
 pub mod Refusals
+pub mod Unread

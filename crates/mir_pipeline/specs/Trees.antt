@@ -2,6 +2,7 @@
 use Rattle.std.specs.Prelude.{◌≡◌, ℕ, List}
 use Rattle.std.specs.Str.{chars}
 use Rattle.mir_base.specs.declared.place_in_text.Pos.{Pos}
+use Rattle.mir_base.specs.declared.rule.RuleError.{RuleError}
 use Rattle.src_token.specs.declared.token.Spanned.{Spanned}
 use Rattle.src_token.specs.declared.token.LexError.{LexError}
 use Rattle.src_token.specs.Places.{place_after}
@@ -10,7 +11,7 @@ use Rattle.src_tree.specs.declared.node.Tree.{Tree}
 use Rattle.src_parse.specs.declared.error.ParseError.{ParseError}
 use Rattle.src_parse.specs.Answers.{IsTree, IsRefused as IsBadToken}
 use Rattle.mir_pipeline.specs.declared.refusal.Refusal.{Refusal}
-use Rattle.mir_pipeline.specs.declared.refusal.Refusal.TheVariants.{Lex, Syntax, TooDeep, Memory}
+use Rattle.mir_pipeline.specs.declared.refusal.Refusal.TheVariants.{Lex, Syntax, TooDeep, Broken, Memory}
 
 -- the place behind the last character
 abbrev pub end_place : List ℕ → Pos
@@ -33,6 +34,10 @@ of_tokens (ParseError.Syntax at pos) = Syntax at pos
 of_tokens (ParseError.TooDeep at pos) = TooDeep at pos
 of_tokens ParseError.Memory = Memory
 
+abbrev pub of_rule : RuleError → Refusal
+of_rule (RuleError.Broken rule at) = Broken rule at
+of_rule RuleError.Memory = Memory
+
 -- the text has no tokens, for this reason
 abbrev HasNoTokens : List ℕ → Refusal → Type 0
 HasNoTokens text refusal = (error : LexError) × Refused text error × (refusal ≡ refusal_of error)
@@ -43,9 +48,10 @@ HasNoTree text refusal =
     (tokens : List Spanned) × (error : ParseError) × Tokens text tokens × IsBadToken tokens (end_place text) error
     × (refusal ≡ of_tokens error)
 
--- the text is refused, for this reason; want of memory says nothing of it
+-- the text has no tree, for this reason, which is no rule of typing; want of memory says nothing of it
 abbrev pub IsRefused : List ℕ → Refusal → Type 0
 IsRefused text (Lex code at) = HasNoTokens text (Lex code at)
 IsRefused text (Syntax at pos) = HasNoTree text (Syntax at pos)
 IsRefused text (TooDeep at pos) = HasNoTree text (TooDeep at pos)
+IsRefused text (Broken rule at) = ⊥
 IsRefused text Memory = Unit {0}

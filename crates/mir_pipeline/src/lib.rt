@@ -3,6 +3,8 @@
 
 mod reading;
 mod refusal;
+mod typed;
 
 pub use reading::read_tree;
 pub use refusal::Refusal;
+pub use typed::read_typed;

@@ -1,8 +1,8 @@
 ghost use Rattle.std.specs.Prelude.{◌≡◌};
 ghost use Rattle.mir_pipeline.specs.declared.refusal.Refusal.{Refusal};
-ghost use Rattle.mir_pipeline.specs.Trees.{refusal_of, of_tokens};
+ghost use Rattle.mir_pipeline.specs.Trees.{refusal_of, of_rule, of_tokens};
 
-use mir_base::Pos;
+use mir_base::{Pos, Rule, RuleError};
 use src_parse::ParseError;
 use src_token::LexError;
 use std::error::Error;
@@ -20,6 +20,8 @@ pub enum Refusal {
     Syntax { at: u32, pos: Pos },
     /// Only trees that are nested more than 64 levels deep go on with the token of this number.
     TooDeep { at: u32, pos: Pos },
+    /// The tree breaks this rule of typing, and none before it.
+    Broken { rule: Rule, at: Pos },
     /// Memory was wanted and could not be had.
     Memory,
 }
@@ -30,6 +32,7 @@ impl fmt::Display for Refusal {
             Refusal::Lex { .. } => "the bytes are no tokens",
             Refusal::Syntax { .. } => "no text of the language goes on so",
             Refusal::TooDeep { .. } => "the text is nested too deep",
+            Refusal::Broken { .. } => "the program breaks a rule of the language",
             Refusal::Memory => "out of memory",
         };
         write!(f, "{text}")
@@ -62,6 +65,17 @@ impl From<ParseError> for Refusal {
             ParseError::Syntax { at, pos } => Refusal::Syntax { at, pos },
             ParseError::TooDeep { at, pos } => Refusal::TooDeep { at, pos },
             ParseError::Memory => Refusal::Memory,
+        }
+    }
+}
+
+impl From<RuleError> for Refusal {
+    ghost from_gives = { λ error refusal. refusal ≡ of_rule error };
+
+    fn from(error: RuleError) -> Refusal {
+        match error {
+            RuleError::Broken { rule, at } => Refusal::Broken { rule, at },
+            RuleError::Memory => Refusal::Memory,
         }
     }
 }
