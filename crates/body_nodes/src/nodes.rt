@@ -1,5 +1,6 @@
 ghost use Rattle.std.specs.Prelude.{◌≡◌, ◌++◌, IfOk, OnOk, map};
-ghost use Rattle.typed_tree.specs.Nodes.{nodes_of, nodes_in, nodes_among, nodes_of_fields, nodes_if_any, param_nodes, body_nodes};
+ghost use Rattle.typed_tree.specs.Nodes as below;
+ghost use Rattle.typed_tree.specs.Nodes.{nodes_in, nodes_among, nodes_of_fields, nodes_if_any, param_nodes, body_nodes};
 ghost use Rattle.typed_tree.specs.View.{tree_of, form_of, field_of, maybe_of, nodes_from, fields_from, param_tree, body_of};
 ghost use Rattle.body_nodes.specs.Listed.{trees};
 
@@ -10,7 +11,7 @@ use typed_tree::{Form, Node, NumberedField, Param, TBody};
 /// A node, and then the nodes below it, are put behind those found before.
 #[cycle(nodes)]
 fn add_node<'a>(node: &'a Node, found: &mut List<&'a Node>) -> Result<(), NoMemory>
-    ensures { OnOk result (trees found.new ≡ trees found.old ++ nodes_of (tree_of node.now)) }
+    ensures { OnOk result (trees found.new ≡ trees found.old ++ below.nodes_of (tree_of node.now)) }
 {
     found.push(node)?;
     add_in_form(&node.form, found)
@@ -185,6 +186,19 @@ fn add_if_any<'a>(
         Some(node) => add_node(node, found),
         None => Ok(()),
     }
+}
+
+/// A node and the nodes below it, in text order. It costs, and takes memory, by their number.
+///
+/// # Errors
+///
+/// [`NoMemory`] where memory is wanted.
+pub fn nodes_of<'a>(alloc: Global, node: &'a Node) -> Result<List<&'a Node>, NoMemory>
+    ensures { IfOk result (λ found. trees found ≡ below.nodes_of (tree_of node.now)) }
+{
+    let mut found = List::new(alloc);
+    add_node(node, &mut found)?;
+    Ok(found)
 }
 
 fn add_params<'a>(params: &'a [Param], found: &mut List<&'a Node>) -> Result<(), NoMemory>

@@ -18,15 +18,6 @@ use Rattle.borrow_rules.specs.declared.passings.Passing.{Passing}
 abbrev pub tree_in : Bor Node → tree.Node
 tree_in n = tree_of n.now
 
--- the nodes below a branch, an arm or a loop on a pattern
-abbrev pub branch_nodes : Form → List tree.Node
-branch_nodes (If condition body otherwise) = nodes_of condition ++ nodes_of body ++ nodes_if_any otherwise
-branch_nodes (IfLet pattern scrutinee body otherwise) =
-    nodes_of pattern ++ nodes_of scrutinee ++ nodes_of body ++ nodes_if_any otherwise
-branch_nodes (Arm pattern guard body) = nodes_of pattern ++ nodes_if_any guard ++ nodes_of body
-branch_nodes (WhileLet pattern scrutinee body) = nodes_of pattern ++ nodes_of scrutinee ++ nodes_of body
-branch_nodes _ = []
-
 abbrev pub key_no : Key → ℕ
 key_no key = key.0
 

@@ -4,8 +4,8 @@ ghost use Rattle.typed_tree.specs.View.{body_of, param_tree};
 ghost use Rattle.typing_rules.specs.Replaced as rules;
 ghost use Rattle.borrow_rules.specs.View.{fact_in, facts_with, tree_in};
 
-use crate::nodes::nodes_of;
 use crate::passings::{Passing, passings, stores};
+use body_nodes::nodes_of;
 use mir_base::{Key, List, NoMemory};
 use std::alloc::Global;
 use typed_tree::{Node, Param, TBody};

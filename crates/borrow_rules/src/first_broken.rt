@@ -9,9 +9,9 @@ ghost use Rattle.borrow_rules.specs.View.{params_in, passing_in};
 
 use crate::drop_bodies::{drop_bodies, is_drop_body};
 use crate::facts::ParamNo;
-use crate::nodes::nodes_of;
 use crate::passings::{Passing, passings, stores};
 use crate::replaceable::{is_replaced, replaceable};
+use body_nodes::nodes_of;
 use mir_base::{Key, NoMemory, Pos, Rule, RuleError};
 use mir_ty::Items;
 use place_accesses::{Told, tell};

@@ -5,7 +5,6 @@
 mod drop_bodies;
 mod facts;
 mod first_broken;
-mod nodes;
 mod passings;
 mod replaceable;
 
