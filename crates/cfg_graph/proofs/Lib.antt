@@ -1,6 +1,7 @@
 pub mod AllPresent
 pub mod AskedOfLines
 pub mod AskedOfLists
+pub mod Buckets
 mod Examples
 pub mod FiniteSize
 pub mod FiniteTypes

@@ -1,4 +1,5 @@
 pub mod Broken
+pub mod Buckets
 pub mod Cleanup
 pub mod Faults
 pub mod ItemFaults

@@ -1,6 +1,7 @@
 //! The first fault of a body, in the order of its listing.
-ghost use Rattle.std.specs.Prelude.{◌≡◌, ◌++◌, ◌<◌, ◌^◌, ◌-◌, length};
+ghost use Rattle.std.specs.Prelude.{◌≡◌, ◌++◌, ◌<◌, ◌^◌, ◌-◌, IsTrue, length};
 ghost use Rattle.cfg_graph.specs.WellFormed.Broken.{first_of};
+ghost use Rattle.cfg_graph.specs.WellFormed.Buckets.{RepeatsNone};
 ghost use Rattle.cfg_graph.specs.WellFormed.Questions.{AreTests};
 ghost use Rattle.cfg_graph.specs.WellFormed.LineFaults.{stmt_faults, local_faults, term_faults};
 ghost use Rattle.cfg_graph.specs.WellFormed.Faults.{IsCountedBody, nowhere, at_line, of_each, stmts_faults, block_faults, own_faults, locals_faults, faults_of_body};
@@ -100,10 +101,11 @@ fn locals_fault(graph: &Graph, tests: &TypeTests, number: u32, body: &Body) -> O
 }
 
 #[tactic(auto, using(crate::proofs::Rests::first_at_line))]
-fn own_fault(graph: &Graph, number: u32, body: &Body) -> Option<GraphFault>
+fn own_fault(graph: &Graph, number: u32, fresh: bool, body: &Body) -> Option<GraphFault>
+    requires { IsTrue fresh → RepeatsNone graph.now.items.bodies number }
     ensures { result ≡ first_of (own_faults graph.now number body.now) }
 {
-    let fault = body_fault(&graph.items, graph.bodies.len(), number, body);
+    let fault = body_fault(&graph.items, graph.bodies.len(), number, fresh, body);
     at(fault, number, NOWHERE, NOWHERE)
 }
 
@@ -124,19 +126,21 @@ fn locals_or_blocks(
     }
 }
 
-/// The first fault of the body with this number.
+/// The first fault of the body with this number, whose name is said to repeat none before it.
 #[tactic(auto, using(crate::proofs::Rests::first_of_both))]
 pub fn fault_of_body(
     graph: &Graph,
     tests: &TypeTests,
     number: u32,
+    fresh: bool,
     body: &Body,
 ) -> Option<GraphFault>
     requires tests { AreTests graph.now.items tests.now }
     requires counted { IsCountedBody body.now }
+    requires fresh { IsTrue fresh → RepeatsNone graph.now.items.bodies number }
     ensures { result ≡ first_of (faults_of_body graph.now number body.now) }
 {
-    match own_fault(graph, number, body) {
+    match own_fault(graph, number, fresh, body) {
         Some(fault) => Some(fault),
         None => locals_or_blocks(graph, tests, number, body),
     }

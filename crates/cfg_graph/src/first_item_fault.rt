@@ -1,12 +1,15 @@
 //! The first fault of the items of a graph, in the order of its listing.
-ghost use Rattle.std.specs.Prelude.{◌≡◌, ◌++◌, ◌+◌, ◌<◌, ◌^◌, length, option_map};
+ghost use Rattle.std.specs.Prelude.{◌≡◌, ◌++◌, ◌+◌, ◌<◌, ◌^◌, IsTrue, false, length, take, option_map};
+ghost use Rattle.std.specs.List.{list_any};
 ghost use Rattle.cfg_graph.specs.WellFormed.Broken.{first_of};
+ghost use Rattle.cfg_graph.specs.WellFormed.NameFaults.{same_name};
 ghost use Rattle.cfg_graph.specs.WellFormed.Questions.{AreTests};
 ghost use Rattle.cfg_graph.specs.WellFormed.ItemFaults.{adt_faults, trait_faults, impl_faults, closure_faults};
 ghost use Rattle.cfg_graph.specs.WellFormed.Faults.{nowhere, at_line, adts_faults, traits_faults, impls_faults, closures_faults, item_faults};
 
 use crate::impl_faults::{closure_fault, impl_fault};
 use crate::item_faults::{adt_fault, trait_fault};
+use crate::name_buckets::{BUCKETS, meet};
 use crate::type_faults::TypeTests;
 use crate::{Graph, GraphFault};
 use mir_ty::{Adt, ClosureDef, ImplDef, Items, TraitDef};
@@ -62,12 +65,28 @@ fn impl_count(items: &Items) -> u32
 }
 
 #[tactic(auto, using(crate::proofs::Rests::first_at_line))]
-fn adt_line(graph: &Graph, tests: &TypeTests, types: usize, n: u32, adt: &Adt) -> Option<GraphFault>
+fn adt_line(
+    graph: &Graph,
+    tests: &TypeTests,
+    types: usize,
+    n: u32,
+    fresh: bool,
+    adt: &Adt,
+) -> Option<GraphFault>
     requires tests { AreTests graph.now.items tests.now }
     requires types { types ≡ length graph.now.items.types }
+    requires fresh { IsTrue fresh → list_any (λ other. same_name adt.now.name other.name) (take n graph.now.items.adts) ≡ false }
     ensures { result ≡ first_of (at_line nowhere nowhere (0 + n) (adt_faults graph.now.items (length graph.now.bodies) n adt.now)) }
 {
-    let number = adt_fault(&graph.items, tests, graph.bodies.len(), types, n, adt);
+    let number = adt_fault(
+        &graph.items,
+        tests,
+        graph.bodies.len(),
+        types,
+        n,
+        fresh,
+        adt,
+    );
     at(number, NOWHERE, NOWHERE, n)
 }
 
@@ -76,9 +95,11 @@ fn adts_fault(graph: &Graph, tests: &TypeTests, types: usize) -> Option<GraphFau
     requires types { types ≡ length graph.now.items.types }
     ensures { result ≡ first_of (adts_faults graph.now) }
 {
+    let mut buckets = [false; BUCKETS];
     let mut n: u32 = 0;
     while let Some(adt) = graph.items.adt(n) {
-        if let Some(fault) = adt_line(graph, tests, types, n, adt) {
+        let fresh = meet(&mut buckets, &adt.name);
+        if let Some(fault) = adt_line(graph, tests, types, n, fresh, adt) {
             return Some(fault);
         }
         n += 1;
@@ -92,13 +113,15 @@ fn trait_line(
     tests: &TypeTests,
     before: u32,
     n: u32,
+    fresh: bool,
     def: &TraitDef,
 ) -> Option<GraphFault>
     requires tests { AreTests graph.now.items tests.now }
     requires few { before + n < 2 ^ 32 }
+    requires fresh { IsTrue fresh → list_any (λ other. same_name def.now.name other.name) (take n graph.now.items.traits) ≡ false }
     ensures { result ≡ first_of (at_line nowhere nowhere (before + n) (trait_faults graph.now.items (length graph.now.bodies) n def.now)) }
 {
-    let number = trait_fault(&graph.items, tests, graph.bodies.len(), n, def);
+    let number = trait_fault(&graph.items, tests, graph.bodies.len(), n, fresh, def);
     at(number, NOWHERE, NOWHERE, before + n)
 }
 
@@ -107,9 +130,11 @@ fn traits_fault(graph: &Graph, tests: &TypeTests, before: u32) -> Option<GraphFa
     requires before { before ≡ length graph.now.items.adts }
     ensures { result ≡ first_of (traits_faults graph.now) }
 {
+    let mut buckets = [false; BUCKETS];
     let mut n: u32 = 0;
     while let Some(def) = graph.items.trait_def(n) {
-        if let Some(fault) = trait_line(graph, tests, before, n, def) {
+        let fresh = meet(&mut buckets, &def.name);
+        if let Some(fault) = trait_line(graph, tests, before, n, fresh, def) {
             return Some(fault);
         }
         n += 1;

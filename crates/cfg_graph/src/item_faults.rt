@@ -1,5 +1,5 @@
 //! The first fault of the line of a struct or enum or of a trait.
-ghost use Rattle.std.specs.Prelude.{◌≡◌, ◌&&◌, not, true, false, length, slice_get, take, nat_lt};
+ghost use Rattle.std.specs.Prelude.{◌≡◌, ◌&&◌, IsTrue, not, true, false, length, slice_get, take, nat_lt};
 ghost use Rattle.std.specs.Cmp.Lexicographic.{pointwise};
 ghost use Rattle.std.specs.List.{list_any, list_all};
 ghost use Rattle.std.specs.Option.{option_copied, option_map_or};
@@ -151,13 +151,22 @@ fn variants_are_named(variants: &[Variant]) -> bool
     variants.iter().all(|variant| is_name(&variant.name))
 }
 
+/// The same, where a name whose bucket was empty repeats none.
+fn adt_name_repeats(items: &Items, n: u32, fresh: bool, name: &Name) -> bool
+    requires { IsTrue fresh → list_any (λ other. same_name name.now other.name) (take n items.now.adts) ≡ false }
+    ensures { result ≡ list_any (λ other. same_name name.now other.name) (take n items.now.adts) }
+{
+    !fresh && adt_name_is_taken(items, n, name)
+}
+
 #[tactic(auto, using(crate::proofs::Rests::few_mapped))]
-fn adt_has_names(items: &Items, bodies: usize, n: u32, adt: &Adt) -> bool
+fn adt_has_names(items: &Items, bodies: usize, n: u32, fresh: bool, adt: &Adt) -> bool
+    requires { IsTrue fresh → list_any (λ other. same_name adt.now.name other.name) (take n items.now.adts) ≡ false }
     ensures { result ≡ adt_names_stand items.now bodies n adt.now }
 {
     is_adt_name(&adt.name)
         && variants_are_named(adt.variants.as_slice())
-        && !adt_name_is_taken(items, n, &adt.name)
+        && !adt_name_repeats(items, n, fresh, &adt.name)
 }
 
 /// Whether the types of a struct or an enum, and its `Drop` body, exist.
@@ -189,20 +198,22 @@ fn adt_is_typed(
     adt_has_types(items, tests, bodies, n, adt) && !adt_is_held(items, tests, types, n)
 }
 
-/// The first fault of the line of the struct or enum with this number.
+/// The first fault of the line of the struct or enum with this number, whose name is said to repeat none before it.
 pub fn adt_fault(
     items: &Items,
     tests: &TypeTests,
     bodies: usize,
     types: usize,
     n: u32,
+    fresh: bool,
     adt: &Adt,
 ) -> Option<u8>
     requires tests { AreTests items.now tests.now }
     requires types { types ≡ length items.now.types }
+    requires fresh { IsTrue fresh → list_any (λ other. same_name adt.now.name other.name) (take n items.now.adts) ≡ false }
     ensures { result ≡ first_of (adt_faults items.now bodies n adt.now) }
 {
-    let named = unless(adt_has_names(items, bodies, n, adt), 7, None);
+    let named = unless(adt_has_names(items, bodies, n, fresh, adt), 7, None);
     let typed = unless(adt_is_typed(items, tests, bodies, types, n, adt), 3, named);
     unless(adt_exists(items, tests, bodies, adt), 1, typed)
 }
@@ -288,27 +299,38 @@ fn methods_are_named(methods: &[Sig]) -> bool
     methods.iter().all(|method| is_name(&method.name))
 }
 
+/// The same, where a name whose bucket was empty repeats none.
+fn trait_name_repeats(items: &Items, n: u32, fresh: bool, name: &Name) -> bool
+    requires { IsTrue fresh → list_any (λ other. same_name name.now other.name) (take n items.now.traits) ≡ false }
+    ensures { result ≡ list_any (λ other. same_name name.now other.name) (take n items.now.traits) }
+{
+    !fresh && trait_name_is_taken(items, n, name)
+}
+
 #[tactic(auto, using(crate::proofs::Rests::few_mapped))]
-fn trait_has_names(items: &Items, bodies: usize, n: u32, def: &TraitDef) -> bool
+fn trait_has_names(items: &Items, bodies: usize, n: u32, fresh: bool, def: &TraitDef) -> bool
+    requires { IsTrue fresh → list_any (λ other. same_name def.now.name other.name) (take n items.now.traits) ≡ false }
     ensures { result ≡ trait_names_stand items.now bodies n def.now }
 {
     is_name(&def.name)
         && methods_are_named(def.methods.as_slice())
-        && !trait_name_is_taken(items, n, &def.name)
+        && !trait_name_repeats(items, n, fresh, &def.name)
 }
 
-/// The first fault of the line of the trait with this number.
+/// The first fault of the line of the trait with this number, whose name is said to repeat none before it.
 pub fn trait_fault(
     items: &Items,
     tests: &TypeTests,
     bodies: usize,
     n: u32,
+    fresh: bool,
     def: &TraitDef,
 ) -> Option<u8>
-    requires { AreTests items.now tests.now }
+    requires tests { AreTests items.now tests.now }
+    requires fresh { IsTrue fresh → list_any (λ other. same_name def.now.name other.name) (take n items.now.traits) ≡ false }
     ensures { result ≡ first_of (trait_faults items.now bodies n def.now) }
 {
-    let named = unless(trait_has_names(items, bodies, n, def), 7, None);
+    let named = unless(trait_has_names(items, bodies, n, fresh, def), 7, None);
     let typed = unless(trait_places_dyn(items, tests, bodies, def), 3, named);
     unless(trait_exists(items, tests, bodies, def), 1, typed)
 }

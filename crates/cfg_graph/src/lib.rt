@@ -13,6 +13,7 @@ mod item_faults;
 mod laws;
 mod line_faults;
 mod line_places;
+mod name_buckets;
 mod name_faults;
 mod place;
 mod place_types;

@@ -1,11 +1,12 @@
 //! The first fault of the line of a statement, a terminator, a local or a body.
-ghost use Rattle.std.specs.Prelude.{◌≡◌, if◌then◌else◌, ◌==◌, ◌&&◌, true, false, slice_get, take, is_some, nat_lt, length};
+ghost use Rattle.std.specs.Prelude.{◌≡◌, if◌then◌else◌, ◌==◌, ◌&&◌, IsTrue, true, false, slice_get, take, is_some, nat_lt, length};
 ghost use Rattle.std.specs.List.{list_any};
 ghost use Rattle.std.specs.Option.{option_map_or};
 ghost use Rattle.store_model.specs.Concrete.Effects.{impl_of};
 ghost use Rattle.cfg_graph.specs.Edges.{targets};
 ghost use Rattle.cfg_graph.specs.WellFormed.Questions.{AreTests};
 ghost use Rattle.cfg_graph.specs.WellFormed.Broken.{first_of};
+ghost use Rattle.cfg_graph.specs.WellFormed.Buckets.{RepeatsNone};
 ghost use Rattle.cfg_graph.specs.WellFormed.NameFaults.{same_name};
 ghost use Rattle.cfg_graph.specs.WellFormed.LineFaults.{stmt_numbers_exist as stmt_names_exist, term_numbers_exist as term_names_exist, stmt_has_row as stmt_row, has_row as row_exists, stmt_faults, term_faults, local_faults, body_faults, is_sig_of as sig_is_of, has_sig as sig_fits, blocks_exist as targets_are, has_own_name as own_name};
 
@@ -181,12 +182,21 @@ fn body_name_is_taken(items: &Items, n: u32, name: &Name) -> bool
     false
 }
 
+/// The same, where a name whose bucket was empty repeats none.
+fn body_name_repeats(items: &Items, n: u32, fresh: bool, name: &Name) -> bool
+    requires { IsTrue fresh → list_any (λ other. same_name name.now other.name) (take n items.now.bodies) ≡ false }
+    ensures { result ≡ list_any (λ other. same_name name.now other.name) (take n items.now.bodies) }
+{
+    !fresh && body_name_is_taken(items, n, name)
+}
+
 #[tactic(auto, using(crate::proofs::Rests::few_mapped))]
-fn has_own_name(items: &Items, bodies: usize, n: u32) -> bool
+fn has_own_name(items: &Items, bodies: usize, n: u32, fresh: bool) -> bool
+    requires { IsTrue fresh → RepeatsNone items.now.bodies n }
     ensures { result ≡ option_map_or (own_name items.now bodies n) (slice_get items.now.bodies n) true }
 {
     match items.body_sig(n) {
-        Some(sig) => is_name(&sig.name) && !body_name_is_taken(items, n, &sig.name),
+        Some(sig) => is_name(&sig.name) && !body_name_repeats(items, n, fresh, &sig.name),
         None => true,
     }
 }
@@ -204,11 +214,12 @@ fn has_locals(body: &Body) -> bool
     (body.params as usize) < body.locals.len()
 }
 
-/// The first fault of the line of the body with this number.
-pub fn body_fault(items: &Items, bodies: usize, n: u32, body: &Body) -> Option<u8>
+/// The first fault of the line of the body with this number, whose name is said to repeat none before it.
+pub fn body_fault(items: &Items, bodies: usize, n: u32, fresh: bool, body: &Body) -> Option<u8>
+    requires { IsTrue fresh → RepeatsNone items.now.bodies n }
     ensures { result ≡ first_of (body_faults items.now bodies n body.now) }
 {
-    let named = unless(has_own_name(items, bodies, n), 7, None);
+    let named = unless(has_own_name(items, bodies, n, fresh), 7, None);
     let typed = unless(has_sig(items, bodies, n, body), 3, named);
     let placed = unless(has_locals(body), 2, typed);
     unless(has_blocks(body), 1, placed)

@@ -10,6 +10,7 @@ pub loop-body-preserved : goal.loop-body-preserved
 loop-body-preserved c = record {
   rest = fault_later (faults_of_body c.args.graph.now) c.args.graph.now.bodies c.loop-body.n c.loop-body.invariant.rest c.in-Some.body.now c.in-Some.ensures c.in_default-fault_of_body.ensures;
   within = let here : c.loop-body.n < length c.args.graph.now.bodies = within c.args.graph.now.bodies c.loop-body.n c.in-Some.body.now c.in-Some.ensures in omega arith;
+  met = c.body_is_fresh-fresh.ensures.met;
 }
 
 pub loop-body-smaller : goal.loop-body-smaller
