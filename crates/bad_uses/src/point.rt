@@ -5,10 +5,9 @@ ghost use Rattle.mir_ty.specs.Facts.{needs_drop as needs_drop_by};
 ghost use Rattle.cfg_graph.specs.Places.{place_id};
 ghost use Rattle.bad_uses.specs.Runs as runs;
 
-use cfg_graph::{Body, Kind, Place, Term};
+use cfg_graph::{Body, Kind, Place, Term, place_ty};
 use init_flow::target;
 use mir_ty::Items;
-use move_paths::place_ty;
 
 /// Where a run stands: before the entry to a block, within it, or on its first or second way out.
 #[derive(Clone, Copy)]

@@ -28,5 +28,6 @@ pub use graph::{Block, Body, Graph, GraphFault, Kind, rank};
 pub use laws::{law_of_holding, law_of_items, law_of_presence, law_of_ranks, law_of_whole_places};
 pub use mir_base::{Cmp, Math};
 pub use place::{Operand, Place, Step, Steps};
+pub use place_types::{place_ty, step_ty};
 pub use statement::Stmt;
 pub use terminator::{Term, Unwind};

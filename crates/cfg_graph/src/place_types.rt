@@ -6,7 +6,7 @@ ghost use Rattle.store_model.specs.Places.Place.{step_ty as step_type, ty_along 
 ghost use Rattle.store_model.specs.Places.TypeForms.{is_bool as bool_type, is_dyn as dyn_type, is_int, is_unit as unit_type, int_kind, box_content, referent, adt_of};
 ghost use Rattle.mir_ty.specs.declared.ty.Ty.TheVariants.{Int};
 ghost use Rattle.std.specs.Prelude.{Some};
-ghost use Rattle.cfg_graph.specs.Places.{place_id as place_number, named_step, ty_of_place as type_of_place, ty_of_operand};
+ghost use Rattle.cfg_graph.specs.Places.{place_id, named_step, ty_of_place as type_of_place, ty_of_operand};
 ghost use Rattle.cfg_graph.specs.WellFormed.Questions.{same_kinds};
 
 use crate::{Operand, Place, Step};
@@ -45,7 +45,7 @@ fn element(ty: &Ty) -> Option<TyId>
 }
 
 /// The type to which a step leads from a value of a type, if there is one.
-fn step_ty(items: &Items, step: Step, from: Option<TyId>) -> Option<TyId>
+pub fn step_ty(items: &Items, step: Step, from: Option<TyId>) -> Option<TyId>
     ensures { result ≡ option_and_then (step_type items.now (named_step step)) (option_and_then (type_at items.now) from) }
 {
     let id = from?;
@@ -69,9 +69,10 @@ fn ty_along(items: &Items, steps: &[Step], id: TyId) -> Option<TyId>
     at
 }
 
-/// The number of the type of a place; `None` where the local or a step does not exist.
-pub fn place_id(items: &Items, locals: &[TyId], place: &Place) -> Option<TyId>
-    ensures { result ≡ place_number items.now locals.now place.now }
+/// The type of a place by the types of the locals; `None` where the local or a step does not exist. It costs a step for
+/// each step of the place.
+pub fn place_ty(items: &Items, locals: &[TyId], place: &Place) -> Option<TyId>
+    ensures { result ≡ place_id items.now locals.now place.now }
 {
     let local = locals.get(place.local as usize)?;
     ty_along(items, place.steps.as_slice(), *local)
@@ -81,7 +82,7 @@ pub fn place_id(items: &Items, locals: &[TyId], place: &Place) -> Option<TyId>
 pub fn ty_of_place<'a>(items: &'a Items, locals: &[TyId], place: &Place) -> Option<&'a Ty>
     ensures { option_copied result ≡ type_of_place items.now locals.now place.now }
 {
-    items.ty(place_id(items, locals, place)?)
+    items.ty(place_ty(items, locals, place)?)
 }
 
 pub fn is_bool(ty: Option<&Ty>) -> bool

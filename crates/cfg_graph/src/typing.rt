@@ -17,7 +17,7 @@ use crate::line_places::{
 };
 use crate::place_types::{
     are_one_kind, content_of_box, is_bool, is_dyn, kind_of, number_of_adt, operand_content,
-    operand_is_bool, operand_is_dyn, operand_kind, place_id, referent_of, same_kind, ty_of_place,
+    operand_is_bool, operand_is_dyn, operand_kind, place_ty, referent_of, same_kind, ty_of_place,
 };
 use crate::{Operand, Place, Stmt, Term};
 use mir_base::{IntKind, Why, greatest, least};
@@ -49,7 +49,7 @@ fn is_variant_of_enum(items: &Items, adt: u32, variant: u32) -> bool
 fn has_id(items: &Items, locals: &[TyId], place: &Place, id: TyId) -> bool
     ensures { result ≡ option_map_or (same_id id) (place_number items.now locals.now place.now) false }
 {
-    match place_id(items, locals, place) {
+    match place_ty(items, locals, place) {
         Some(found) => id.0 == found.0,
         None => false,
     }
@@ -104,7 +104,7 @@ fn calls(items: &Items, locals: &[TyId], to: &Place, args: &[Operand], sig: &Sig
 fn puts(items: &Items, locals: &[TyId], to: &Place, from: &Operand) -> bool
     ensures { result ≡ option_map_or (λ id. operand_has items.now locals.now id from.now) (place_number items.now locals.now to.now) false }
 {
-    match place_id(items, locals, to) {
+    match place_ty(items, locals, to) {
         Some(id) => operand_is(items, locals, id, from),
         None => false,
     }
@@ -208,7 +208,7 @@ fn is_dyn_box(items: &Items, locals: &[TyId], to: &Place, trait_no: u32) -> bool
 fn borrows(items: &Items, locals: &[TyId], to: &Place, unique: bool, of: &Place) -> bool
     ensures { result ≡ option_map_or (λ id. option_map_or (same_id id) (referent unique (type_of_place items.now locals.now to.now)) false) (place_number items.now locals.now of.now) false }
 {
-    match place_id(items, locals, of) {
+    match place_ty(items, locals, of) {
         Some(id) => match referent_of(unique, ty_of_place(items, locals, to)) {
             Some(found) => id.0 == found.0,
             None => false,

@@ -8,10 +8,9 @@ ghost use Rattle.code_lines.specs.Framed.{frame_of, stored, stored_in};
 
 use crate::frames::Frame;
 use crate::places::place;
-use cfg_graph::{Place, Stmt};
+use cfg_graph::{Place, Stmt, place_ty};
 use mir_base::NoMemory;
 use mir_ty::Ty;
-use move_paths::place_ty;
 use scope_code::Action;
 use std::alloc::Global;
 

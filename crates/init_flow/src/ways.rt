@@ -7,9 +7,8 @@ ghost use Rattle.mir_ty.specs.Facts.{needs_drop};
 ghost use Rattle.cfg_graph.specs.Edges.{unwind_exit, ways_out};
 ghost use Rattle.init_flow.specs.Ways.{target as target_of, way_target, exit_at, block_of, on_paths, way_count};
 
-use cfg_graph::{Body, Place, Term, Unwind};
+use cfg_graph::{Body, Place, Term, Unwind, place_ty};
 use mir_ty::{Items, Ty};
-use move_paths::place_ty;
 
 fn unwind_block(unwind: &Unwind) -> Option<u32>
     ensures { result ≡ block_of (unwind_exit unwind.now) }

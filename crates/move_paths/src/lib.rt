@@ -10,5 +10,4 @@ mod uses;
 
 pub use forest::{Forest, Found, paths};
 pub use trie::Near;
-pub use types::place_ty;
 pub use uses::{Use, Used, result_place, stmt_uses, term_uses};

@@ -10,9 +10,8 @@ ghost use Rattle.body_nodes.specs.Listed.{trees};
 ghost use Rattle.place_words.specs.Words as words;
 
 use crate::steps::{put, put_steps};
-use crate::types::step_ty;
 use body_locals::Local;
-use cfg_graph::{Place, Step};
+use cfg_graph::{Place, Step, step_ty};
 use mir_base::{Key, Name, NoMemory};
 use mir_ty::{Items, TyId};
 use std::alloc::Global;

@@ -7,8 +7,8 @@ ghost use Rattle.cfg_graph.specs.Places.{named_step};
 ghost use Rattle.mir_ty.specs.ItemTable.{type_at};
 ghost use Rattle.place_words.specs.Words.{named_field, step_words, steps_words, variant_name};
 
-use crate::types::{step_ty, variant_at};
-use cfg_graph::Step;
+use crate::types::variant_at;
+use cfg_graph::{Step, step_ty};
 use mir_base::NoMemory;
 use mir_ty::{Items, TyId, Variant};
 use std::fmt::Write;
