@@ -2,7 +2,7 @@
 ghost use Rattle.std.specs.Prelude.{◌≡◌, ◌++◌, ◌+◌, ◌≤◌, ◌<◌, ◌^◌, IsTrue, length, zip, MatchResult, Some};
 ghost use Rattle.std.specs.List.{list_any};
 ghost use Rattle.cfg_graph.specs.WellFormed.Broken.{first_of};
-ghost use Rattle.cfg_graph.specs.WellFormed.Buckets.{AreMet, RepeatsNone};
+ghost use Rattle.cfg_graph.specs.WellFormed.Buckets.{bucket as bucket_of, AreMet, RepeatsNone};
 ghost use Rattle.cfg_graph.specs.WellFormed.Questions.{AreTests};
 ghost use Rattle.cfg_graph.specs.WellFormed.Faults.{IsCounted, of_each, faults_of_body, is_main as main_is, end_faults, faults, first_fault as first_of_faults, IsWellFormed};
 
@@ -16,9 +16,9 @@ use mir_ty::{Items, Sig};
 
 /// Whether the bucket of the name of the body with this number was empty.
 fn body_is_fresh(items: &Items, buckets: &mut [bool], n: u32) -> bool
-    requires { AreMet (λ sig. sig.name) items.now.bodies n buckets.old }
+    requires { AreMet (λ sig. bucket_of sig.name) items.now.bodies n buckets.old }
     ensures fresh { IsTrue result → RepeatsNone items.now.bodies n }
-    ensures met { AreMet (λ sig. sig.name) items.now.bodies (n + 1) buckets.new }
+    ensures met { AreMet (λ sig. bucket_of sig.name) items.now.bodies (n + 1) buckets.new }
 {
     match items.body_sig(n) {
         Some(sig) => meet(buckets, &sig.name),
@@ -166,12 +166,12 @@ fn any_fault(graph: &Graph) -> Option<GraphFault>
 ///
 /// It takes no memory, and on the stack about 400 KB for tables of the types and 130 KB for buckets of names, or 660 KB
 /// where a type holds itself. It goes over each line once, and over the types as often as types stand in one another in
-/// the wrong order of their numbers, which is mostly twice. The name of a struct, an enum, a trait or a body is looked for
-/// among all before it only where its bucket, one of 131,072, is taken by a name before it: by chance about one name in
-/// twenty of 13,000. An impl is looked for among all before it; each `call` and each body of an impl looks at all structs
-/// and enums for `Drop` bodies, each `unsize` at all impls. Where some type holds itself, the types are gone over again for
-/// each struct, enum and closure from which there is a way to it. A graph of more than 131,072 types, as no listing has, is
-/// tested without tables, along all ways from a type to those in it.
+/// the wrong order of their numbers, which is mostly twice. The name of a struct, an enum, a trait or a body, and an impl,
+/// are looked for among all before them only where their bucket, one of 131,072, is taken by one before: by chance about
+/// one in twenty of 13,000. Each `call` and each body of an impl looks at all structs and enums for `Drop` bodies, each
+/// `unsize` at all impls. Where some type holds itself, the types are gone over again for each struct, enum and closure
+/// from which there is a way to it. A graph of more than 131,072 types, as no listing has, is tested without tables, along
+/// all ways from a type to those in it.
 pub fn well_formed(graph: &Graph) -> Result<(), GraphFault>
     requires { IsCounted graph.now }
     ensures { MatchResult result (λ done. IsWellFormed graph.now) (λ fault. first_of_faults graph.now ≡ Some fault) }
