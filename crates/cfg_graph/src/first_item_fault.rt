@@ -95,7 +95,7 @@ fn adts_fault(graph: &Graph, tests: &TypeTests, types: usize) -> Option<GraphFau
     requires types { types ≡ length graph.now.items.types }
     ensures { result ≡ first_of (adts_faults graph.now) }
 {
-    let mut buckets = [false; BUCKETS];
+    let mut buckets = [0u8; BUCKETS];
     let mut n: u32 = 0;
     while let Some(adt) = graph.items.adt(n) {
         let fresh = meet(&mut buckets, &adt.name);
@@ -130,7 +130,7 @@ fn traits_fault(graph: &Graph, tests: &TypeTests, before: u32) -> Option<GraphFa
     requires before { before ≡ length graph.now.items.adts }
     ensures { result ≡ first_of (traits_faults graph.now) }
 {
-    let mut buckets = [false; BUCKETS];
+    let mut buckets = [0u8; BUCKETS];
     let mut n: u32 = 0;
     while let Some(def) = graph.items.trait_def(n) {
         let fresh = meet(&mut buckets, &def.name);
@@ -156,7 +156,7 @@ fn impls_fault(graph: &Graph, before: u32) -> Option<GraphFault>
     requires { before ≡ length graph.now.items.adts + length graph.now.items.traits }
     ensures { result ≡ first_of (impls_faults graph.now) }
 {
-    let mut buckets = [false; BUCKETS];
+    let mut buckets = [0u8; BUCKETS];
     let mut n: u32 = 0;
     while let Some(def) = graph.items.impl_def(n) {
         let fresh = meet_impl(&mut buckets, def);

@@ -127,7 +127,7 @@ fn impl_is_taken(items: &Items, n: u32, def: &ImplDef) -> bool
     false
 }
 
-/// The same, where an impl whose bucket was empty repeats none.
+/// The same, where an impl that is fresh repeats none.
 fn impl_repeats(items: &Items, n: u32, fresh: bool, def: &ImplDef) -> bool
     requires { IsTrue fresh → is_repeated_impl items.now.impls n def.now ≡ false }
     ensures { result ≡ is_repeated_impl items.now.impls n def.now }
@@ -135,7 +135,7 @@ fn impl_repeats(items: &Items, n: u32, fresh: bool, def: &ImplDef) -> bool
     !fresh && impl_is_taken(items, n, def)
 }
 
-/// The first fault of the line of the impl with this number, which is said to repeat none before it.
+/// The first fault of the line of the impl with this number, which, if it is fresh, repeats none before it.
 pub fn impl_fault(items: &Items, bodies: usize, n: u32, fresh: bool, def: &ImplDef) -> Option<u8>
     requires { IsTrue fresh → is_repeated_impl items.now.impls n def.now ≡ false }
     ensures { result ≡ first_of (impl_faults items.now bodies n def.now) }

@@ -1,6 +1,6 @@
 use Rattle.std.proofs.Common.{ℕ, ◌+◌, ◌<◌, length, arith}
 use Rattle.mir_ty.specs.declared.adt.Adt.{Adt}
-use Rattle.cfg_graph.specs.WellFormed.Buckets.{bucket}
+use Rattle.cfg_graph.specs.WellFormed.Buckets.{name_key}
 use Rattle.cfg_graph.specs.WellFormed.ItemFaults.{adt_faults}
 use Rattle.cfg_graph.specs.WellFormed.Faults.{nowhere, at_line}
 use Rattle.cfg_graph.proofs.Buckets.{one_met, name_repeats_none}
@@ -14,7 +14,7 @@ pub loop-adt-preserved : goal.loop-adt-preserved
 loop-adt-preserved c = record {
   rest = fault_later (λ (n : ℕ) (item : Adt). at_line nowhere nowhere (0 + n) (adt_faults c.args.graph.now.items (length c.args.graph.now.bodies) n item)) c.args.graph.now.items.adts c.loop-adt.n c.loop-adt.invariant.rest c.in-Some.adt.now c.in-Some.ensures.value c.in_default-adt_line.ensures;
   within = let here : c.loop-adt.n < length c.args.graph.now.items.adts = within c.args.graph.now.items.adts c.loop-adt.n c.in-Some.adt.now c.in-Some.ensures.value in omega arith;
-  met = one_met (λ (one : Adt). bucket one.name) c.args.graph.now.items.adts c.loop-adt.n c.in-Some.adt.now c.loop-adt.buckets _ c.loop-adt.invariant.met c.in-Some.ensures.value c.meet-fresh.ensures.kept c.meet-fresh.ensures.met c.meet-fresh.ensures.enough;
+  met = one_met (λ (one : Adt). name_key one.name) c.args.graph.now.items.adts c.loop-adt.n c.in-Some.adt.now c.loop-adt.buckets _ c.loop-adt.invariant.met c.in-Some.ensures.value c.meet-fresh.ensures.kept c.meet-fresh.ensures.met c.meet-fresh.ensures.enough;
 }
 
 pub loop-adt-smaller : goal.loop-adt-smaller

@@ -1,6 +1,6 @@
 use Rattle.std.proofs.Common.{ℕ, ◌+◌, ◌<◌, length, arith}
 use Rattle.mir_ty.specs.declared.def.TraitDef.{TraitDef}
-use Rattle.cfg_graph.specs.WellFormed.Buckets.{bucket}
+use Rattle.cfg_graph.specs.WellFormed.Buckets.{name_key}
 use Rattle.cfg_graph.specs.WellFormed.ItemFaults.{trait_faults}
 use Rattle.cfg_graph.specs.WellFormed.Faults.{nowhere, at_line}
 use Rattle.cfg_graph.proofs.Buckets.{one_met, name_repeats_none}
@@ -14,7 +14,7 @@ pub loop-def-preserved : goal.loop-def-preserved
 loop-def-preserved c = record {
   rest = fault_later (λ (n : ℕ) (item : TraitDef). at_line nowhere nowhere (length c.args.graph.now.items.adts + n) (trait_faults c.args.graph.now.items (length c.args.graph.now.bodies) n item)) c.args.graph.now.items.traits c.loop-def.n c.loop-def.invariant.rest c.in-Some.def.now c.in-Some.ensures.value (rw c.requires.before at c.in_default-trait_line.ensures);
   within = let here : c.loop-def.n < length c.args.graph.now.items.traits = within c.args.graph.now.items.traits c.loop-def.n c.in-Some.def.now c.in-Some.ensures.value in omega arith;
-  met = one_met (λ (one : TraitDef). bucket one.name) c.args.graph.now.items.traits c.loop-def.n c.in-Some.def.now c.loop-def.buckets _ c.loop-def.invariant.met c.in-Some.ensures.value c.meet-fresh.ensures.kept c.meet-fresh.ensures.met c.meet-fresh.ensures.enough;
+  met = one_met (λ (one : TraitDef). name_key one.name) c.args.graph.now.items.traits c.loop-def.n c.in-Some.def.now c.loop-def.buckets _ c.loop-def.invariant.met c.in-Some.ensures.value c.meet-fresh.ensures.kept c.meet-fresh.ensures.met c.meet-fresh.ensures.enough;
 }
 
 pub loop-def-smaller : goal.loop-def-smaller
