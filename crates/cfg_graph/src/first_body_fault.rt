@@ -126,7 +126,7 @@ fn locals_or_blocks(
     }
 }
 
-/// The first fault of the body with this number, whose name is said to repeat none before it.
+/// The first fault of the body with this number, whose name, if it is fresh, repeats none before it.
 #[tactic(auto, using(crate::proofs::Rests::first_of_both))]
 pub fn fault_of_body(
     graph: &Graph,

@@ -2,7 +2,7 @@
 ghost use Rattle.std.specs.Prelude.{◌≡◌, ◌++◌, ◌+◌, ◌≤◌, ◌<◌, ◌^◌, IsTrue, length, zip, MatchResult, Some};
 ghost use Rattle.std.specs.List.{list_any};
 ghost use Rattle.cfg_graph.specs.WellFormed.Broken.{first_of};
-ghost use Rattle.cfg_graph.specs.WellFormed.Buckets.{AreMet, RepeatsNone};
+ghost use Rattle.cfg_graph.specs.WellFormed.Buckets.{name_key as key_of_name, AreMet, RepeatsNone};
 ghost use Rattle.cfg_graph.specs.WellFormed.Questions.{AreTests};
 ghost use Rattle.cfg_graph.specs.WellFormed.Faults.{IsCounted, of_each, faults_of_body, is_main as main_is, end_faults, faults, first_fault as first_of_faults, IsWellFormed};
 
@@ -14,11 +14,11 @@ use crate::type_faults::{MOST_TYPES, Question, TypeTests, find_out, type_count};
 use crate::{Body, Graph, GraphFault};
 use mir_ty::{Items, Sig};
 
-/// Whether the bucket of the name of the body with this number was empty.
-fn body_is_fresh(items: &Items, buckets: &mut [bool], n: u32) -> bool
-    requires { AreMet (λ sig. sig.name) items.now.bodies n buckets.old }
+/// Whether the bucket of the name of the body with this number showed that it was not met before.
+fn body_is_fresh(items: &Items, buckets: &mut [u8], n: u32) -> bool
+    requires { AreMet (λ sig. key_of_name sig.name) items.now.bodies n buckets.old }
     ensures fresh { IsTrue result → RepeatsNone items.now.bodies n }
-    ensures met { AreMet (λ sig. sig.name) items.now.bodies (n + 1) buckets.new }
+    ensures met { AreMet (λ sig. key_of_name sig.name) items.now.bodies (n + 1) buckets.new }
 {
     match items.body_sig(n) {
         Some(sig) => meet(buckets, &sig.name),
@@ -31,7 +31,7 @@ fn bodies_fault(graph: &Graph, tests: &TypeTests) -> Option<GraphFault>
     requires counted { IsCounted graph.now }
     ensures { result ≡ first_of (of_each (faults_of_body graph.now) 0 graph.now.bodies) }
 {
-    let mut buckets = [false; BUCKETS];
+    let mut buckets = [0u8; BUCKETS];
     let mut n: u32 = 0;
     while let Some(body) = graph.bodies.get(n as usize) {
         let fresh = body_is_fresh(&graph.items, &mut buckets, n);
@@ -166,12 +166,12 @@ fn any_fault(graph: &Graph) -> Option<GraphFault>
 ///
 /// It takes no memory, and on the stack about 400 KB for tables of the types and 130 KB for buckets of names, or 660 KB
 /// where a type holds itself. It goes over each line once, and over the types as often as types stand in one another in
-/// the wrong order of their numbers, which is mostly twice. The name of a struct, an enum, a trait or a body is looked for
-/// among all before it only where its bucket, one of 131,072, is taken by a name before it: by chance about one name in
-/// twenty of 13,000. An impl is looked for among all before it; each `call` and each body of an impl looks at all structs
-/// and enums for `Drop` bodies, each `unsize` at all impls. Where some type holds itself, the types are gone over again for
-/// each struct, enum and closure from which there is a way to it. A graph of more than 131,072 types, as no listing has, is
-/// tested without tables, along all ways from a type to those in it.
+/// the wrong order of their numbers, which is mostly twice. The name of a struct, an enum, a trait or a body, and an impl,
+/// are looked for among all before them only where their bucket, one of 131,072, has the same mark, one of 251, or has had
+/// two: by chance about twenty of 13,000. Each `call` and each body of an impl looks at all structs and enums for `Drop`
+/// bodies, each `unsize` at all impls. Where some type holds itself, the types are gone over again for each struct, enum
+/// and closure from which there is a way to it. A graph of more than 131,072 types, as no listing has, is tested without
+/// tables, along all ways from a type to those in it.
 pub fn well_formed(graph: &Graph) -> Result<(), GraphFault>
     requires { IsCounted graph.now }
     ensures { MatchResult result (λ done. IsWellFormed graph.now) (λ fault. first_of_faults graph.now ≡ Some fault) }

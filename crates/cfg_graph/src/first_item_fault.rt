@@ -2,14 +2,14 @@
 ghost use Rattle.std.specs.Prelude.{◌≡◌, ◌++◌, ◌+◌, ◌<◌, ◌^◌, IsTrue, false, length, take, option_map};
 ghost use Rattle.std.specs.List.{list_any};
 ghost use Rattle.cfg_graph.specs.WellFormed.Broken.{first_of};
-ghost use Rattle.cfg_graph.specs.WellFormed.NameFaults.{same_name};
+ghost use Rattle.cfg_graph.specs.WellFormed.NameFaults.{same_name, is_repeated_impl};
 ghost use Rattle.cfg_graph.specs.WellFormed.Questions.{AreTests};
 ghost use Rattle.cfg_graph.specs.WellFormed.ItemFaults.{adt_faults, trait_faults, impl_faults, closure_faults};
 ghost use Rattle.cfg_graph.specs.WellFormed.Faults.{nowhere, at_line, adts_faults, traits_faults, impls_faults, closures_faults, item_faults};
 
 use crate::impl_faults::{closure_fault, impl_fault};
 use crate::item_faults::{adt_fault, trait_fault};
-use crate::name_buckets::{BUCKETS, meet};
+use crate::name_buckets::{BUCKETS, meet, meet_impl};
 use crate::type_faults::TypeTests;
 use crate::{Graph, GraphFault};
 use mir_ty::{Adt, ClosureDef, ImplDef, Items, TraitDef};
@@ -95,7 +95,7 @@ fn adts_fault(graph: &Graph, tests: &TypeTests, types: usize) -> Option<GraphFau
     requires types { types ≡ length graph.now.items.types }
     ensures { result ≡ first_of (adts_faults graph.now) }
 {
-    let mut buckets = [false; BUCKETS];
+    let mut buckets = [0u8; BUCKETS];
     let mut n: u32 = 0;
     while let Some(adt) = graph.items.adt(n) {
         let fresh = meet(&mut buckets, &adt.name);
@@ -130,7 +130,7 @@ fn traits_fault(graph: &Graph, tests: &TypeTests, before: u32) -> Option<GraphFa
     requires before { before ≡ length graph.now.items.adts }
     ensures { result ≡ first_of (traits_faults graph.now) }
 {
-    let mut buckets = [false; BUCKETS];
+    let mut buckets = [0u8; BUCKETS];
     let mut n: u32 = 0;
     while let Some(def) = graph.items.trait_def(n) {
         let fresh = meet(&mut buckets, &def.name);
@@ -143,11 +143,12 @@ fn traits_fault(graph: &Graph, tests: &TypeTests, before: u32) -> Option<GraphFa
 }
 
 #[tactic(auto, using(crate::proofs::Rests::first_at_line))]
-fn impl_line(graph: &Graph, before: u32, n: u32, def: &ImplDef) -> Option<GraphFault>
-    requires { before + n < 2 ^ 32 }
+fn impl_line(graph: &Graph, before: u32, n: u32, fresh: bool, def: &ImplDef) -> Option<GraphFault>
+    requires few { before + n < 2 ^ 32 }
+    requires fresh { IsTrue fresh → is_repeated_impl graph.now.items.impls n def.now ≡ false }
     ensures { result ≡ first_of (at_line nowhere nowhere (before + n) (impl_faults graph.now.items (length graph.now.bodies) n def.now)) }
 {
-    let number = impl_fault(&graph.items, graph.bodies.len(), n, def);
+    let number = impl_fault(&graph.items, graph.bodies.len(), n, fresh, def);
     at(number, NOWHERE, NOWHERE, before + n)
 }
 
@@ -155,9 +156,11 @@ fn impls_fault(graph: &Graph, before: u32) -> Option<GraphFault>
     requires { before ≡ length graph.now.items.adts + length graph.now.items.traits }
     ensures { result ≡ first_of (impls_faults graph.now) }
 {
+    let mut buckets = [0u8; BUCKETS];
     let mut n: u32 = 0;
     while let Some(def) = graph.items.impl_def(n) {
-        if let Some(fault) = impl_line(graph, before, n, def) {
+        let fresh = meet_impl(&mut buckets, def);
+        if let Some(fault) = impl_line(graph, before, n, fresh, def) {
             return Some(fault);
         }
         n += 1;

@@ -1,5 +1,5 @@
 //! The first fault of the line of an impl or a closure.
-ghost use Rattle.std.specs.Prelude.{◌≡◌, ◌&&◌, not, false, length, slice_get, nat_lt};
+ghost use Rattle.std.specs.Prelude.{◌≡◌, ◌&&◌, IsTrue, not, false, length, slice_get, nat_lt};
 ghost use Rattle.std.specs.Cmp.Lexicographic.{pointwise};
 ghost use Rattle.std.specs.List.{list_all};
 ghost use Rattle.std.specs.Option.{option_copied, option_map_or};
@@ -127,11 +127,20 @@ fn impl_is_taken(items: &Items, n: u32, def: &ImplDef) -> bool
     false
 }
 
-/// The first fault of the line of the impl with this number.
-pub fn impl_fault(items: &Items, bodies: usize, n: u32, def: &ImplDef) -> Option<u8>
+/// The same, where an impl that is fresh repeats none.
+fn impl_repeats(items: &Items, n: u32, fresh: bool, def: &ImplDef) -> bool
+    requires { IsTrue fresh → is_repeated_impl items.now.impls n def.now ≡ false }
+    ensures { result ≡ is_repeated_impl items.now.impls n def.now }
+{
+    !fresh && impl_is_taken(items, n, def)
+}
+
+/// The first fault of the line of the impl with this number, which, if it is fresh, repeats none before it.
+pub fn impl_fault(items: &Items, bodies: usize, n: u32, fresh: bool, def: &ImplDef) -> Option<u8>
+    requires { IsTrue fresh → is_repeated_impl items.now.impls n def.now ≡ false }
     ensures { result ≡ first_of (impl_faults items.now bodies n def.now) }
 {
-    let named = unless(!impl_is_taken(items, n, def), 7, None);
+    let named = unless(!impl_repeats(items, n, fresh, def), 7, None);
     let typed = unless(impl_is_typed(items, bodies, def), 3, named);
     unless(impl_exists(items, bodies, def), 1, typed)
 }

@@ -151,7 +151,7 @@ fn variants_are_named(variants: &[Variant]) -> bool
     variants.iter().all(|variant| is_name(&variant.name))
 }
 
-/// The same, where a name whose bucket was empty repeats none.
+/// The same, where a name that is fresh repeats none.
 fn adt_name_repeats(items: &Items, n: u32, fresh: bool, name: &Name) -> bool
     requires { IsTrue fresh → list_any (λ other. same_name name.now other.name) (take n items.now.adts) ≡ false }
     ensures { result ≡ list_any (λ other. same_name name.now other.name) (take n items.now.adts) }
@@ -198,7 +198,7 @@ fn adt_is_typed(
     adt_has_types(items, tests, bodies, n, adt) && !adt_is_held(items, tests, types, n)
 }
 
-/// The first fault of the line of the struct or enum with this number, whose name is said to repeat none before it.
+/// The first fault of the line of the struct or enum with this number, whose name, if it is fresh, repeats none before it.
 pub fn adt_fault(
     items: &Items,
     tests: &TypeTests,
@@ -299,7 +299,7 @@ fn methods_are_named(methods: &[Sig]) -> bool
     methods.iter().all(|method| is_name(&method.name))
 }
 
-/// The same, where a name whose bucket was empty repeats none.
+/// The same, where a name that is fresh repeats none.
 fn trait_name_repeats(items: &Items, n: u32, fresh: bool, name: &Name) -> bool
     requires { IsTrue fresh → list_any (λ other. same_name name.now other.name) (take n items.now.traits) ≡ false }
     ensures { result ≡ list_any (λ other. same_name name.now other.name) (take n items.now.traits) }
@@ -317,7 +317,7 @@ fn trait_has_names(items: &Items, bodies: usize, n: u32, fresh: bool, def: &Trai
         && !trait_name_repeats(items, n, fresh, &def.name)
 }
 
-/// The first fault of the line of the trait with this number, whose name is said to repeat none before it.
+/// The first fault of the line of the trait with this number, whose name, if it is fresh, repeats none before it.
 pub fn trait_fault(
     items: &Items,
     tests: &TypeTests,

@@ -182,7 +182,7 @@ fn body_name_is_taken(items: &Items, n: u32, name: &Name) -> bool
     false
 }
 
-/// The same, where a name whose bucket was empty repeats none.
+/// The same, where a name that is fresh repeats none.
 fn body_name_repeats(items: &Items, n: u32, fresh: bool, name: &Name) -> bool
     requires { IsTrue fresh → list_any (λ other. same_name name.now other.name) (take n items.now.bodies) ≡ false }
     ensures { result ≡ list_any (λ other. same_name name.now other.name) (take n items.now.bodies) }
@@ -214,7 +214,7 @@ fn has_locals(body: &Body) -> bool
     (body.params as usize) < body.locals.len()
 }
 
-/// The first fault of the line of the body with this number, whose name is said to repeat none before it.
+/// The first fault of the line of the body with this number, whose name, if it is fresh, repeats none before it.
 pub fn body_fault(items: &Items, bodies: usize, n: u32, fresh: bool, body: &Body) -> Option<u8>
     requires { IsTrue fresh → RepeatsNone items.now.bodies n }
     ensures { result ≡ first_of (body_faults items.now bodies n body.now) }

@@ -1,8 +1,9 @@
 use Rattle.std.proofs.Common.{ℕ, ◌+◌, ◌<◌, length, arith}
 use Rattle.mir_ty.specs.declared.adt.Adt.{Adt}
+use Rattle.cfg_graph.specs.WellFormed.Buckets.{name_key}
 use Rattle.cfg_graph.specs.WellFormed.ItemFaults.{adt_faults}
 use Rattle.cfg_graph.specs.WellFormed.Faults.{nowhere, at_line}
-use Rattle.cfg_graph.proofs.Buckets.{one_met, repeats_none}
+use Rattle.cfg_graph.proofs.Buckets.{one_met, name_repeats_none}
 use Rattle.cfg_graph.proofs.Rests.{within, fault_here, fault_later, fault_nowhere}
 use Rattle.cfg_graph.proofs.first_item_fault.adts_fault.Goals as goal
 
@@ -13,7 +14,7 @@ pub loop-adt-preserved : goal.loop-adt-preserved
 loop-adt-preserved c = record {
   rest = fault_later (λ (n : ℕ) (item : Adt). at_line nowhere nowhere (0 + n) (adt_faults c.args.graph.now.items (length c.args.graph.now.bodies) n item)) c.args.graph.now.items.adts c.loop-adt.n c.loop-adt.invariant.rest c.in-Some.adt.now c.in-Some.ensures.value c.in_default-adt_line.ensures;
   within = let here : c.loop-adt.n < length c.args.graph.now.items.adts = within c.args.graph.now.items.adts c.loop-adt.n c.in-Some.adt.now c.in-Some.ensures.value in omega arith;
-  met = one_met (λ (one : Adt). one.name) c.args.graph.now.items.adts c.loop-adt.n c.in-Some.adt.now c.loop-adt.buckets _ c.loop-adt.invariant.met c.in-Some.ensures.value c.meet-fresh.ensures.kept c.meet-fresh.ensures.met c.meet-fresh.ensures.enough;
+  met = one_met (λ (one : Adt). name_key one.name) c.args.graph.now.items.adts c.loop-adt.n c.in-Some.adt.now c.loop-adt.buckets _ c.loop-adt.invariant.met c.in-Some.ensures.value c.meet-fresh.ensures.kept c.meet-fresh.ensures.met c.meet-fresh.ensures.enough;
 }
 
 pub loop-adt-smaller : goal.loop-adt-smaller
@@ -23,4 +24,4 @@ pub returns : goal.returns
 returns c = fault_nowhere (λ (n : ℕ) (item : Adt). at_line nowhere nowhere (0 + n) (adt_faults c.args.graph.now.items (length c.args.graph.now.bodies) n item)) c.args.graph.now.items.adts c.loop-adt.n c.loop-adt.invariant.rest c.in_default.ensures.value
 
 pub adt_line-requires-clause-fresh : goal.adt_line-requires-clause-fresh
-adt_line-requires-clause-fresh c = λ fresh. repeats_none (λ (one : Adt). one.name) c.args.graph.now.items.adts c.in-Some.adt.now.name c.loop-adt.buckets (c.meet-fresh.ensures.fresh fresh) c.loop-adt.n c.loop-adt.invariant.met
+adt_line-requires-clause-fresh c = λ fresh. name_repeats_none (λ (one : Adt). one.name) c.args.graph.now.items.adts c.in-Some.adt.now.name c.loop-adt.buckets (c.meet-fresh.ensures.fresh fresh) c.loop-adt.n c.loop-adt.invariant.met

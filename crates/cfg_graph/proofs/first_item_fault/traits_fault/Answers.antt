@@ -1,8 +1,9 @@
 use Rattle.std.proofs.Common.{ℕ, ◌+◌, ◌<◌, length, arith}
 use Rattle.mir_ty.specs.declared.def.TraitDef.{TraitDef}
+use Rattle.cfg_graph.specs.WellFormed.Buckets.{name_key}
 use Rattle.cfg_graph.specs.WellFormed.ItemFaults.{trait_faults}
 use Rattle.cfg_graph.specs.WellFormed.Faults.{nowhere, at_line}
-use Rattle.cfg_graph.proofs.Buckets.{one_met, repeats_none}
+use Rattle.cfg_graph.proofs.Buckets.{one_met, name_repeats_none}
 use Rattle.cfg_graph.proofs.Rests.{within, fault_here, fault_later, fault_nowhere}
 use Rattle.cfg_graph.proofs.first_item_fault.traits_fault.Goals as goal
 
@@ -13,7 +14,7 @@ pub loop-def-preserved : goal.loop-def-preserved
 loop-def-preserved c = record {
   rest = fault_later (λ (n : ℕ) (item : TraitDef). at_line nowhere nowhere (length c.args.graph.now.items.adts + n) (trait_faults c.args.graph.now.items (length c.args.graph.now.bodies) n item)) c.args.graph.now.items.traits c.loop-def.n c.loop-def.invariant.rest c.in-Some.def.now c.in-Some.ensures.value (rw c.requires.before at c.in_default-trait_line.ensures);
   within = let here : c.loop-def.n < length c.args.graph.now.items.traits = within c.args.graph.now.items.traits c.loop-def.n c.in-Some.def.now c.in-Some.ensures.value in omega arith;
-  met = one_met (λ (one : TraitDef). one.name) c.args.graph.now.items.traits c.loop-def.n c.in-Some.def.now c.loop-def.buckets _ c.loop-def.invariant.met c.in-Some.ensures.value c.meet-fresh.ensures.kept c.meet-fresh.ensures.met c.meet-fresh.ensures.enough;
+  met = one_met (λ (one : TraitDef). name_key one.name) c.args.graph.now.items.traits c.loop-def.n c.in-Some.def.now c.loop-def.buckets _ c.loop-def.invariant.met c.in-Some.ensures.value c.meet-fresh.ensures.kept c.meet-fresh.ensures.met c.meet-fresh.ensures.enough;
 }
 
 pub loop-def-smaller : goal.loop-def-smaller
@@ -23,4 +24,4 @@ pub returns : goal.returns
 returns c = fault_nowhere (λ (n : ℕ) (item : TraitDef). at_line nowhere nowhere (length c.args.graph.now.items.adts + n) (trait_faults c.args.graph.now.items (length c.args.graph.now.bodies) n item)) c.args.graph.now.items.traits c.loop-def.n c.loop-def.invariant.rest c.in_default.ensures.value
 
 pub trait_line-requires-clause-fresh : goal.trait_line-requires-clause-fresh
-trait_line-requires-clause-fresh c = λ fresh. repeats_none (λ (one : TraitDef). one.name) c.args.graph.now.items.traits c.in-Some.def.now.name c.loop-def.buckets (c.meet-fresh.ensures.fresh fresh) c.loop-def.n c.loop-def.invariant.met
+trait_line-requires-clause-fresh c = λ fresh. name_repeats_none (λ (one : TraitDef). one.name) c.args.graph.now.items.traits c.in-Some.def.now.name c.loop-def.buckets (c.meet-fresh.ensures.fresh fresh) c.loop-def.n c.loop-def.invariant.met
