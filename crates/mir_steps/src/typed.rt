@@ -9,10 +9,9 @@ ghost use Rattle.mir_ty.specs.ItemTable.{type_at};
 ghost use Rattle.store_model.specs.Places.TypeForms.{adt_of as adt_of_type, box_content, int_kind};
 
 use crate::World;
-use cfg_graph::{Operand, Place};
+use cfg_graph::{Operand, Place, place_ty};
 use mir_base::IntKind;
 use mir_ty::{Items, Ty, TyId};
-use move_paths::place_ty;
 
 impl World<'_> {
     /// The number of the body that runs.
