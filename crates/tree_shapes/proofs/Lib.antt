@@ -1,0 +1,13 @@
+pub mod Due
+pub mod Expressions
+pub mod Functions
+pub mod Good
+pub mod Items
+pub mod Lists
+pub mod Names
+pub mod Placed
+pub mod Telling
+pub mod Texts
+pub mod Tokens
+pub mod Trees
+pub mod Types

@@ -1,0 +1,43 @@
+-- What is proved of the trees of texts, and of the texts that are accepted.
+use Rattle.std.specs.Prelude.{◌≡◌, ℕ, List, Ok}
+use Rattle.mir_base.specs.declared.place_in_text.Pos.{Pos}
+use Rattle.src_token.specs.declared.token.Spanned.{Spanned}
+use Rattle.src_token.specs.Tokens.{Tokens}
+use Rattle.src_tree.specs.declared.node.Tree.{Tree}
+use Rattle.src_tree.specs.View.{items_of}
+use Rattle.src_parse.specs.Answers.{IsTree}
+use Rattle.typed_tree.specs.Tree.{ProgramTree}
+use Rattle.well_typed.specs.Claim.{Holds}
+use Rattle.well_typed.specs.Items.{are_items}
+use Rattle.well_typed.specs.Program.{WellTyped, are_bodies}
+use Rattle.typing_rules.specs.Program.{typed_program}
+use Rattle.typing_rules.specs.Promises.{AreReady, AreClosures}
+use Rattle.typing_soundness.specs.Program.{IsOfText, HaveHeads}
+
+-- The tree of a text is one as the laws of typing ask.
+abbrev pub AreTreesOfText : Type 0
+AreTreesOfText = (text : List ℕ) (tokens : List Spanned) (end_ : Pos) (tree : Tree) → Tokens text tokens → IsTree tokens
+    end_ tree → IsOfText (items_of tree)
+
+-- a text that keeps all rules of items and bodies, with its typed program
+pub record IsAcceptedText (text : List ℕ) (p : ProgramTree) : Type 0 where
+  pub tokens : List Spanned
+  pub cut : Tokens text tokens
+  pub end_ : Pos
+  pub tree : Tree
+  pub is_tree : IsTree tokens end_ tree
+  pub typed : typed_program (items_of tree) tree.end ≡ Ok p
+
+-- Each body of an accepted text has its head, and each closure its body.
+abbrev pub BodiesHaveHeads : Type 0
+BodiesHaveHeads = (text : List ℕ) (p : ProgramTree) → IsAcceptedText text p → HaveHeads p.items.bodies p.bodies
+    × AreClosures p.items
+
+-- Each body of an accepted text is well typed, among items that are ready.
+abbrev pub BodiesAreTyped : Type 0
+BodiesAreTyped = (text : List ℕ) (p : ProgramTree) → IsAcceptedText text p → AreReady p.items × Holds (are_bodies p.items
+    0 p.items.bodies p.bodies)
+
+-- So its program is well typed where its items are.
+abbrev pub ProgramsAreTyped : Type 0
+ProgramsAreTyped = (text : List ℕ) (p : ProgramTree) → IsAcceptedText text p → Holds (are_items p.items) → WellTyped p
