@@ -23,7 +23,7 @@ use Rattle.typing_soundness.specs.Heads.{TellBodies}
 use Rattle.typing_soundness.specs.Program.{IsOfText, IsAccepted, HaveHeads}
 use Rattle.typing_soundness.specs.Shapes.{item_shaped}
 use Rattle.typing_soundness.proofs.Bodies.Accepting.{are_headed, are_typed, is_typed}
-use Rattle.tree_shapes.specs.Texts.{IsAcceptedText}
+use Rattle.tree_shapes.specs.Texts.{IsAcceptedText, HasTypedBodies}
 use Rattle.tree_shapes.proofs.Good.{Held, Each, IsItem}
 use Rattle.tree_shapes.proofs.Names.{EachPlain, plain_parts, tokens_plain}
 use Rattle.tree_shapes.proofs.Trees.{items_are}
@@ -74,3 +74,11 @@ module _ (text : List ℕ) (p : ProgramTree) (h : IsAcceptedText text p) where
 
   pub text_program : Holds (are_items p.items) → WellTyped p
   text_program = is_typed parts found.0 p accepted
+
+  pub typed_bodies : HasTypedBodies p
+  typed_bodies = record {
+    heads = text_headed.0;
+    closures = text_headed.1;
+    ready = text_typed.0;
+    bodies = text_typed.1;
+  }

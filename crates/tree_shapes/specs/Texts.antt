@@ -28,6 +28,14 @@ pub record IsAcceptedText (text : List ℕ) (p : ProgramTree) : Type 0 where
   pub is_tree : IsTree tokens end_ tree
   pub typed : typed_program (items_of tree) tree.end ≡ Ok p
 
+-- Each body has its head and each closure its body, and each body is well typed, among items that are ready: so the
+-- program is well typed where its items are.
+pub record HasTypedBodies (p : ProgramTree) : Type 0 where
+  pub heads : HaveHeads p.items.bodies p.bodies
+  pub closures : AreClosures p.items
+  pub ready : AreReady p.items
+  pub bodies : Holds (are_bodies p.items 0 p.items.bodies p.bodies)
+
 -- Each body of an accepted text has its head, and each closure its body.
 abbrev pub BodiesHaveHeads : Type 0
 BodiesHaveHeads = (text : List ℕ) (p : ProgramTree) → IsAcceptedText text p → HaveHeads p.items.bodies p.bodies
