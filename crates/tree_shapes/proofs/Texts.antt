@@ -23,6 +23,7 @@ use Rattle.typing_soundness.specs.Heads.{TellBodies}
 use Rattle.typing_soundness.specs.Program.{IsOfText, IsAccepted, HaveHeads}
 use Rattle.typing_soundness.specs.Shapes.{item_shaped}
 use Rattle.typing_soundness.proofs.Bodies.Accepting.{are_headed, are_typed, is_typed}
+use Rattle.typing_soundness.proofs.Bodies.Items.{text_types, text_heads, text_closures}
 use Rattle.tree_shapes.specs.Texts.{IsAcceptedText, HasTypedBodies}
 use Rattle.tree_shapes.proofs.Good.{Held, Each, IsItem}
 use Rattle.tree_shapes.proofs.Names.{EachPlain, plain_parts, tokens_plain}
@@ -81,4 +82,7 @@ module _ (text : List ℕ) (p : ProgramTree) (h : IsAcceptedText text p) where
     closures = text_headed.1;
     ready = text_typed.0;
     bodies = text_typed.1;
+    types_differ = (text_types parts found.0 p accepted).0;
+    heads_typed = text_heads parts found.0 p accepted;
+    closures_typed = text_closures parts found.0 p accepted;
   }

@@ -1,6 +1,8 @@
 -- What is proved of the trees of texts, and of the texts that are accepted.
-use Rattle.std.specs.Prelude.{◌≡◌, ℕ, List, Ok}
+use Rattle.std.specs.Prelude.{◌≡◌, ℕ, List, Ok, Some, slice_get, IsTrue}
+use Rattle.std.specs.List.{list_all}
 use Rattle.mir_base.specs.declared.place_in_text.Pos.{Pos}
+use Rattle.mir_ty.specs.declared.def.ClosureDef.{ClosureDef}
 use Rattle.src_token.specs.declared.token.Spanned.{Spanned}
 use Rattle.src_token.specs.Tokens.{Tokens}
 use Rattle.src_tree.specs.declared.node.Tree.{Tree}
@@ -8,10 +10,11 @@ use Rattle.src_tree.specs.View.{items_of}
 use Rattle.src_parse.specs.Answers.{IsTree}
 use Rattle.typed_tree.specs.Tree.{ProgramTree}
 use Rattle.well_typed.specs.Claim.{Holds}
-use Rattle.well_typed.specs.Items.{are_items}
+use Rattle.well_typed.specs.Items.{are_items, are_distinct_types}
 use Rattle.well_typed.specs.Program.{WellTyped, are_bodies}
 use Rattle.typing_rules.specs.Program.{typed_program}
 use Rattle.typing_rules.specs.Promises.{AreReady, AreClosures}
+use Rattle.typing_soundness.specs.Items.{is_head_typed, IsClosureTyped}
 use Rattle.typing_soundness.specs.Program.{IsOfText, HaveHeads}
 
 -- The tree of a text is one as the laws of typing ask.
@@ -29,12 +32,15 @@ pub record IsAcceptedText (text : List ℕ) (p : ProgramTree) : Type 0 where
   pub typed : typed_program (items_of tree) tree.end ≡ Ok p
 
 -- Each body has its head and each closure its body, and each body is well typed, among items that are ready: so the
--- program is well typed where its items are.
+-- program is well typed where its items are. Of these, heads and closures are, and equal types have one number.
 pub record HasTypedBodies (p : ProgramTree) : Type 0 where
   pub heads : HaveHeads p.items.bodies p.bodies
   pub closures : AreClosures p.items
   pub ready : AreReady p.items
   pub bodies : Holds (are_bodies p.items 0 p.items.bodies p.bodies)
+  pub types_differ : IsTrue (are_distinct_types p.items.types)
+  pub heads_typed : IsTrue (list_all (is_head_typed p.items) p.items.bodies)
+  pub closures_typed : (n : ℕ) (def : ClosureDef) → slice_get p.items.closures n ≡ Some def → IsClosureTyped p.items n def
 
 -- Each body of an accepted text has its head, and each closure its body.
 abbrev pub BodiesHaveHeads : Type 0
@@ -45,6 +51,10 @@ BodiesHaveHeads = (text : List ℕ) (p : ProgramTree) → IsAcceptedText text p 
 abbrev pub BodiesAreTyped : Type 0
 BodiesAreTyped = (text : List ℕ) (p : ProgramTree) → IsAcceptedText text p → AreReady p.items × Holds (are_bodies p.items
     0 p.items.bodies p.bodies)
+
+-- All this is so of an accepted text.
+abbrev pub HaveTypedBodies : Type 0
+HaveTypedBodies = (text : List ℕ) (p : ProgramTree) → IsAcceptedText text p → HasTypedBodies p
 
 -- So its program is well typed where its items are.
 abbrev pub ProgramsAreTyped : Type 0

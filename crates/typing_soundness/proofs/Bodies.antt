@@ -6,6 +6,7 @@ pub mod Collected
 pub mod Functions
 pub mod Headed
 pub mod Inner
+pub mod Items
 pub mod Known
 pub mod Meanings
 pub mod Order

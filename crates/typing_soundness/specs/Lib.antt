@@ -1,6 +1,7 @@
 pub mod Closures
 pub mod Expressions
 pub mod Heads
+pub mod Items
 pub mod Legal
 pub mod Numbers
 pub mod Program

@@ -351,8 +351,9 @@ pub record IsHeaded (p : ProgramTree) : Type 0 where
   pub count : ℕ
   pub texts : List BodySyn
   pub made : AreMade (IsBodyOf p.items) 0 (length p.items.closures) texts [] p.bodies
+  pub plain : Holds (each has_no_self texts)
 
-headed : (parts : Parts Pos) (end : Pos) (items : ItemTable) (p : ProgramTree) → rules.collected parts end ≡ Ok items →
+pub headed : (parts : Parts Pos) (end : Pos) (items : ItemTable) (p : ProgramTree) → rules.collected parts end ≡ Ok items →
     checked parts items ≡ Ok p → Holds (each item_shaped (item_syns (items_of parts))) → TellBodies (items_of parts) →
     IsHeaded p
 headed parts end items p is_collected is_checked shape tell =
@@ -373,6 +374,7 @@ headed parts end items p is_collected is_checked shape tell =
       texts = program_text items.adts parts [];
       made = subst (AreMade (IsBodyOf t.items) 0 (length t.items.closures) (program_text items.adts parts []) []) (sym
           m.bodies) bodies_made;
+      plain = plain;
     }
       where
         plain : Holds (each has_no_self (program_text items.adts parts []))
@@ -393,25 +395,24 @@ headed parts end items p is_collected is_checked shape tell =
 
 -- ---- closures have their bodies
 
-made_closure : (items : ItemTable) (k : ℕ) (from to : ℕ) (texts rest : List BodySyn) (bodies : List BodyTree) → from ≤ k →
-    k < to → AreMade (IsBodyOf items) from to texts rest bodies → (j : ℕ) × (body : BodyTree) × (head : Head) × (slice_get
-    bodies j ≡ Some body) × IsBodyOf items k (Closure head) body
-made_closure items k from to texts rest [] low high h = absurd (let e = h.1 in omega (arith, low, high, e))
-made_closure items k from to [] rest (body ∷ bodies) low high h = absurd h
-made_closure items k from to (Function head ∷ texts) rest (body ∷ bodies) low high h =
-    let f = made_closure items k from to texts rest bodies low high h.1 in (suc f.0, f.1, f.2, f.3, f.4)
-made_closure items k from to (Closure head ∷ texts) rest (body ∷ bodies) low high h =
-    by (cases_order k from) λ above. made_closure items k (suc from) to texts rest bodies above high h.1
+pub made_closure : (P : ℕ → BodySyn → BodyTree → Type 0) (k : ℕ) (from to : ℕ) (texts rest : List BodySyn) (bodies : List
+    BodyTree) → from ≤ k → k < to → AreMade P from to texts rest bodies → (j : ℕ) × (body : BodyTree) × (head : Head) ×
+    (slice_get bodies j ≡ Some body) × P k (Closure head) body
+made_closure P k from to texts rest [] low high h = absurd (let e = h.1 in omega (arith, low, high, e))
+made_closure P k from to [] rest (body ∷ bodies) low high h = absurd h
+made_closure P k from to (Function head ∷ texts) rest (body ∷ bodies) low high h =
+    let f = made_closure P k from to texts rest bodies low high h.1 in (suc f.0, f.1, f.2, f.3, f.4)
+made_closure P k from to (Closure head ∷ texts) rest (body ∷ bodies) low high h =
+    by (cases_order k from) λ above. made_closure P k (suc from) to texts rest bodies above high h.1
   where
     Found : Type 0
     Found =
-        (j : ℕ) × (b : BodyTree) × (other : Head) × (slice_get (body ∷ bodies) j ≡ Some b) × IsBodyOf items k (Closure
-        other) b
+        (j : ℕ) × (b : BodyTree) × (other : Head) × (slice_get (body ∷ bodies) j ≡ Some b) × P k (Closure other) b
 
     by : (k ≡ from) ⊎ ((k < from) ⊎ (from < k)) → (suc from ≤ k → (j : ℕ) × (b : BodyTree) × (other : Head) × (slice_get
-        bodies j ≡ Some b) × IsBodyOf items k (Closure other) b) → (j : ℕ) × (b : BodyTree) × (other : Head) × (slice_get
-        (body ∷ bodies) j ≡ Some b) × IsBodyOf items k (Closure other) b
-    by (inl e) on = (0, body, head, refl, subst (λ n. IsBodyOf items n (Closure head) body) (sym e) h.0)
+        bodies j ≡ Some b) × P k (Closure other) b) → (j : ℕ) × (b : BodyTree) × (other : Head) × (slice_get (body ∷
+        bodies) j ≡ Some b) × P k (Closure other) b
+    by (inl e) on = (0, body, head, refl, subst (λ n. P n (Closure head) body) (sym e) h.0)
     by (inr (inl below)) on = absurd (omega (arith, below, low))
     by (inr (inr above)) on = let f = on above in (suc f.0, f.1, f.2, f.3, f.4)
 
@@ -432,14 +433,14 @@ number_at (b ∷ bodies) from zero body order is =
 number_at (b ∷ bodies) from (suc j) body order is =
     number_at bodies (suc from) j body (ap others_of order) is ∙ omega arith
 
-own_place : (bodies : List BodyTree) (j : ℕ) (body : BodyTree) → map (λ (b : BodyTree). b.number) bodies ≡ counted 0 (length
+pub own_place : (bodies : List BodyTree) (j : ℕ) (body : BodyTree) → map (λ (b : BodyTree). b.number) bodies ≡ counted 0 (length
     bodies) → slice_get bodies j ≡ Some body → body.number ≡ j
 own_place bodies j body order is = let e = number_at bodies 0 j body order is in omega (arith, e)
 
 closures_headed : (p : ProgramTree) → IsHeaded p → map (λ (b : BodyTree). b.number) p.bodies ≡ counted 0 (length p.bodies)
     → AreClosures p.items
 closures_headed p h order k def head at_k at_head =
-    let f = made_closure p.items k 0 (length p.items.closures) h.texts [] p.bodies (omega arith) (slice_get_within
+    let f = made_closure (IsBodyOf p.items) k 0 (length p.items.closures) h.texts [] p.bodies (omega arith) (slice_get_within
     p.items.closures k def at_k) h.made in
     let b : def.body ≡ f.0 = ap (λ (d : ClosureDef). d.body) (same_Some def f.4.1.0 (sym at_k ∙ f.4.1.1)) ∙ (f.4.1.2 ∙
     own_place p.bodies f.0 f.1 order f.3) in

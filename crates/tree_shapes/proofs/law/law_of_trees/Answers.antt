@@ -1,5 +1,5 @@
 -- Proves the clauses of `law_of_trees`.
-use Rattle.tree_shapes.proofs.Texts.{is_of_text, text_headed, text_typed, text_program}
+use Rattle.tree_shapes.proofs.Texts.{is_of_text, text_headed, text_typed, text_program, typed_bodies}
 use Rattle.tree_shapes.proofs.law.law_of_trees.Goals as goal
 
 pub returns-clause-trees : goal.returns-clause-trees
@@ -13,3 +13,6 @@ returns-clause-bodies c = text_typed
 
 pub returns-clause-programs : goal.returns-clause-programs
 returns-clause-programs c = text_program
+
+pub returns-clause-all : goal.returns-clause-all
+returns-clause-all c = typed_bodies

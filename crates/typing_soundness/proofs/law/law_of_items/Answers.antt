@@ -1,0 +1,12 @@
+-- Proves the clauses of `law_of_items`.
+use Rattle.typing_soundness.proofs.Bodies.Items.{text_types, text_heads, text_closures}
+use Rattle.typing_soundness.proofs.law.law_of_items.Goals as goal
+
+pub returns-clause-types : goal.returns-clause-types
+returns-clause-types c = text_types
+
+pub returns-clause-heads : goal.returns-clause-heads
+returns-clause-heads c = text_heads
+
+pub returns-clause-closures : goal.returns-clause-closures
+returns-clause-closures c = text_closures

@@ -1,0 +1,45 @@
+-- What is proved of the items of accepted texts.
+use Rattle.std.specs.Prelude.{◌≡◌, ℕ, Bool, ◌&&◌, List, ◌∷◌, Some, slice_get, IsTrue}
+use Rattle.std.specs.List.{list_any, list_all}
+use Rattle.mir_base.specs.declared.place_in_text.Pos.{Pos}
+use Rattle.mir_ty.specs.declared.def.ClosureDef.{ClosureDef}
+use Rattle.mir_ty.specs.declared.def.Sig.{Sig}
+use Rattle.mir_ty.specs.declared.ty.Ty.{Ty}
+use Rattle.mir_ty.specs.declared.ty.TyId.{TyId}
+use Rattle.mir_ty.specs.ItemTable.{ItemTable, type_at}
+use Rattle.src_tree.specs.Layout.{Parts}
+use Rattle.typed_tree.specs.Tree.{ProgramTree}
+use Rattle.well_typed.specs.Items.{is_equal, are_distinct_types, stands_alone, is_param}
+use Rattle.typing_soundness.specs.Program.{IsAccepted}
+
+-- Equal types of an accepted text have one number, and `bool` and `()` are among them.
+abbrev pub TypesDiffer : Type 0
+TypesDiffer = (parts : Parts Pos) (items : ItemTable) (p : ProgramTree) → IsAccepted parts items p → IsTrue
+    (are_distinct_types p.items.types) × IsTrue (list_any (is_equal Ty.Bool) p.items.types) × IsTrue (list_any (is_equal
+    Ty.Unit) p.items.types)
+
+-- parameters of types that may stand there, and a result that stands alone
+abbrev pub is_head_typed : ItemTable → Sig → Bool
+is_head_typed items head = list_all (is_param items) head.params && stands_alone items head.result
+
+-- So are the heads of all bodies of an accepted text.
+abbrev pub HeadsAreTyped : Type 0
+HeadsAreTyped = (parts : Parts Pos) (items : ItemTable) (p : ProgramTree) → IsAccepted parts items p → IsTrue (list_all
+    (is_head_typed p.items) p.items.bodies)
+
+-- Captures stand alone; the closure has a body, whose head begins with the closure, and whose other parameters stand
+-- alone.
+pub record IsClosureTyped (items : ItemTable) (n : ℕ) (def : ClosureDef) : Type 0 where
+  pub captures : IsTrue (list_all (stands_alone items) def.captures)
+  pub head : Sig
+  pub is : slice_get items.bodies def.body ≡ Some head
+  pub self : TyId
+  pub rest : List TyId
+  pub params : head.params ≡ self ∷ rest
+  pub ty : type_at items self ≡ Some (Ty.Closure n)
+  pub alone : IsTrue (list_all (stands_alone items) rest)
+
+-- So are the closures of an accepted text.
+abbrev pub ClosuresAreTyped : Type 0
+ClosuresAreTyped = (parts : Parts Pos) (items : ItemTable) (p : ProgramTree) → IsAccepted parts items p → (n : ℕ) (def :
+    ClosureDef) → slice_get p.items.closures n ≡ Some def → IsClosureTyped p.items n def
