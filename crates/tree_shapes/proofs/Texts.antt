@@ -1,5 +1,5 @@
 -- The trees of texts, and accepted texts.
-use Rattle.std.proofs.Common.{◌≡◌, ℕ, List, [], Result, Ok, Err, refl, sym, subst}
+use Rattle.std.proofs.Common.{◌≡◌, ℕ, List, [], Result, Ok, Err, refl, sym, subst, Option, Some, None}
 use Rattle.std.proofs.Math.Path.{fun_ext}
 use Rattle.mir_base.specs.declared.place_in_text.Pos.{Pos}
 use Rattle.mir_ty.specs.ItemTable.{ItemTable}
@@ -13,16 +13,18 @@ use Rattle.typed_tree.specs.Tree.{ProgramTree}
 use Rattle.well_typed.specs.Claim.{Holds, each}
 use Rattle.well_typed.specs.Items.{are_items}
 use Rattle.well_typed.specs.Program.{WellTyped, are_bodies}
+use Rattle.typing_rules.specs.Borrows.{broken_borrow, unless_broken, unless_borrows, read_typed}
 use Rattle.typing_rules.specs.Check.{Broken}
 use Rattle.typing_rules.specs.Collected.{collected}
 use Rattle.typing_rules.specs.Items as items
 use Rattle.typing_rules.specs.Items.{item_syns}
-use Rattle.typing_rules.specs.Program.{checked, then_checked}
+use Rattle.typing_rules.specs.Program.{checked, then_checked, typed_program}
 use Rattle.typing_rules.specs.Promises.{AreReady, AreClosures}
 use Rattle.typing_soundness.specs.Heads.{TellBodies}
 use Rattle.typing_soundness.specs.Program.{IsOfText, IsAccepted, HaveHeads}
 use Rattle.typing_soundness.specs.Shapes.{item_shaped}
 use Rattle.typing_soundness.proofs.Bodies.Accepting.{are_headed, are_typed, is_typed}
+use Rattle.typing_soundness.proofs.Bodies.Adts.{text_adts}
 use Rattle.typing_soundness.proofs.Bodies.Items.{text_types, text_heads, text_closures}
 use Rattle.tree_shapes.specs.Texts.{IsAcceptedText, HasTypedBodies}
 use Rattle.tree_shapes.proofs.Good.{Held, Each, IsItem}
@@ -85,4 +87,29 @@ module _ (text : List ℕ) (p : ProgramTree) (h : IsAcceptedText text p) where
     types_differ = (text_types parts found.0 p accepted).0;
     heads_typed = text_heads parts found.0 p accepted;
     closures_typed = text_closures parts found.0 p accepted;
+    adts_typed = text_adts parts found.0 p accepted;
   }
+
+-- ---- what is read
+
+-- a program that breaks no rule of borrows is that of the rules before
+not_broken : (o : Option Broken) (q p : ProgramTree) → unless_broken q o ≡ Ok p → ◌≡◌ {A = Result ProgramTree Broken} (Ok q)
+    (Ok p)
+not_broken None q p h = h
+not_broken (Some b) q p h = absurd (cc)
+
+before_borrows : (r : Result ProgramTree Broken) (p : ProgramTree) → unless_borrows r ≡ Ok p → r ≡ Ok p
+before_borrows (Err e) p h = absurd (cc)
+before_borrows (Ok q) p h = not_broken (broken_borrow q) q p h
+
+pub read_is_typed : (text : List ℕ) (tokens : List Spanned) (end_ : Pos) (tree : Tree) (p : ProgramTree) → Tokens text
+    tokens → IsTree tokens end_ tree → read_typed (items_of tree) tree.end ≡ Ok p → HasTypedBodies p
+read_is_typed text tokens end_ tree p cut is read =
+    typed_bodies text p (record {
+      tokens = tokens;
+      cut = cut;
+      end_ = end_;
+      tree = tree;
+      is_tree = is;
+      typed = before_borrows (typed_program (items_of tree) tree.end) p read;
+    })

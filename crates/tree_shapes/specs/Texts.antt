@@ -2,6 +2,7 @@
 use Rattle.std.specs.Prelude.{◌≡◌, ℕ, List, Ok, Some, slice_get, IsTrue}
 use Rattle.std.specs.List.{list_all}
 use Rattle.mir_base.specs.declared.place_in_text.Pos.{Pos}
+use Rattle.mir_ty.specs.declared.adt.Adt.{Adt}
 use Rattle.mir_ty.specs.declared.def.ClosureDef.{ClosureDef}
 use Rattle.src_token.specs.declared.token.Spanned.{Spanned}
 use Rattle.src_token.specs.Tokens.{Tokens}
@@ -12,9 +13,10 @@ use Rattle.typed_tree.specs.Tree.{ProgramTree}
 use Rattle.well_typed.specs.Claim.{Holds}
 use Rattle.well_typed.specs.Items.{are_items, are_distinct_types}
 use Rattle.well_typed.specs.Program.{WellTyped, are_bodies}
+use Rattle.typing_rules.specs.Borrows.{read_typed}
 use Rattle.typing_rules.specs.Program.{typed_program}
 use Rattle.typing_rules.specs.Promises.{AreReady, AreClosures}
-use Rattle.typing_soundness.specs.Items.{is_head_typed, IsClosureTyped}
+use Rattle.typing_soundness.specs.Items.{is_head_typed, IsAdtTyped, IsClosureTyped}
 use Rattle.typing_soundness.specs.Program.{IsOfText, HaveHeads}
 
 -- The tree of a text is one as the laws of typing ask.
@@ -32,7 +34,8 @@ pub record IsAcceptedText (text : List ℕ) (p : ProgramTree) : Type 0 where
   pub typed : typed_program (items_of tree) tree.end ≡ Ok p
 
 -- Each body has its head and each closure its body, and each body is well typed, among items that are ready: so the
--- program is well typed where its items are. Of these, heads and closures are, and equal types have one number.
+-- program is well typed where its items are. Of these, heads and closures are,
+-- and structs and enums but for what they derive and drop, and equal types have one number.
 pub record HasTypedBodies (p : ProgramTree) : Type 0 where
   pub heads : HaveHeads p.items.bodies p.bodies
   pub closures : AreClosures p.items
@@ -41,6 +44,7 @@ pub record HasTypedBodies (p : ProgramTree) : Type 0 where
   pub types_differ : IsTrue (are_distinct_types p.items.types)
   pub heads_typed : IsTrue (list_all (is_head_typed p.items) p.items.bodies)
   pub closures_typed : (n : ℕ) (def : ClosureDef) → slice_get p.items.closures n ≡ Some def → IsClosureTyped p.items n def
+  pub adts_typed : (n : ℕ) (adt : Adt) → slice_get p.items.adts n ≡ Some adt → IsAdtTyped p.items adt
 
 -- Each body of an accepted text has its head, and each closure its body.
 abbrev pub BodiesHaveHeads : Type 0
@@ -59,3 +63,8 @@ HaveTypedBodies = (text : List ℕ) (p : ProgramTree) → IsAcceptedText text p 
 -- So its program is well typed where its items are.
 abbrev pub ProgramsAreTyped : Type 0
 ProgramsAreTyped = (text : List ℕ) (p : ProgramTree) → IsAcceptedText text p → Holds (are_items p.items) → WellTyped p
+
+-- What is read of a text that breaks no rule of items, bodies and borrows has typed bodies.
+abbrev pub ReadTyped : Type 0
+ReadTyped = (text : List ℕ) (tokens : List Spanned) (end_ : Pos) (tree : Tree) (p : ProgramTree) → Tokens text tokens →
+    IsTree tokens end_ tree → read_typed (items_of tree) tree.end ≡ Ok p → HasTypedBodies p

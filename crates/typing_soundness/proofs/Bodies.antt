@@ -1,6 +1,7 @@
 -- Bodies that are whole.
 pub mod Accepted
 pub mod Accepting
+pub mod Adts
 pub mod Closures
 pub mod Collected
 pub mod Functions

@@ -70,7 +70,8 @@ AreVariantsOf (a_syn first rest) (v ∷ vs) = ⊥
 
 abbrev pub IsAdtOf : Syn → Adt → Type 0
 IsAdtOf (syn at (StructItem derives name kind fields)) adt =
-    (adt.name ≡ name.1) × (v : Variant) × (adt.variants ≡ v ∷ []) × IsVariantOf fields v
+    (adt.name ≡ name.1) × (v : Variant) × (adt.variants ≡ v ∷ []) × IsVariantOf fields v × ((v.name ≡ name.1) ×
+    (adt.is_enum ≡ false))
 IsAdtOf (syn at (EnumItem derives name variants)) adt =
     (adt.name ≡ name.1) × (adt.is_enum ≡ true) × AreVariantsOf variants adt.variants
 IsAdtOf _ adt = ⊥

@@ -1,7 +1,10 @@
 -- What is proved of the items of accepted texts.
-use Rattle.std.specs.Prelude.{◌≡◌, ℕ, Bool, ◌&&◌, List, ◌∷◌, Some, slice_get, IsTrue}
+use Rattle.std.specs.Prelude.{◌≡◌, ℕ, ◌==◌, nat_le, Bool, false, ◌&&◌, if◌then◌else◌, List, [], ◌∷◌, map, length, Some, slice_get, IsTrue}
 use Rattle.std.specs.List.{list_any, list_all}
+use Rattle.std.specs.Str.{bytes_eq}
 use Rattle.mir_base.specs.declared.place_in_text.Pos.{Pos}
+use Rattle.mir_ty.specs.declared.adt.Adt.{Adt}
+use Rattle.mir_ty.specs.declared.adt.Variant.{Variant}
 use Rattle.mir_ty.specs.declared.def.ClosureDef.{ClosureDef}
 use Rattle.mir_ty.specs.declared.def.Sig.{Sig}
 use Rattle.mir_ty.specs.declared.ty.Ty.{Ty}
@@ -10,6 +13,7 @@ use Rattle.mir_ty.specs.ItemTable.{ItemTable, type_at}
 use Rattle.src_tree.specs.Layout.{Parts}
 use Rattle.typed_tree.specs.Tree.{ProgramTree}
 use Rattle.well_typed.specs.Items.{is_equal, are_distinct_types, stands_alone, is_param}
+use Rattle.well_typed.specs.Names.{are_distinct}
 use Rattle.typing_soundness.specs.Program.{IsAccepted}
 
 -- Equal types of an accepted text have one number, and `bool` and `()` are among them.
@@ -43,3 +47,27 @@ pub record IsClosureTyped (items : ItemTable) (n : ℕ) (def : ClosureDef) : Typ
 abbrev pub ClosuresAreTyped : Type 0
 ClosuresAreTyped = (parts : Parts Pos) (items : ItemTable) (p : ProgramTree) → IsAccepted parts items p → (n : ℕ) (def :
     ClosureDef) → slice_get p.items.closures n ≡ Some def → IsClosureTyped p.items n def
+
+-- fields that stand alone, each with a name, 32 at most
+abbrev pub is_variant_typed : ItemTable → Variant → Bool
+is_variant_typed items v =
+    list_all (stands_alone items) v.fields && (length v.field_names == length v.fields && nat_le (length v.fields) 32)
+
+-- a struct has one variant with its name; an enum has at most 64, whose names differ
+abbrev pub is_one_variant : List ℕ → List Variant → Bool
+is_one_variant name (v ∷ []) = bytes_eq v.name name
+is_one_variant name _ = false
+
+abbrev pub has_variants : Adt → Bool
+has_variants adt =
+    if adt.is_enum then nat_le (length adt.variants) 64 && are_distinct (map (λ v. v.name) adt.variants) else
+    is_one_variant adt.name adt.variants
+
+pub record IsAdtTyped (items : ItemTable) (adt : Adt) : Type 0 where
+  pub variants : IsTrue (has_variants adt)
+  pub fields : (n : ℕ) (v : Variant) → slice_get adt.variants n ≡ Some v → IsTrue (is_variant_typed items v)
+
+-- So are the structs and enums of an accepted text.
+abbrev pub AdtsAreTyped : Type 0
+AdtsAreTyped = (parts : Parts Pos) (items : ItemTable) (p : ProgramTree) → IsAccepted parts items p → (n : ℕ) (adt : Adt) →
+    slice_get p.items.adts n ≡ Some adt → IsAdtTyped p.items adt

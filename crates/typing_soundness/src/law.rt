@@ -1,6 +1,6 @@
 //! What is proved of the checks of expressions, as clauses of functions without parameters.
 ghost use Rattle.typing_soundness.specs.Expressions.{Loops, Paths, Callees, AreSound, Closures, Functions};
-ghost use Rattle.typing_soundness.specs.Items.{ClosuresAreTyped, HeadsAreTyped, TypesDiffer};
+ghost use Rattle.typing_soundness.specs.Items.{AdtsAreTyped, ClosuresAreTyped, HeadsAreTyped, TypesDiffer};
 ghost use Rattle.typing_soundness.specs.Numbers.{StaysTyped, AreInOrder};
 ghost use Rattle.typing_soundness.specs.Program.{
   AreInTextOrder,
@@ -59,9 +59,11 @@ pub fn law_of_programs()
 
 /// Of the items of a text that is accepted: equal types have one number, with `bool` and `()` among them; each head of a
 /// body has parameters of types that may stand there, and a result that stands alone; each closure has captures that
-/// stand alone and a body, whose head begins with the closure and goes on with types that stand alone.
+/// stand alone and a body, whose head begins with the closure and goes on with types that stand alone; each struct has one variant with its name
+/// and each enum at most 64, whose names differ, with at most 32 fields each, which stand alone and have names.
 pub fn law_of_items()
     ensures types { TypesDiffer }
     ensures heads { HeadsAreTyped }
     ensures closures { ClosuresAreTyped }
+    ensures adts { AdtsAreTyped }
 {}

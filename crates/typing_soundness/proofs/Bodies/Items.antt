@@ -66,7 +66,7 @@ value_no_reference items (Ty.Shared to) h = absurd h
 value_no_reference items (Ty.Unique to) h = absurd h
 value_no_reference items _ h = refl
 
-alone_stands : (items : ItemTable) (id : TyId) → IsAlone items id → IsTrue (stands_alone items id)
+pub alone_stands : (items : ItemTable) (id : TyId) → IsAlone items id → IsTrue (stands_alone items id)
 alone_stands items id h =
     alone_so items id h.0 h.1 (value_no_dyn items h.0 h.2) (value_no_reference items h.0 h.2)
 

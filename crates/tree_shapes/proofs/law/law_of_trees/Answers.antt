@@ -1,5 +1,5 @@
 -- Proves the clauses of `law_of_trees`.
-use Rattle.tree_shapes.proofs.Texts.{is_of_text, text_headed, text_typed, text_program, typed_bodies}
+use Rattle.tree_shapes.proofs.Texts.{is_of_text, text_headed, text_typed, text_program, typed_bodies, read_is_typed}
 use Rattle.tree_shapes.proofs.law.law_of_trees.Goals as goal
 
 pub returns-clause-trees : goal.returns-clause-trees
@@ -16,3 +16,6 @@ returns-clause-programs c = text_program
 
 pub returns-clause-all : goal.returns-clause-all
 returns-clause-all c = typed_bodies
+
+pub returns-clause-read : goal.returns-clause-read
+returns-clause-read c = read_is_typed

@@ -1,4 +1,5 @@
 -- Proves the clauses of `law_of_items`.
+use Rattle.typing_soundness.proofs.Bodies.Adts.{text_adts}
 use Rattle.typing_soundness.proofs.Bodies.Items.{text_types, text_heads, text_closures}
 use Rattle.typing_soundness.proofs.law.law_of_items.Goals as goal
 
@@ -10,3 +11,6 @@ returns-clause-heads c = text_heads
 
 pub returns-clause-closures : goal.returns-clause-closures
 returns-clause-closures c = text_closures
+
+pub returns-clause-adts : goal.returns-clause-adts
+returns-clause-adts c = text_adts
