@@ -23,9 +23,9 @@ use Rattle.typing_rules.specs.Promises.{AreReady, AreClosures}
 use Rattle.typing_soundness.specs.Heads.{TellBodies}
 use Rattle.typing_soundness.specs.Program.{IsOfText, IsAccepted, HaveHeads}
 use Rattle.typing_soundness.specs.Shapes.{item_shaped}
-use Rattle.typing_soundness.proofs.Bodies.Accepting.{are_headed, are_typed, is_typed}
-use Rattle.typing_soundness.proofs.Bodies.Adts.{text_adts}
-use Rattle.typing_soundness.proofs.Bodies.Items.{text_types, text_heads, text_closures}
+use Rattle.typing_soundness.proofs.Items.Accepting.{are_headed, are_typed, is_typed}
+use Rattle.typing_soundness.proofs.Items.Adts.{text_adts}
+use Rattle.typing_soundness.proofs.Items.Heads.{text_types, text_heads, text_closures}
 use Rattle.tree_shapes.specs.Texts.{IsAcceptedText, HasTypedBodies}
 use Rattle.tree_shapes.proofs.Good.{Held, Each, IsItem}
 use Rattle.tree_shapes.proofs.Names.{EachPlain, plain_parts, tokens_plain}

@@ -11,7 +11,8 @@ use Rattle.typing_rules.specs.Places.{unit}
 use Rattle.typing_rules.specs.Promises.{is_plain_name}
 use Rattle.typing_rules.specs.Written.{Around}
 use Rattle.src_ast.specs.Syntax.{Syn, syn, MoveOf, StructItem, EnumItem, VariantDecl, ImplItem, FnItem, ParamOf, Syns, no_syn, a_syn, list_of, MaybeSyn, nothing, just}
-use Rattle.typing_soundness.specs.Closures.{BodySyn, Function, Closure, Tape, HasTypes, functions_text, function_text}
+use Rattle.typing_soundness.specs.Closures.{BodySyn, Function, Closure, Tape, functions_text, function_text}
+use Rattle.typing_soundness.specs.Met.{HasTypes}
 use Rattle.well_typed.specs.Claim.{Claim, fact}
 use Rattle.typing_soundness.specs.Shapes.{no_self}
 use Rattle.typing_soundness.specs.Types.{Means}

@@ -3,6 +3,7 @@ pub mod Expressions
 pub mod Heads
 pub mod Items
 pub mod Legal
+pub mod Met
 pub mod Numbers
 pub mod Program
 pub mod Shapes

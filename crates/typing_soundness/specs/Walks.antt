@@ -15,7 +15,8 @@ use Rattle.typing_rules.specs.Scope.{Env}
 use Rattle.typing_rules.specs.Typed.{typed}
 use Rattle.typing_rules.specs.Bodies.{all_rules}
 use Rattle.src_ast.specs.Syntax.{Syn}
-use Rattle.typing_soundness.specs.Closures.{Tape, closures_of, Met}
+use Rattle.typing_soundness.specs.Closures.{Tape, closures_of}
+use Rattle.typing_soundness.specs.Met.{Met}
 
 -- how many of some nodes have a number
 abbrev pub occurs : ℕ → List Node → ℕ

@@ -23,12 +23,13 @@ use Rattle.typing_rules.specs.Program as rules
 use Rattle.typing_rules.specs.Scope.{Env, adt_named, body_named}
 use Rattle.typing_rules.specs.Written as types
 use Rattle.src_ast.specs.Syntax.{Word, Named, Syn, syn, StructItem, EnumItem, FieldDecl, VariantDecl, TraitItem, ImplItem, FnItem, Syns, list_of, MaybeSyn, nothing, just}
-use Rattle.typing_soundness.specs.Closures.{BodySyn, Function, Head, Tape, AreTypesOf, HaveClosures, IsBodyOf, AreMade, Met, types_of, closures_if_any, function_text, functions_text, around_impl, item_text, items_text, program_text}
+use Rattle.typing_soundness.specs.Closures.{BodySyn, Function, Head, Tape, closures_if_any, function_text, functions_text, around_impl, item_text, items_text, program_text}
+use Rattle.typing_soundness.specs.Met.{AreTypesOf, HaveClosures, IsBodyOf, AreMade, Met, types_of}
 use Rattle.typing_soundness.specs.Types.{HaveTypes}
 use Rattle.typing_soundness.specs.Walks.{counted, numbers_of_bodies, Ordered, InOrder, Walked}
 use Rattle.typing_soundness.proofs.Bodies.Functions.{in_function}
 use Rattle.typing_soundness.proofs.Bodies.Closures.{both_walk}
-use Rattle.typing_soundness.proofs.Bodies.Meanings.{param_given}
+use Rattle.typing_soundness.proofs.Items.Meanings.{param_given}
 use Rattle.typing_soundness.proofs.Walking.Adding.{Stays, stays_refl, met_none, ordered_of, ordered_both, counted_join}
 use Rattle.typing_soundness.proofs.Walking.Heads.{params_given, answer_given, types_kept}
 use Rattle.typing_soundness.specs.Legal.{legal_param, params_legal, head_legal}

@@ -19,7 +19,8 @@ use Rattle.typing_rules.specs.Check.{State}
 use Rattle.typing_rules.specs.Places.{used}
 use Rattle.typing_rules.specs.Rows.{used_if_place}
 use Rattle.typing_rules.proofs.Sound.Gives.{numbered}
-use Rattle.typing_soundness.specs.Closures.{Tape, Met}
+use Rattle.typing_soundness.specs.Closures.{Tape}
+use Rattle.typing_soundness.specs.Met.{Met}
 use Rattle.typing_soundness.specs.Types.{HaveTypes}
 use Rattle.typing_soundness.specs.Walks.{occurs, IsCarried, counted, numbers_of_bodies, Ordered, Walks}
 use Rattle.typing_soundness.proofs.Walking.Later.{met_both}

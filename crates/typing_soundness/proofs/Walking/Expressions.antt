@@ -36,10 +36,11 @@ use Rattle.typed_tree.specs.Tree.{ParamTree}
 use Rattle.well_typed.specs.Types.{is_dyn}
 use Rattle.typing_rules.specs.Places.{used, a_node_of, meaning_form, is_fixed, in_own_guard}
 use Rattle.typing_soundness.proofs.Walking.Params.{Still, still, written_still, params_walk, answer_still, in_closure}
-use Rattle.typing_soundness.specs.Closures.{BodySyn, Closure, Head, Tape, HasTypes, AreTypesOf, HaveClosures, HasBody, IsBodyOf, AreMade, Met, types_of, closures_of, closures_in, closures_among, closures_if_any}
+use Rattle.typing_soundness.specs.Closures.{BodySyn, Closure, Head, Tape, closures_of, closures_in, closures_among, closures_if_any}
+use Rattle.typing_soundness.specs.Met.{HasTypes, AreTypesOf, HaveClosures, HasBody, IsBodyOf, AreMade, Met, types_of}
 use Rattle.typing_soundness.specs.Types.{HaveTypes}
 use Rattle.typing_soundness.specs.Walks.{counted, numbers_of_bodies, Ordered, Walks, Walked, WalksNode}
-use Rattle.typing_soundness.proofs.Bodies.Meanings.{written_given}
+use Rattle.typing_soundness.proofs.Items.Meanings.{written_given}
 use Rattle.typing_soundness.proofs.Walking.Heads.{params_given, answer_given, types_kept}
 use Rattle.typing_soundness.specs.Legal.{legal, params_legal, head_legal}
 use Rattle.typing_soundness.proofs.Walking.Lawful.{written_legal, params_are_legal, answer_is_legal, and_so}

@@ -13,10 +13,10 @@ use Rattle.typing_rules.specs.Check.{Check, State}
 use Rattle.typing_rules.specs.Numbered.{param_renumbered}
 use Rattle.typing_rules.specs.Scope.{Env, Entry}
 use Rattle.src_ast.specs.Syntax.{Receiver, ByValue, ByShared, ByUnique, Syn, syn, ParamOf, SelfParam, Syns, no_syn, a_syn, MaybeSyn, nothing, just}
-use Rattle.typing_soundness.specs.Closures.{IsReceiver, MeansParam, MeanParams, MeansAnswer}
+use Rattle.typing_soundness.specs.Met.{IsReceiver, MeansParam, MeanParams, MeansAnswer}
 use Rattle.typing_soundness.specs.Types.{HaveTypes, Means}
 use Rattle.typing_soundness.specs.Walks.{Walked}
-use Rattle.typing_soundness.proofs.Bodies.Meanings.{have_refl, interned_means, written_given}
+use Rattle.typing_soundness.proofs.Items.Meanings.{have_refl, interned_means, written_given}
 use Rattle.typing_soundness.proofs.Walking.Later.{means_later, param_later}
 use Rattle.typing_soundness.proofs.Walking.Patterns.{pattern_walks}
 use Rattle.typing_soundness.proofs.Walking.Steps.{walk, walk_map, walk_obeyed, walk_found, walk_ends}

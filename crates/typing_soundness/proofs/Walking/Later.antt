@@ -9,7 +9,8 @@ use Rattle.typing_rules.specs.Check.{State}
 use Rattle.typing_rules.specs.Written as rules
 use Rattle.typing_rules.specs.Written.{Around}
 use Rattle.src_ast.specs.Syntax.{Receiver, ByValue, ByShared, ByUnique, Syn, syn, Shape, NamedType, GenericType, DynType, SelfType, ParensType, TupleType, ArrayType, NeverType, RefType, ParamOf, SelfParam, Syns, no_syn, a_syn, MaybeSyn, nothing, just}
-use Rattle.typing_soundness.specs.Closures.{BodySyn, Function, Closure, Head, Tape, IsReceiver, MeansParam, MeanParams, MeansAnswer, HasTypes, AreTypesOf, HaveClosures, HasBody, IsBodyOf, AreMade, Met, types_of, behind}
+use Rattle.typing_soundness.specs.Closures.{BodySyn, Function, Closure, Head, Tape}
+use Rattle.typing_soundness.specs.Met.{IsReceiver, MeansParam, MeanParams, MeansAnswer, HasTypes, AreTypesOf, HaveClosures, HasBody, IsBodyOf, AreMade, Met, types_of, behind}
 use Rattle.typing_soundness.specs.Types.{HaveTypes, NamesTy, IsTupleOf, Means, MeansForm, MeanAll}
 
 -- ---- types that are written

@@ -1,6 +1,6 @@
 -- Proves the clauses of `law_of_items`.
-use Rattle.typing_soundness.proofs.Bodies.Adts.{text_adts}
-use Rattle.typing_soundness.proofs.Bodies.Items.{text_types, text_heads, text_closures}
+use Rattle.typing_soundness.proofs.Items.Adts.{text_adts}
+use Rattle.typing_soundness.proofs.Items.Heads.{text_types, text_heads, text_closures}
 use Rattle.typing_soundness.proofs.law.law_of_items.Goals as goal
 
 pub returns-clause-types : goal.returns-clause-types

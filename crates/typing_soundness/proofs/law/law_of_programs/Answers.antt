@@ -1,5 +1,5 @@
 -- Proves the clauses of `law_of_programs`.
-use Rattle.typing_soundness.proofs.Bodies.Accepting.{are_collected, are_headed, are_typed, is_typed}
+use Rattle.typing_soundness.proofs.Items.Accepting.{are_collected, are_headed, are_typed, is_typed}
 use Rattle.typing_soundness.proofs.Bodies.Order.{bodies_in_order}
 use Rattle.typing_soundness.proofs.law.law_of_programs.Goals as goal
 

@@ -1,4 +1,4 @@
-use Rattle.typing_soundness.proofs.Bodies.Meanings.{one_number, one_param_number}
+use Rattle.typing_soundness.proofs.Items.Meanings.{one_number, one_param_number}
 use Rattle.typing_soundness.proofs.law.law_of_written_types.Goals as goal
 
 pub returns-clause-types : goal.returns-clause-types

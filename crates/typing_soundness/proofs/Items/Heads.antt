@@ -22,15 +22,16 @@ use Rattle.typing_rules.specs.Promises.{AreReady, IsAlone, IsValueType}
 use Rattle.typing_rules.specs.Written.{Around, scalar_named, number_of, length_shown, reference_to}
 use Rattle.typing_rules.proofs.Sound.Interned.{equal_is}
 use Rattle.src_ast.specs.Syntax.{Word, Receiver, ByValue, ByShared, ByUnique, Syn, syn, Shape, NamedType, GenericType, DynType, SelfType, ParensType, TupleType, ArrayType, NeverType, RefType, ParamOf, SelfParam, Syns, no_syn, a_syn, MaybeSyn, nothing, just}
-use Rattle.typing_soundness.specs.Closures.{BodySyn, Function, Closure, Head, IsReceiver, MeansParam, MeanParams, MeansAnswer, AreTypesOf, IsBodyOf, AreMade, text_legal, types_of, behind}
+use Rattle.typing_soundness.specs.Closures.{BodySyn, Function, Closure, Head}
+use Rattle.typing_soundness.specs.Met.{IsReceiver, MeansParam, MeanParams, MeansAnswer, AreTypesOf, IsBodyOf, AreMade, text_legal, types_of, behind}
 use Rattle.typing_soundness.specs.Heads.{has_no_self}
 use Rattle.typing_soundness.specs.Items.{is_head_typed, IsClosureTyped}
 use Rattle.typing_soundness.specs.Legal.{legal, legal_param, legal_form, answer_legal, params_legal, param_legal, head_legal}
 use Rattle.typing_soundness.specs.Program.{IsAccepted, HaveHeads}
 use Rattle.typing_soundness.specs.Shapes.{no_self}
 use Rattle.typing_soundness.specs.Types.{Means, MeansForm, NamesTy, IsTupleOf}
-use Rattle.typing_soundness.proofs.Bodies.Accepting.{are_typed}
-use Rattle.typing_soundness.proofs.Bodies.Headed.{IsHeaded, headed, made_closure, own_place}
+use Rattle.typing_soundness.proofs.Items.Accepting.{are_typed}
+use Rattle.typing_soundness.proofs.Items.Headed.{IsHeaded, headed, made_closure, own_place}
 use Rattle.typing_soundness.proofs.Bodies.Order.{bodies_in_order}
 use Rattle.typing_soundness.proofs.Bodies.Types.{scalar_plain, unit_plain, never_plain, IsPlain}
 

@@ -26,12 +26,12 @@ use Rattle.typing_soundness.specs.Heads.{IsVariantOf, AreVariantsOf, IsAdtOf, Ar
 use Rattle.typing_soundness.specs.Items.{is_one_variant, has_variants, IsAdtTyped}
 use Rattle.typing_soundness.specs.Program.{IsAccepted}
 use Rattle.typing_soundness.specs.Walks.{Walked}
-use Rattle.typing_soundness.proofs.Bodies.Accepting.{are_typed}
-use Rattle.typing_soundness.proofs.Bodies.Collected.{all_adts, adts_in}
-use Rattle.typing_soundness.proofs.Bodies.Headed.{heads_of_text}
-use Rattle.typing_soundness.proofs.Bodies.Items.{alone_stands}
+use Rattle.typing_soundness.proofs.Items.Accepting.{are_typed}
+use Rattle.typing_soundness.proofs.Items.Collected.{all_adts, adts_in}
+use Rattle.typing_soundness.proofs.Items.Headed.{heads_of_text}
+use Rattle.typing_soundness.proofs.Items.Heads.{alone_stands}
 use Rattle.typing_soundness.proofs.Bodies.Order.{no_ok, walk_adds}
-use Rattle.typing_soundness.proofs.Bodies.Ready.{All, all_at}
+use Rattle.typing_soundness.proofs.Items.Ready.{All, all_at}
 use Rattle.typing_soundness.proofs.Walking.Lawful.{whatever}
 use Rattle.typing_soundness.proofs.Walking.Steps.{walk, walk_map, walk_obeyed, walk_ends}
 

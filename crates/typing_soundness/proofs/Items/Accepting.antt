@@ -9,9 +9,9 @@ use Rattle.well_typed.specs.Items.{are_items}
 use Rattle.well_typed.specs.Program.{WellTyped, are_bodies}
 use Rattle.typing_rules.specs.Promises.{AreReady, AreClosures}
 use Rattle.typing_soundness.specs.Program.{AreCollected, IsAccepted, HaveHeads}
-use Rattle.typing_soundness.proofs.Bodies.Accepted.{items_ready}
-use Rattle.typing_soundness.proofs.Bodies.Headed.{heads_of_text, have_heads}
-use Rattle.typing_soundness.proofs.Bodies.Known.{items_known}
+use Rattle.typing_soundness.proofs.Items.Accepted.{items_ready}
+use Rattle.typing_soundness.proofs.Items.Headed.{heads_of_text, have_heads}
+use Rattle.typing_soundness.proofs.Items.Known.{items_known}
 use Rattle.typing_soundness.proofs.Bodies.Order.{bodies_in_order}
 use Rattle.typing_soundness.proofs.Bodies.Program.{bodies_typed, heads_typed}
 

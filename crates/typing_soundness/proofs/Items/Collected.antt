@@ -22,11 +22,12 @@ use Rattle.typing_rules.specs.Collected as rules
 use Rattle.typing_rules.specs.Items.{ItemSyn, items_of, item_syns, body_paths, impl_owner, full_name, closure_name}
 use Rattle.typing_rules.specs.Written as types
 use Rattle.src_ast.specs.Syntax.{number_word, Word, Named, Receiver, ByValue, ByShared, ByUnique, Syn, syn, Shape, NamedType, GenericType, DynType, SelfType, ParensType, TupleType, ArrayType, NeverType, RefType, MoveOf, StructItem, EnumItem, VariantDecl, TraitItem, ImplItem, FnItem, ParamOf, SelfParam, Syns, no_syn, a_syn, list_of, MaybeSyn, nothing, just}
-use Rattle.typing_soundness.specs.Closures.{BodySyn, Function, Closure, Head, Tape, IsReceiver, MeansParam, MeanParams, MeansAnswer, HasTypes, AreMade, behind}
+use Rattle.typing_soundness.specs.Closures.{BodySyn, Function, Closure, Head, Tape}
+use Rattle.typing_soundness.specs.Met.{IsReceiver, MeansParam, MeanParams, MeansAnswer, HasTypes, AreMade, behind}
 use Rattle.typing_soundness.specs.Heads.{MeansIfAny, MeansClosureParam, MeanClosureParams, MeansClosureAnswer, AreHeadTypes, IsHeadOf, IsVariantOf, AreVariantsOf, IsAdtOf, AreAdtsOf, body_text, bodies_text}
 use Rattle.typing_soundness.specs.Types.{HaveTypes, NamesTy, Means, MeansForm, MeanAll}
 use Rattle.typing_soundness.specs.Walks.{Walked}
-use Rattle.typing_soundness.proofs.Bodies.Meanings.{have_refl, interned_means, written_given, param_given}
+use Rattle.typing_soundness.proofs.Items.Meanings.{have_refl, interned_means, written_given, param_given}
 use Rattle.typing_soundness.proofs.Walking.Later.{means_later, params_later, param_later, types_later, made_map, made_both}
 use Rattle.typing_soundness.proofs.Walking.Params.{Still, still, onward, written_still, written_param_still, interned_still}
 use Rattle.typing_soundness.proofs.Walking.Rows.{no_closure, ◌⨾◌}

@@ -20,12 +20,13 @@ use Rattle.typing_rules.specs.Promises.{AreReady, KnowsItems, is_plain_name}
 use Rattle.typing_rules.specs.Scope.{kind_at, or_unit}
 use Rattle.typing_rules.specs.Written.{Around, number_of, scalar_named, length_shown, reference_to}
 use Rattle.src_ast.specs.Syntax.{Kind, Unit_, Tuple_, Fields_, Word, Receiver, ByValue, ByShared, ByUnique, Syn, syn, Shape, NamedType, GenericType, DynType, SelfType, ParensType, TupleType, ArrayType, NeverType, RefType, StructItem, EnumItem, VariantDecl, ParamOf, SelfParam, Syns, no_syn, a_syn, list_of}
-use Rattle.typing_soundness.specs.Closures.{BodySyn, Function, Closure, IsReceiver, MeansParam, MeanParams, AreMade, behind}
+use Rattle.typing_soundness.specs.Closures.{BodySyn, Function, Closure}
+use Rattle.typing_soundness.specs.Met.{IsReceiver, MeansParam, MeanParams, AreMade, behind}
 use Rattle.typing_soundness.specs.Types.{Means, MeansForm, NamesTy, IsTupleOf}
 use Rattle.typing_soundness.proofs.Bodies.Types.{unit_plain, never_plain, scalar_plain}
 use Rattle.typing_soundness.specs.Heads.{IsHeadOf, IsVariantOf, AreVariantsOf, AreAdtsOf}
 use Rattle.typing_soundness.specs.Shapes.{has_kind, variant_shaped, item_shaped}
-use Rattle.typing_soundness.proofs.Bodies.Collected.{AreHeads, all_adts, adts_in}
+use Rattle.typing_soundness.proofs.Items.Collected.{AreHeads, all_adts, adts_in}
 
 -- ---- variants and their kinds
 

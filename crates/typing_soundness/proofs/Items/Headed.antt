@@ -29,14 +29,15 @@ use Rattle.typing_rules.specs.Promises.{AreClosures}
 use Rattle.typing_rules.specs.Written as types
 use Rattle.src_ast.specs.Syntax.{Word, Receiver, ByValue, ByShared, ByUnique, Syn, syn, Shape, Minus, Bang, Star, Ampersand, Calculate, Compare, Both, Either, Store, CallOf, MethodOf, FieldOf, PartOf, ElementOf, StructOf, FieldInit, Parens, TupleOf, ArrayOf, Braces, IfElse, IfLetElse, MatchOn, ArmOf, LoopOf, WhileOf, WhileLetOf, BreakOf, ReturnOf, MoveOf, LetOf, Semi, StructItem, EnumItem, ImplItem, FnItem, ParamOf, SelfParam, Syns, no_syn, a_syn, list_of, MaybeSyn, nothing, just}
 use Rattle.typing_rules.proofs.Sound.Interned.{not_there}
-use Rattle.typing_soundness.specs.Closures.{BodySyn, Function, Closure, Head, Tape, IsReceiver, MeansParam, MeanParams, MeansAnswer, AreTypesOf, IsBodyOf, AreMade, Met, types_of, behind, closures_of, closures_in, closures_among, closures_if_any, function_text, functions_text, around_impl, item_text, items_text, program_text}
+use Rattle.typing_soundness.specs.Closures.{BodySyn, Function, Closure, Head, Tape, closures_of, closures_in, closures_among, closures_if_any, function_text, functions_text, around_impl, item_text, items_text, program_text}
+use Rattle.typing_soundness.specs.Met.{IsReceiver, MeansParam, MeanParams, MeansAnswer, AreTypesOf, IsBodyOf, AreMade, Met, types_of, behind}
 use Rattle.typing_soundness.specs.Heads.{MeanClosureParams, MeansClosureAnswer, AreHeadTypes, IsHeadOf, IsAdtOf, AreAdtsOf, inner_text, TellBodies, has_no_self}
 use Rattle.typing_soundness.specs.Program.{HaveHeads}
 use Rattle.typing_soundness.specs.Shapes.{shaped, shaped_form, all_shaped, maybe_shaped, body_shaped, function_shaped, item_shaped, no_self}
 use Rattle.typing_soundness.specs.Walks.{Walked}
-use Rattle.typing_soundness.proofs.Bodies.Collected as collected
-use Rattle.typing_soundness.proofs.Bodies.Collected.{AreHeads, SameHeads, all_names, listed_text, all_adts, adts_in, Collects}
-use Rattle.typing_soundness.proofs.Bodies.Meanings.{same_type, means_once}
+use Rattle.typing_soundness.proofs.Items.Collected as collected
+use Rattle.typing_soundness.proofs.Items.Collected.{AreHeads, SameHeads, all_names, listed_text, all_adts, adts_in, Collects}
+use Rattle.typing_soundness.proofs.Items.Meanings.{same_type, means_once}
 use Rattle.typing_soundness.specs.Walks.{counted}
 use Rattle.typing_soundness.proofs.Bodies.Order.{walk_adds, bodies_in_order}
 use Rattle.typing_soundness.proofs.Bodies.Program.{first_of, others_of}

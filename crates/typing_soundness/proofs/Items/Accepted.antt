@@ -25,14 +25,15 @@ use Rattle.typing_rules.specs.Promises.{AreReady}
 use Rattle.typing_rules.specs.Scope.{Env, adt_named}
 use Rattle.typing_rules.specs.Written as types
 use Rattle.src_ast.specs.Syntax.{Word, Syn, syn, MoveOf, StructItem, EnumItem, FieldDecl, VariantDecl, TraitItem, FnItem, Syns, list_of, MaybeSyn}
-use Rattle.typing_soundness.specs.Closures.{BodySyn, Tape, IsBodyOf, AreMade, behind, text_legal, program_text}
+use Rattle.typing_soundness.specs.Closures.{BodySyn, Tape, program_text}
+use Rattle.typing_soundness.specs.Met.{IsBodyOf, AreMade, behind, text_legal}
 use Rattle.typing_soundness.specs.Heads.{body_text, bodies_text, TellBodies}
 use Rattle.typing_soundness.specs.Legal.{legal_param, params_legal, head_legal, field_legal, fields_legal, variants_legal, trait_heads_legal, body_legal, item_legal}
 use Rattle.typing_soundness.specs.Walks.{Walked}
-use Rattle.typing_soundness.proofs.Bodies.Collected.{AreHeads, all_names, listed_text}
-use Rattle.typing_soundness.proofs.Bodies.Headed.{ok_same, no_ok as no_items_ok, heads_of_text, items_listed, words_collected, scalars_distinct}
+use Rattle.typing_soundness.proofs.Items.Collected.{AreHeads, all_names, listed_text}
+use Rattle.typing_soundness.proofs.Items.Headed.{ok_same, no_ok as no_items_ok, heads_of_text, items_listed, words_collected, scalars_distinct}
 use Rattle.typing_soundness.proofs.Bodies.Order.{no_ok, walk_adds}
-use Rattle.typing_soundness.proofs.Bodies.Ready.{All, all_at, ItemKeeps, collecting_ready}
+use Rattle.typing_soundness.proofs.Items.Ready.{All, all_at, ItemKeeps, collecting_ready}
 use Rattle.typing_soundness.proofs.Walking.Lawful.{whatever, and_so, written_legal, written_param_legal, params_are_legal, answer_is_legal}
 use Rattle.typing_soundness.proofs.Walking.Steps.{walk, walk_map, walk_obeyed, walk_ends}
 

@@ -35,7 +35,7 @@ use Rattle.typing_rules.proofs.Sound.Interned.{interned_sound}
 use Rattle.typing_rules.proofs.Sound.Later.{known_later, ready_later}
 use Rattle.typing_soundness.specs.Legal.{legal, legal_form, all_legal, legal_param, legal_param_form, param_legal, params_legal, answer_legal, head_legal, field_legal, fields_legal, variant_legal, variants_legal, trait_head_legal, trait_heads_legal, body_legal, item_legal}
 use Rattle.typing_soundness.specs.Walks.{Walked}
-use Rattle.typing_soundness.proofs.Bodies.Collected.{all_names, body_collected, bodies_collected, item_head_collected, names_still}
+use Rattle.typing_soundness.proofs.Items.Collected.{all_names, body_collected, bodies_collected, item_head_collected, names_still}
 use Rattle.std.specs.List.{filter_map}
 use Rattle.typing_soundness.proofs.Bodies.Types.{IsPlain, IsParamTy, adt_plain, ref_param, plain_alone, plain_param, value_plain, unit_plain, written_plain, written_param_sound}
 use Rattle.typing_soundness.proofs.Walking.Lawful.{all_are_legal}

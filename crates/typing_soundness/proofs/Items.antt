@@ -1,0 +1,10 @@
+-- The items of a text: what is collected, that it is ready, and what is so of an accepted text.
+pub mod Accepted
+pub mod Accepting
+pub mod Adts
+pub mod Collected
+pub mod Headed
+pub mod Heads
+pub mod Known
+pub mod Meanings
+pub mod Ready
