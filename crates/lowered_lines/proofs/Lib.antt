@@ -6,5 +6,5 @@ mod Branches
 mod Fields
 mod Forms
 mod Cells
-mod Facts
+pub mod Facts
 pub mod Whole

@@ -1,0 +1,177 @@
+-- Worked programs are lowerable; and of each fact a program that is well typed, lacks that fact alone, and has a graph
+-- with a fault.
+use Rattle.std.proofs.Common.{◌≡◌, ℕ, true, false, ◌&&◌, List, [], ◌∷◌, Option, Some, None, refl}
+use Rattle.std.specs.Prelude.{codes, option_map}
+use Rattle.mir_base.specs.declared.int_kind.IntKind.{IntKind}
+use Rattle.mir_base.specs.declared.place_in_text.Pos.{Pos}
+use Rattle.cfg_graph.specs.WellFormed.Faults.{faults, first_fault}
+use Rattle.mir_ty.specs.declared.adt.Adt.{Adt}
+use Rattle.mir_ty.specs.declared.ty.Ty.{Ty}
+use Rattle.mir_ty.specs.declared.ty.TyId.{TyId}
+use Rattle.mir_ty.specs.ItemTable.{ItemTable}
+use Rattle.typed_tree.specs.declared.node.Use.{Use}
+use Rattle.typed_tree.specs.Tree.{Node, node, no_node, a_node, absent, present, Variable, Block, Let, Binding, TuplePattern, ProgramTree}
+use Rattle.src_meaning.proofs.Examples.Assignments as assignments
+use Rattle.src_meaning.proofs.Examples.Closures as closures
+use Rattle.src_meaning.proofs.Examples.JobQueue as job_queue
+use Rattle.src_meaning.proofs.Examples.LiteralTests as literal_tests
+use Rattle.src_meaning.proofs.Examples.Loops as loops
+use Rattle.src_meaning.proofs.Examples.Patterns as patterns
+use Rattle.src_meaning.proofs.Examples.TraitObjects as trait_objects
+use Rattle.src_meaning.proofs.Examples.Unwinding as unwinding
+use Rattle.well_typed.specs.Program.{is_well_typed}
+use Rattle.cfg_build.specs.Lower.{graph_of}
+use Rattle.lowered_graphs.specs.Lowerable.{is_lowerable}
+
+-- ---- worked programs
+lowerable_element : is_lowerable assignments.element ≡ true
+lowerable_element = refl
+
+lowerable_closure : is_lowerable closures.called ≡ true
+lowerable_closure = refl
+
+lowerable_job_queue : is_lowerable job_queue.job_queue ≡ true
+lowerable_job_queue = refl
+
+lowerable_literal : is_lowerable literal_tests.literal ≡ true
+lowerable_literal = refl
+
+lowerable_while_let : is_lowerable loops.while_let ≡ true
+lowerable_while_let = refl
+
+lowerable_match : is_lowerable patterns.match_ ≡ true
+lowerable_match = refl
+
+lowerable_trait_object : is_lowerable trait_objects.shown ≡ true
+lowerable_trait_object = refl
+
+lowerable_let : is_lowerable unwinding.of_let ≡ true
+lowerable_let = refl
+
+-- ---- what a program may lack
+abbrev here : Pos
+here = record { line = 1; col = 1 }
+
+abbrev ty_no : ℕ → TyId
+ty_no k = record { 0 = k }
+
+abbrev i32 : TyId
+i32 = ty_no 0
+
+abbrev unit : TyId
+unit = ty_no 1
+
+abbrev never : TyId
+never = ty_no 3
+
+abbrev types : List Ty
+types = Ty.Int IntKind.I32 ∷ Ty.Unit ∷ Ty.Bool ∷ Ty.Never ∷ []
+
+abbrev items : ItemTable
+items = record {
+  types = types;
+  adts = [];
+  traits = [];
+  impls = [];
+  closures = [];
+  bodies = record { name = codes "main"; params = []; result = unit } ∷ [];
+}
+
+abbrev with_main : ItemTable → Node → ProgramTree
+with_main items block = record { items = items; bodies = record { number = 0; params = []; answer = unit; block = block } ∷ [] }
+
+abbrev empty : Node
+empty = node 0 here unit None (Block no_node absent)
+
+-- fn main() {}
+abbrev plain : ProgramTree
+plain = with_main items empty
+
+plain_stands : is_well_typed plain && is_lowerable plain ≡ true
+plain_stands = refl
+
+plain_has_no_fault : faults (graph_of plain) ≡ []
+plain_has_no_fault = refl
+
+-- the number of the first fault of its graph
+abbrev first_number : ProgramTree → Option ℕ
+first_number p = option_map (λ fault. fault.number) (first_fault (graph_of p))
+
+-- a box that holds itself: let x: T; where T is Box<T>
+abbrev let_of : TyId → Use → Node
+let_of ty by = node 0 here unit None (Block (a_node (node 1 here unit None (Let (node 2 here ty (Some by) (Binding (codes "x"))) absent)) no_node) absent)
+
+abbrev boxed_in_itself : ProgramTree
+boxed_in_itself = with_main (record items { types = Ty.Int IntKind.I32 ∷ Ty.Unit ∷ Ty.Bool ∷ Ty.Never ∷ Ty.Boxed (ty_no 4) ∷ [] }) (let_of (ty_no 4) Use.Move)
+
+boxed_in_itself_lacks : (is_well_typed boxed_in_itself ≡ true) × (is_lowerable boxed_in_itself ≡ false) × (first_number boxed_in_itself ≡ Some 1)
+boxed_in_itself_lacks = (refl, refl, refl)
+
+-- struct dyn(i32);
+abbrev struct_called : List ℕ → Adt
+struct_called name = record {
+  name = name;
+  is_enum = false;
+  variants = record { name = name; fields = i32 ∷ []; field_names = codes "0" ∷ [] } ∷ [];
+  copy = false;
+  drop_body = None;
+}
+
+abbrev with_struct : List ℕ → ProgramTree
+with_struct name = with_main (record items { adts = struct_called name ∷ [] }) empty
+
+struct_stands : (is_well_typed (with_struct (codes "S")) ≡ true) × (is_lowerable (with_struct (codes "S")) ≡ true) × (first_number (with_struct (codes "S")) ≡ None)
+struct_stands = (refl, refl, refl)
+
+struct_lacks : (is_well_typed (with_struct (codes "dyn")) ≡ true) × (is_lowerable (with_struct (codes "dyn")) ≡ false) × (first_number (with_struct (codes "dyn")) ≡ Some 7)
+struct_lacks = (refl, refl, refl)
+
+-- trait T { fn m&(&self); }
+abbrev trait_with : List ℕ → ProgramTree
+trait_with method = with_main (record items {
+  types = Ty.Int IntKind.I32 ∷ Ty.Unit ∷ Ty.Bool ∷ Ty.Never ∷ Ty.Dyn 0 ∷ Ty.Shared (ty_no 4) ∷ [];
+  traits = record { name = codes "T"; methods = record { name = method; params = ty_no 5 ∷ []; result = unit } ∷ [] } ∷ [];
+}) empty
+
+method_stands : (is_well_typed (trait_with (codes "m")) ≡ true) × (is_lowerable (trait_with (codes "m")) ≡ true) × (first_number (trait_with (codes "m")) ≡ None)
+method_stands = (refl, refl, refl)
+
+method_lacks : (is_well_typed (trait_with (codes "m&")) ≡ true) × (is_lowerable (trait_with (codes "m&")) ≡ false) × (first_number (trait_with (codes "m&")) ≡ Some 7)
+method_lacks = (refl, refl, refl)
+
+-- let x: T; of a type that is not in the table
+let_stands : (is_well_typed (with_main items (let_of i32 Use.Copy)) ≡ true) × (is_lowerable (with_main items (let_of i32 Use.Copy)) ≡ true) × (first_number (with_main items (let_of i32 Use.Copy)) ≡ None)
+let_stands = (refl, refl, refl)
+
+let_lacks : (is_well_typed (with_main items (let_of (ty_no 4) Use.Move)) ≡ true) × (is_lowerable (with_main items (let_of (ty_no 4) Use.Move)) ≡ false) × (first_number (with_main items (let_of (ty_no 4) Use.Move)) ≡ Some 1)
+let_lacks = (refl, refl, refl)
+
+-- fn f(x: !) { let (a, b): (i32, i32) = x; }
+abbrev binds : ℕ → List ℕ → Node
+binds id name = node id here i32 (Some Use.Copy) (Binding name)
+
+abbrev apart : TyId → ProgramTree
+apart ty = record {
+  items = record items {
+    types = Ty.Int IntKind.I32 ∷ Ty.Unit ∷ Ty.Bool ∷ Ty.Never ∷ Ty.Tuple (i32 ∷ i32 ∷ []) ∷ [];
+    bodies = record { name = codes "main"; params = []; result = unit } ∷ record { name = codes "f"; params = ty ∷ []; result = unit } ∷ [];
+  };
+  bodies =
+      record { number = 0; params = []; answer = unit; block = empty } ∷
+      record {
+        number = 1;
+        params = record { pattern = node 0 here ty (Some Use.Copy) (Binding (codes "x")); ty = ty } ∷ [];
+        answer = unit;
+        block =
+            node 1 here unit None
+            (Block (a_node (node 2 here unit None
+            (Let (node 3 here (ty_no 4) None (TuplePattern (a_node (binds 4 (codes "a")) (a_node (binds 5 (codes "b")) no_node))))
+            (present (node 6 here ty None (Variable 0))))) no_node) absent);
+      } ∷ [];
+}
+
+pair_stands : (is_well_typed (apart (ty_no 4)) ≡ true) × (is_lowerable (apart (ty_no 4)) ≡ true) × (first_number (apart (ty_no 4)) ≡ None)
+pair_stands = (refl, refl, refl)
+
+never_lacks : (is_well_typed (apart never) ≡ true) × (is_lowerable (apart never) ≡ false) × (first_number (apart never) ≡ Some 3)
+never_lacks = (refl, refl, refl)
