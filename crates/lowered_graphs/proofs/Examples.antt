@@ -1,7 +1,12 @@
 -- Worked programs are lowerable; and of each fact a program that is well typed, lacks that fact alone, and has a graph
 -- with a fault.
-use Rattle.std.proofs.Common.{◌≡◌, ℕ, true, false, ◌&&◌, List, [], ◌∷◌, Option, Some, None, refl}
-use Rattle.std.specs.Prelude.{codes, option_map}
+use Rattle.std.proofs.Common.{◌≡◌, ℕ, suc, ◌==◌, Bool, true, false, ◌&&◌, List, [], ◌∷◌, ◌++◌, Option, Some, None, map, pos, refl}
+use Rattle.std.specs.Prelude.{codes, flat_map, option_map}
+use Rattle.std.specs.List.{list_any}
+use Rattle.cfg_graph.specs.declared.graph.Block as graph
+use Rattle.cfg_graph.specs.declared.graph.Body.{Body}
+use Rattle.cfg_graph.specs.declared.place.Place.{Place}
+use Rattle.cfg_graph.specs.Uses.{places_of_stmt, places_of_term}
 use Rattle.mir_base.specs.declared.int_kind.IntKind.{IntKind}
 use Rattle.mir_base.specs.declared.place_in_text.Pos.{Pos}
 use Rattle.cfg_graph.specs.WellFormed.Faults.{faults, first_fault}
@@ -10,7 +15,7 @@ use Rattle.mir_ty.specs.declared.ty.Ty.{Ty}
 use Rattle.mir_ty.specs.declared.ty.TyId.{TyId}
 use Rattle.mir_ty.specs.ItemTable.{ItemTable}
 use Rattle.typed_tree.specs.declared.node.Use.{Use}
-use Rattle.typed_tree.specs.Tree.{Node, node, no_node, a_node, absent, present, Variable, Block, Let, Binding, TuplePattern, ProgramTree}
+use Rattle.typed_tree.specs.Tree.{Node, node, Form, no_node, a_node, absent, present, Number, Variable, Panic, Block, Let, Evaluate, Binding, TuplePattern, ParamTree, BodyTree, ProgramTree}
 use Rattle.src_meaning.proofs.Examples.Assignments as assignments
 use Rattle.src_meaning.proofs.Examples.Closures as closures
 use Rattle.src_meaning.proofs.Examples.JobQueue as job_queue
@@ -22,6 +27,10 @@ use Rattle.src_meaning.proofs.Examples.Unwinding as unwinding
 use Rattle.well_typed.specs.Program.{is_well_typed}
 use Rattle.cfg_build.specs.Lower.{graph_of}
 use Rattle.lowered_graphs.specs.Lowerable.{is_lowerable}
+
+abbrev counted : {A : Type 0} → ℕ → List A → List ℕ
+counted n [] = []
+counted n (x ∷ xs) = n ∷ counted (suc n) xs
 
 -- ---- worked programs
 lowerable_element : is_lowerable assignments.element ≡ true
@@ -175,3 +184,50 @@ pair_stands = (refl, refl, refl)
 
 never_lacks : (is_well_typed (apart never) ≡ true) × (is_lowerable (apart never) ≡ false) × (first_number (apart never) ≡ Some 3)
 never_lacks = (refl, refl, refl)
+
+-- ---- which locals lines name
+
+abbrev places_in : graph.Block → List Place
+places_in block = flat_map places_of_stmt block.stmts ++ places_of_term block.term
+
+abbrev is_named : Body → ℕ → Bool
+is_named body local = list_any (λ place. place.local == local) (flat_map places_in body.blocks)
+
+-- whether each local of `main` is named
+abbrev are_named : ProgramTree → List (List Bool)
+are_named p = map (λ body. map (is_named body) (counted 0 body.locals)) (graph_of p).bodies
+
+-- fn main() { let x: i32; }
+declared_alone : are_named (with_main items (let_of i32 Use.Copy)) ≡ (true ∷ true ∷ []) ∷ []
+declared_alone = refl
+
+-- fn main() { panic!(); let x = 1; }
+abbrev behind_a_panic : ProgramTree
+behind_a_panic =
+    with_main items
+    (node 0 here never None
+    (Block (a_node (node 1 here unit None (Evaluate (node 2 here never None Panic)))
+    (a_node (node 3 here unit None (Let (node 4 here i32 (Some Use.Copy) (Binding (codes "x"))) (present (node 5 here i32 None (Number (pos 1)))))) no_node)) absent))
+
+behind_a_panic_stands : is_well_typed behind_a_panic && is_lowerable behind_a_panic ≡ true
+behind_a_panic_stands = refl
+
+behind_a_panic_named : are_named behind_a_panic ≡ (false ∷ false ∷ []) ∷ []
+behind_a_panic_named = refl
+
+-- fn f(x: i32) {}
+abbrev unused_param : ProgramTree
+unused_param = record {
+  items = record items { bodies = record { name = codes "main"; params = []; result = unit } ∷ record { name = codes "f"; params = i32 ∷ []; result = unit } ∷ []; };
+  bodies =
+      record { number = 0; params = []; answer = unit; block = empty } ∷
+      record {
+        number = 1;
+        params = record { pattern = node 0 here i32 (Some Use.Copy) (Binding (codes "x")); ty = i32 } ∷ [];
+        answer = unit;
+        block = node 1 here unit None (Block no_node absent);
+      } ∷ [];
+}
+
+unused_param_named : are_named unused_param ≡ (true ∷ []) ∷ (true ∷ false ∷ []) ∷ []
+unused_param_named = refl
