@@ -1,5 +1,5 @@
--- Worked programs are lowerable; and of each fact a program that is well typed, lacks that fact alone, and has a graph
--- with a fault.
+-- Of each fact a program that is well typed, lacks that fact alone, and has a graph with a fault, beside one that has it.
+-- (Texts whose programs are lowerable stand with the examples of the lowering.)
 use Rattle.std.proofs.Common.{◌≡◌, ℕ, suc, ◌==◌, Bool, true, false, ◌&&◌, List, [], ◌∷◌, ◌++◌, Option, Some, None, map, pos, refl}
 use Rattle.std.specs.Prelude.{codes, flat_map, option_map}
 use Rattle.std.specs.List.{list_any}
@@ -16,14 +16,6 @@ use Rattle.mir_ty.specs.declared.ty.TyId.{TyId}
 use Rattle.mir_ty.specs.ItemTable.{ItemTable}
 use Rattle.typed_tree.specs.declared.node.Use.{Use}
 use Rattle.typed_tree.specs.Tree.{Node, node, Form, no_node, a_node, absent, present, Number, Variable, Panic, Block, Let, Evaluate, Binding, TuplePattern, ParamTree, BodyTree, ProgramTree}
-use Rattle.src_meaning.proofs.Examples.Assignments as assignments
-use Rattle.src_meaning.proofs.Examples.Closures as closures
-use Rattle.src_meaning.proofs.Examples.JobQueue as job_queue
-use Rattle.src_meaning.proofs.Examples.LiteralTests as literal_tests
-use Rattle.src_meaning.proofs.Examples.Loops as loops
-use Rattle.src_meaning.proofs.Examples.Patterns as patterns
-use Rattle.src_meaning.proofs.Examples.TraitObjects as trait_objects
-use Rattle.src_meaning.proofs.Examples.Unwinding as unwinding
 use Rattle.well_typed.specs.Program.{is_well_typed}
 use Rattle.cfg_build.specs.Lower.{graph_of}
 use Rattle.lowered_graphs.specs.Lowerable.{is_lowerable}
@@ -31,31 +23,6 @@ use Rattle.lowered_graphs.specs.Lowerable.{is_lowerable}
 abbrev counted : {A : Type 0} → ℕ → List A → List ℕ
 counted n [] = []
 counted n (x ∷ xs) = n ∷ counted (suc n) xs
-
--- ---- worked programs
-lowerable_element : is_lowerable assignments.element ≡ true
-lowerable_element = refl
-
-lowerable_closure : is_lowerable closures.called ≡ true
-lowerable_closure = refl
-
-lowerable_job_queue : is_lowerable job_queue.job_queue ≡ true
-lowerable_job_queue = refl
-
-lowerable_literal : is_lowerable literal_tests.literal ≡ true
-lowerable_literal = refl
-
-lowerable_while_let : is_lowerable loops.while_let ≡ true
-lowerable_while_let = refl
-
-lowerable_match : is_lowerable patterns.match_ ≡ true
-lowerable_match = refl
-
-lowerable_trait_object : is_lowerable trait_objects.shown ≡ true
-lowerable_trait_object = refl
-
-lowerable_let : is_lowerable unwinding.of_let ≡ true
-lowerable_let = refl
 
 -- ---- what a program may lack
 abbrev here : Pos

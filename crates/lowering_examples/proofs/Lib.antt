@@ -11,5 +11,6 @@ mod Operators
 mod Panics
 mod Patterns
 mod Temporaries
+mod Texts
 mod TraitObjects
 mod Unwinding
