@@ -35,7 +35,7 @@ pub record IsAcceptedText (text : List ℕ) (p : ProgramTree) : Type 0 where
 
 -- Each body has its head and each closure its body, and each body is well typed, among items that are ready: so the
 -- program is well typed where its items are. Of these, heads and closures are,
--- and structs and enums but for what they derive and drop, and equal types have one number.
+-- and structs and enums but for names of fields and drop bodies, and equal types have one number.
 pub record HasTypedBodies (p : ProgramTree) : Type 0 where
   pub heads : HaveHeads p.items.bodies p.bodies
   pub closures : AreClosures p.items

@@ -3,6 +3,7 @@ pub mod Accepted
 pub mod Accepting
 pub mod Adts
 pub mod Collected
+pub mod Copies
 pub mod Headed
 pub mod Heads
 pub mod Known

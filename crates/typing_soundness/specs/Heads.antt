@@ -1,11 +1,12 @@
 -- The heads that are collected for the bodies of a text, before any body is looked at.
-use Rattle.std.specs.Prelude.{◌≡◌, ℕ, true, false, List, [], ◌∷◌, length, Some}
+use Rattle.std.specs.Prelude.{◌≡◌, ℕ, true, false, List, [], ◌∷◌, length, Some, codes}
 use Rattle.mir_ty.specs.declared.adt.Adt.{Adt}
 use Rattle.mir_ty.specs.declared.adt.Variant.{Variant}
 use Rattle.mir_ty.specs.declared.def.Sig.{Sig}
 use Rattle.mir_ty.specs.declared.ty.Ty.{Ty}
 use Rattle.mir_ty.specs.declared.ty.TyId.{TyId}
 use Rattle.mir_ty.specs.ItemTable.{ItemTable, type_at}
+use Rattle.typing_rules.specs.Collected as rules
 use Rattle.typing_rules.specs.Items.{ItemSyn}
 use Rattle.typing_rules.specs.Places.{unit}
 use Rattle.typing_rules.specs.Promises.{is_plain_name}
@@ -72,9 +73,10 @@ AreVariantsOf (a_syn first rest) (v ∷ vs) = ⊥
 abbrev pub IsAdtOf : Syn → Adt → Type 0
 IsAdtOf (syn at (StructItem derives name kind fields)) adt =
     (adt.name ≡ name.1) × (v : Variant) × (adt.variants ≡ v ∷ []) × IsVariantOf fields v × ((v.name ≡ name.1) ×
-    (adt.is_enum ≡ false))
+    (adt.is_enum ≡ false) × (adt.copy ≡ rules.derives (codes "Copy") derives))
 IsAdtOf (syn at (EnumItem derives name variants)) adt =
-    (adt.name ≡ name.1) × (adt.is_enum ≡ true) × AreVariantsOf variants adt.variants
+    (adt.name ≡ name.1) × (adt.is_enum ≡ true) × AreVariantsOf variants adt.variants × (adt.copy ≡ rules.derives (codes
+    "Copy") derives)
 IsAdtOf _ adt = ⊥
 
 -- structs and enums in the order of the text

@@ -1,5 +1,5 @@
 -- What is proved of the items of accepted texts.
-use Rattle.std.specs.Prelude.{◌≡◌, ℕ, ◌==◌, nat_le, Bool, false, ◌&&◌, if◌then◌else◌, List, [], ◌∷◌, map, length, Some, slice_get, IsTrue}
+use Rattle.std.specs.Prelude.{◌≡◌, ℕ, ◌==◌, nat_le, Bool, false, ◌&&◌, if◌then◌else◌, List, [], ◌∷◌, map, length, Some, slice_get, IsTrue, ◌||◌, not, is_some}
 use Rattle.std.specs.List.{list_any, list_all}
 use Rattle.std.specs.Str.{bytes_eq}
 use Rattle.mir_base.specs.declared.place_in_text.Pos.{Pos}
@@ -9,6 +9,7 @@ use Rattle.mir_ty.specs.declared.def.ClosureDef.{ClosureDef}
 use Rattle.mir_ty.specs.declared.def.Sig.{Sig}
 use Rattle.mir_ty.specs.declared.ty.Ty.{Ty}
 use Rattle.mir_ty.specs.declared.ty.TyId.{TyId}
+use Rattle.mir_ty.specs.Facts.{is_copy}
 use Rattle.mir_ty.specs.ItemTable.{ItemTable, type_at}
 use Rattle.src_tree.specs.Layout.{Parts}
 use Rattle.typed_tree.specs.Tree.{ProgramTree}
@@ -63,9 +64,15 @@ has_variants adt =
     if adt.is_enum then nat_le (length adt.variants) 64 && are_distinct (map (λ v. v.name) adt.variants) else
     is_one_variant adt.name adt.variants
 
+-- what derives `Copy` has no `Drop` impl, and fields that are Copy
+abbrev pub may_be_copy : ItemTable → Adt → Bool
+may_be_copy items adt =
+    not adt.copy || (not (is_some adt.drop_body) && list_all (λ v. list_all (is_copy items) v.fields) adt.variants)
+
 pub record IsAdtTyped (items : ItemTable) (adt : Adt) : Type 0 where
   pub variants : IsTrue (has_variants adt)
   pub fields : (n : ℕ) (v : Variant) → slice_get adt.variants n ≡ Some v → IsTrue (is_variant_typed items v)
+  pub copy : IsTrue (may_be_copy items adt)
 
 -- So are the structs and enums of an accepted text.
 abbrev pub AdtsAreTyped : Type 0

@@ -59,8 +59,9 @@ pub fn law_of_programs()
 
 /// Of the items of a text that is accepted: equal types have one number, with `bool` and `()` among them; each head of a
 /// body has parameters of types that may stand there, and a result that stands alone; each closure has captures that
-/// stand alone and a body, whose head begins with the closure and goes on with types that stand alone; each struct has one variant with its name
-/// and each enum at most 64, whose names differ, with at most 32 fields each, which stand alone and have names.
+/// stand alone and a body, whose head begins with the closure and goes on with types that stand alone; each struct has
+/// one variant with its name and each enum at most 64, whose names differ, with at most 32 fields each, which stand alone
+/// and have names; and what derives `Copy` has fields that are Copy and no `Drop` impl.
 pub fn law_of_items()
     ensures types { TypesDiffer }
     ensures heads { HeadsAreTyped }

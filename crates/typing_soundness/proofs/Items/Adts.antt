@@ -27,6 +27,7 @@ use Rattle.typing_soundness.specs.Items.{is_one_variant, has_variants, IsAdtType
 use Rattle.typing_soundness.specs.Program.{IsAccepted}
 use Rattle.typing_soundness.specs.Walks.{Walked}
 use Rattle.typing_soundness.proofs.Items.Accepting.{are_typed}
+use Rattle.typing_soundness.proofs.Items.Copies.{text_copies}
 use Rattle.typing_soundness.proofs.Items.Collected.{all_adts, adts_in}
 use Rattle.typing_soundness.proofs.Items.Headed.{heads_of_text}
 use Rattle.typing_soundness.proofs.Items.Heads.{alone_stands}
@@ -236,6 +237,7 @@ module _ (parts : Parts Pos) (items : ItemTable) (p : ProgramTree) (h : IsAccept
   text_adts n adt is =
       let d = all_at IsDeclared p.items.adts n adt declared is in
       record {
+        copy = text_copies parts items p h n adt is;
         variants = d.0;
         fields = λ m v at.
             let c = all_at IsCounted adt.variants m v d.1 at in

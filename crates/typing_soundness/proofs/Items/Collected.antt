@@ -556,11 +556,11 @@ pub item_head_collected : (k : rules.Known) (n : ℕ) (i : Syn) (s : State) → 
 item_head_collected k n (syn at (StructItem ds name kind fields)) s =
     walk (derives_still ds s) λ _ t e. walk (variant_collected (rules.names_alone k (types.number_of k.adts name.1)) name.1
     fields t) λ v u g. walk_ends (with_adt_collects n (syn at (StructItem ds name kind fields)) (onward e g.0) (rules.adt_of
-    k ds name.1 false (v ∷ [])) (refl, v, refl, g.2, (g.1, refl)))
+    k ds name.1 false (v ∷ [])) (refl, v, refl, g.2, (g.1, refl, refl)))
 item_head_collected k n (syn at (EnumItem ds name variants)) s =
     walk (derives_still ds s) λ _ t e. walk (variants_collected (rules.names_alone k (types.number_of k.adts name.1))
     variants t) λ vs u g. walk_ends (with_adt_collects n (syn at (EnumItem ds name variants)) (onward e g.0) (rules.adt_of k
-    ds name.1 true vs) (refl, refl, g.1))
+    ds name.1 true vs) (refl, refl, g.1, refl))
 item_head_collected k n (syn at (TraitItem name heads)) s =
     walk (interned_still (Ty.Dyn (length s.items.traits)) s (still s)) λ own t e. walk (each_still (rules.trait_head
     (rules.names_alone k None) own) (trait_head_still (rules.names_alone k None) own) (list_of heads) t) λ sigs u g.
