@@ -11,7 +11,6 @@ use Rattle.src_tree.specs.View.{items_of}
 use Rattle.src_parse.specs.Answers.{IsTree}
 use Rattle.typed_tree.specs.Tree.{ProgramTree}
 use Rattle.well_typed.specs.Claim.{Holds, each}
-use Rattle.well_typed.specs.Items.{are_items}
 use Rattle.well_typed.specs.Program.{WellTyped, are_bodies}
 use Rattle.typing_rules.specs.Borrows.{broken_borrow, unless_broken, unless_borrows, read_typed}
 use Rattle.typing_rules.specs.Check.{Broken}
@@ -23,9 +22,11 @@ use Rattle.typing_rules.specs.Promises.{AreReady, AreClosures}
 use Rattle.typing_soundness.specs.Heads.{TellBodies}
 use Rattle.typing_soundness.specs.Program.{IsOfText, IsAccepted, HaveHeads}
 use Rattle.typing_soundness.specs.Shapes.{item_shaped}
-use Rattle.typing_soundness.proofs.Items.Accepting.{are_headed, are_typed, is_typed}
+use Rattle.typing_soundness.proofs.Items.Accepting.{are_headed, are_typed}
 use Rattle.typing_soundness.proofs.Items.Adts.{text_adts}
 use Rattle.typing_soundness.proofs.Items.Heads.{text_types, text_heads, text_closures}
+use Rattle.typing_soundness.specs.Items.{but_heads}
+use Rattle.typing_soundness.proofs.Items.Rest.{rest_is_enough}
 use Rattle.tree_shapes.specs.Texts.{IsAcceptedText, HasTypedBodies}
 use Rattle.tree_shapes.proofs.Good.{Held, Each, IsItem}
 use Rattle.tree_shapes.proofs.Names.{EachPlain, plain_parts, tokens_plain}
@@ -75,8 +76,8 @@ module _ (text : List ℕ) (p : ProgramTree) (h : IsAcceptedText text p) where
   pub text_typed : AreReady p.items × Holds (are_bodies p.items 0 p.items.bodies p.bodies)
   text_typed = are_typed parts found.0 p accepted
 
-  pub text_program : Holds (are_items p.items) → WellTyped p
-  text_program = is_typed parts found.0 p accepted
+  pub text_program : Holds (but_heads p.items) → WellTyped p
+  text_program = rest_is_enough parts found.0 p accepted
 
   pub typed_bodies : HasTypedBodies p
   typed_bodies = record {

@@ -11,12 +11,12 @@ use Rattle.src_tree.specs.View.{items_of}
 use Rattle.src_parse.specs.Answers.{IsTree}
 use Rattle.typed_tree.specs.Tree.{ProgramTree}
 use Rattle.well_typed.specs.Claim.{Holds}
-use Rattle.well_typed.specs.Items.{are_items, are_distinct_types}
+use Rattle.well_typed.specs.Items.{are_distinct_types}
 use Rattle.well_typed.specs.Program.{WellTyped, are_bodies}
 use Rattle.typing_rules.specs.Borrows.{read_typed}
 use Rattle.typing_rules.specs.Program.{typed_program}
 use Rattle.typing_rules.specs.Promises.{AreReady, AreClosures}
-use Rattle.typing_soundness.specs.Items.{is_head_typed, IsAdtTyped, IsClosureTyped}
+use Rattle.typing_soundness.specs.Items.{is_head_typed, IsAdtTyped, IsClosureTyped, but_heads}
 use Rattle.typing_soundness.specs.Program.{IsOfText, HaveHeads}
 
 -- The tree of a text is one as the laws of typing ask.
@@ -60,9 +60,9 @@ BodiesAreTyped = (text : List ℕ) (p : ProgramTree) → IsAcceptedText text p �
 abbrev pub HaveTypedBodies : Type 0
 HaveTypedBodies = (text : List ℕ) (p : ProgramTree) → IsAcceptedText text p → HasTypedBodies p
 
--- So its program is well typed where its items are.
+-- So its program is well typed where its items are, but for closures and heads.
 abbrev pub ProgramsAreTyped : Type 0
-ProgramsAreTyped = (text : List ℕ) (p : ProgramTree) → IsAcceptedText text p → Holds (are_items p.items) → WellTyped p
+ProgramsAreTyped = (text : List ℕ) (p : ProgramTree) → IsAcceptedText text p → Holds (but_heads p.items) → WellTyped p
 
 -- What is read of a text that breaks no rule of items, bodies and borrows has typed bodies.
 abbrev pub ReadTyped : Type 0

@@ -9,3 +9,4 @@ pub mod Heads
 pub mod Known
 pub mod Meanings
 pub mod Ready
+pub mod Rest

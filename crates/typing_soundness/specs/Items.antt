@@ -1,5 +1,5 @@
 -- What is proved of the items of accepted texts.
-use Rattle.std.specs.Prelude.{◌≡◌, ℕ, ◌==◌, nat_le, Bool, false, ◌&&◌, if◌then◌else◌, List, [], ◌∷◌, map, length, Some, slice_get, IsTrue, ◌||◌, not, is_some}
+use Rattle.std.specs.Prelude.{◌≡◌, ℕ, ◌==◌, nat_le, Bool, false, ◌&&◌, if◌then◌else◌, List, [], ◌∷◌, map, length, Some, slice_get, IsTrue, ◌||◌, not, is_some, zero, suc}
 use Rattle.std.specs.List.{list_any, list_all}
 use Rattle.std.specs.Str.{bytes_eq}
 use Rattle.mir_base.specs.declared.place_in_text.Pos.{Pos}
@@ -13,8 +13,10 @@ use Rattle.mir_ty.specs.Facts.{is_copy}
 use Rattle.mir_ty.specs.ItemTable.{ItemTable, type_at}
 use Rattle.src_tree.specs.Layout.{Parts}
 use Rattle.typed_tree.specs.Tree.{ProgramTree}
-use Rattle.well_typed.specs.Items.{is_equal, are_distinct_types, stands_alone, is_param}
+use Rattle.well_typed.specs.Claim.{Claim, fact, both, Holds}
+use Rattle.well_typed.specs.Items.{are_items, is_equal, are_distinct_types, stands_alone, is_param}
 use Rattle.well_typed.specs.Names.{are_distinct}
+use Rattle.well_typed.specs.Program.{WellTyped}
 use Rattle.typing_soundness.specs.Program.{IsAccepted}
 
 -- Equal types of an accepted text have one number, and `bool` and `()` are among them.
@@ -78,3 +80,18 @@ pub record IsAdtTyped (items : ItemTable) (adt : Adt) : Type 0 where
 abbrev pub AdtsAreTyped : Type 0
 AdtsAreTyped = (parts : Parts Pos) (items : ItemTable) (p : ProgramTree) → IsAccepted parts items p → (n : ℕ) (adt : Adt) →
     slice_get p.items.adts n ≡ Some adt → IsAdtTyped p.items adt
+
+-- a claim without its part of a number
+abbrev pub without : ℕ → Claim → Claim
+without n (fact test) = fact test
+without zero (both first rest) = rest
+without (suc n) (both first rest) = both first (without n rest)
+
+-- what is claimed of items but for closures and heads, which stand behind types, structs and enums, traits and impls
+abbrev pub but_heads : ItemTable → Claim
+but_heads items = without 5 (without 5 (are_items items))
+
+-- So an accepted text is well typed where the other parts of its items are.
+abbrev pub RestIsEnough : Type 0
+RestIsEnough = (parts : Parts Pos) (items : ItemTable) (p : ProgramTree) → IsAccepted parts items p → Holds (but_heads
+    p.items) → WellTyped p

@@ -1,6 +1,6 @@
 //! What is proved of the checks of expressions, as clauses of functions without parameters.
 ghost use Rattle.typing_soundness.specs.Expressions.{Loops, Paths, Callees, AreSound, Closures, Functions};
-ghost use Rattle.typing_soundness.specs.Items.{AdtsAreTyped, ClosuresAreTyped, HeadsAreTyped, TypesDiffer};
+ghost use Rattle.typing_soundness.specs.Items.{AdtsAreTyped, ClosuresAreTyped, HeadsAreTyped, RestIsEnough, TypesDiffer};
 ghost use Rattle.typing_soundness.specs.Numbers.{StaysTyped, AreInOrder};
 ghost use Rattle.typing_soundness.specs.Program.{
   AreInTextOrder,
@@ -61,10 +61,12 @@ pub fn law_of_programs()
 /// body has parameters of types that may stand there, and a result that stands alone; each closure has captures that
 /// stand alone and a body, whose head begins with the closure and goes on with types that stand alone; each struct has
 /// one variant with its name and each enum at most 64, whose names differ, with at most 32 fields each, which stand alone
-/// and have names; and what derives `Copy` has fields that are Copy and no `Drop` impl.
+/// and have names; and what derives `Copy` has fields that are Copy and no `Drop` impl. So its program is well typed where
+/// its items are but for heads and closures.
 pub fn law_of_items()
     ensures types { TypesDiffer }
     ensures heads { HeadsAreTyped }
     ensures closures { ClosuresAreTyped }
     ensures adts { AdtsAreTyped }
+    ensures programs { RestIsEnough }
 {}

@@ -1,6 +1,7 @@
 -- Proves the clauses of `law_of_items`.
 use Rattle.typing_soundness.proofs.Items.Adts.{text_adts}
 use Rattle.typing_soundness.proofs.Items.Heads.{text_types, text_heads, text_closures}
+use Rattle.typing_soundness.proofs.Items.Rest.{rest_is_enough}
 use Rattle.typing_soundness.proofs.law.law_of_items.Goals as goal
 
 pub returns-clause-types : goal.returns-clause-types
@@ -14,3 +15,6 @@ returns-clause-closures c = text_closures
 
 pub returns-clause-adts : goal.returns-clause-adts
 returns-clause-adts c = text_adts
+
+pub returns-clause-programs : goal.returns-clause-programs
+returns-clause-programs c = rest_is_enough
