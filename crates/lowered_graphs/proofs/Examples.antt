@@ -185,7 +185,7 @@ behind_a_panic_named = refl
 -- fn f(x: i32) {}
 abbrev unused_param : ProgramTree
 unused_param = record {
-  items = record items { bodies = record { name = codes "main"; params = []; result = unit } ∷ record { name = codes "f"; params = i32 ∷ []; result = unit } ∷ []; };
+  items = record items { bodies = record { name = codes "main"; params = []; result = unit } ∷ record { name = codes "f"; params = i32 ∷ []; result = unit } ∷ [] };
   bodies =
       record { number = 0; params = []; answer = unit; block = empty } ∷
       record {
