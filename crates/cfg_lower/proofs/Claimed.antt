@@ -4,6 +4,7 @@ use Rattle.std.specs.Prelude.{slice_get, option_map, get_or}
 use Rattle.std.proofs.lemmas.Option.{slice_get-map}
 use Rattle.cfg_graph.specs.declared.graph.Body.{Body}
 use Rattle.cfg_graph.specs.declared.graph.Graph.{Graph}
+use Rattle.cfg_graph.specs.WellFormed.Faults.{IsWellFormed}
 use Rattle.mir_ty.specs.ItemTable.{ItemTable}
 use Rattle.typed_tree.specs.Tree.{BodyTree, ProgramTree}
 use Rattle.typed_tree.specs.View.{body_of as tree_of}
@@ -16,6 +17,8 @@ use Rattle.cfg_build.specs.Lower.{body_of, graph_of}
 use Rattle.cfg_build.proofs.Bodies.{lowered_runs_as_its_source, lowered_walks_as_it_runs_freely, lowered_is_ranked, lowered_keeps_to_cleanup, lowered_is_prepared}
 use Rattle.cfg_build.proofs.FormSizes.{lowered_is_small}
 use Rattle.cfg_build.proofs.Typed.{well_typed_names_loops}
+use Rattle.lowered_graphs.specs.Lowerable.{IsLowerable}
+use Rattle.lowered_graphs.proofs.Whole.{graphs_are_well_formed}
 use Rattle.cfg_lower.specs.Claims.{EachBody, HasOrderedEdges, IsPrepared, IsSmall, RunsAsItsSource, WalksAsItRunsFreely}
 
 -- one body more
@@ -71,6 +74,9 @@ module _ (program : ProgramTree) (graph : Graph) (same : graph ≡ graph_of prog
   prepared typed = of_graph (EachBody (IsPrepared program.items) program)
       (each (IsPrepared program.items) program
       (λ n tree is. lowered_is_prepared program.items tree (well_typed_names_loops program typed n tree is)))
+
+  pub formed : WellTyped program → IsLowerable program → IsWellFormed graph
+  formed typed low = of_graph IsWellFormed (graphs_are_well_formed program typed low)
 
   pub small : EachBody IsSmall program graph
   small = of_graph (EachBody IsSmall program) (each IsSmall program (λ n tree is. lowered_is_small program.items tree))
