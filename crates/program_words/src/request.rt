@@ -1,0 +1,33 @@
+use mir_base::List;
+
+/// What is done with a text.
+#[derive(Clone, Copy, Debug, PartialEq, Eq)]
+pub enum Command {
+    /// A program is accepted, or refused with the first reason.
+    Check,
+    /// The listing of a program's raw graph, with its first bad use behind it.
+    Raw,
+    /// A program runs, and its trace is written.
+    Run,
+    /// The graph of a listing runs, and its trace is written.
+    Exec,
+}
+
+/// What the words ask for.
+#[derive(Debug, Drop)]
+pub struct Request {
+    pub command: Command,
+    /// The numbers that `ask()` answers, at most 64, each from 0 to 2,147,483,647; none but for `run` and `exec`.
+    pub asks: List<i32>,
+    /// How many ticks a run has, at most 1,000,000,000.
+    pub ticks: u64,
+}
+
+/// Why words ask for nothing.
+#[derive(Clone, Copy, Debug, PartialEq, Eq)]
+pub enum WordsError {
+    /// They are no words of the program.
+    Refused,
+    /// Memory was wanted and could not be had.
+    Memory,
+}
