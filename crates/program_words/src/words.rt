@@ -187,9 +187,11 @@ fn request_in(alloc: Global, found: &ArgMatches<'_>) -> Result<Option<Request>, 
 ///
 /// [`WordsError::Refused`] exactly where the words ask for nothing, memory aside; [`WordsError::Memory`] where memory is
 /// wanted.
+#[tactic(auto, using(crate::proofs::Limits::has_few_ticks))]
 pub fn request_of(alloc: Global, words: &[String]) -> Result<Request, WordsError>
     ensures request { IfOk result (λ request. asked.request_of (map string_bytes words.now) ≡ Some request) }
     ensures refused { IsErrOf result an_error.Refused → asked.request_of (map string_bytes words.now) ≡ None }
+    ensures ticks { IfOk result (λ request. request.ticks ≤ MOST_TICKS) }
 {
     let found = parsed(alloc, words)?;
     match request_in(alloc, &found) {
