@@ -9,7 +9,7 @@ use Rattle.typing_rules.specs.Borrows as rules
 use Rattle.typing_rules.specs.Check as check
 use Rattle.mir_pipeline.specs.Trees.{IsTreeOf, IsRefused}
 use Rattle.mir_pipeline.specs.declared.refusal.Refusal.{Refusal}
-use Rattle.mir_pipeline.specs.declared.refusal.Refusal.TheVariants.{Lex, Syntax, TooDeep, Broken, Memory}
+use Rattle.mir_pipeline.specs.declared.refusal.Refusal.TheVariants.{Broken}
 
 abbrev pub program_in : Tree → Result ProgramTree check.Broken
 program_in tree = rules.read_typed (items_of tree) tree.end
@@ -24,8 +24,5 @@ IsBroken text rule at = (tree : Tree) × IsTreeOf text tree × (program_in tree 
 
 -- the text has no typed program, for this reason; want of memory says nothing of it
 abbrev pub HasNoProgram : List ℕ → Refusal → Type 0
-HasNoProgram text (Lex code at) = IsRefused text (Lex code at)
-HasNoProgram text (Syntax at pos) = IsRefused text (Syntax at pos)
-HasNoProgram text (TooDeep at pos) = IsRefused text (TooDeep at pos)
 HasNoProgram text (Broken rule at) = IsBroken text rule at
-HasNoProgram text Memory = Unit {0}
+HasNoProgram text other = IsRefused text other

@@ -53,5 +53,5 @@ abbrev pub IsRefused : List ℕ → Refusal → Type 0
 IsRefused text (Lex code at) = HasNoTokens text (Lex code at)
 IsRefused text (Syntax at pos) = HasNoTree text (Syntax at pos)
 IsRefused text (TooDeep at pos) = HasNoTree text (TooDeep at pos)
-IsRefused text (Broken rule at) = ⊥
 IsRefused text Memory = Unit {0}
+IsRefused text other = ⊥

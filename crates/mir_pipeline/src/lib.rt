@@ -1,10 +1,14 @@
 //! The way of a text through the layers, from its bytes on, with one type for all refusals of a text.
 #![tactic(auto)]
 
+mod graphs;
 mod reading;
 mod refusal;
 mod typed;
+mod uses;
 
+pub use graphs::build_raw;
 pub use reading::read_tree;
 pub use refusal::Refusal;
 pub use typed::read_typed;
+pub use uses::{checked, checked_uses};

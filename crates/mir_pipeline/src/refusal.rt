@@ -2,14 +2,17 @@ ghost use Rattle.std.specs.Prelude.{◌≡◌};
 ghost use Rattle.mir_pipeline.specs.declared.refusal.Refusal.{Refusal};
 ghost use Rattle.mir_pipeline.specs.Trees.{refusal_of, of_rule, of_tokens};
 
+use cfg_graph::GraphFault;
 use mir_base::{Pos, Rule, RuleError};
+use move_errors::BadUse;
 use src_parse::ParseError;
 use src_token::LexError;
 use std::error::Error;
 use std::fmt;
+use use_sites::Site;
 
 /// Why a text is refused. The first reason of the first layer that has one is answered.
-#[derive(Clone, Copy, Debug, PartialEq, Eq)]
+#[derive(Drop)]
 pub enum Refusal {
     /// The bytes have no tokens. The codes are 1 for a character that begins no token, 2 for a number that is none
     /// of the language, 3 for a comment without its end, 4 for a text between quotes without its end, and 5 for
@@ -22,6 +25,16 @@ pub enum Refusal {
     TooDeep { at: u32, pos: Pos },
     /// The tree breaks this rule of typing, and none before it.
     Broken { rule: Rule, at: Pos },
+    /// The raw graph of the program has this fault. That no graph of a program has one is not proved yet; once it is,
+    /// this variant goes.
+    Faulty(GraphFault),
+    /// A place is used that is gone there, or a container or a part of it; with the site of the use in the text.
+    U1 { bad: BadUse, site: Site },
+    /// A place is stored into of which a container is gone there; with the site of the store in the text.
+    U2 { bad: BadUse, site: Site },
+    /// A line of the raw graph has a bad use, and no site in the text. That each bad use has a site is not proved yet;
+    /// once it is, this variant goes.
+    Unplaced { body: u32, block: u32, line: u32 },
     /// Memory was wanted and could not be had.
     Memory,
 }
@@ -33,9 +46,19 @@ impl fmt::Display for Refusal {
             Refusal::Syntax { .. } => "no text of the language goes on so",
             Refusal::TooDeep { .. } => "the text is nested too deep",
             Refusal::Broken { .. } => "the program breaks a rule of the language",
+            Refusal::Faulty(_) => "the graph of the program has a fault",
+            Refusal::U1 { .. } => "the program uses what is gone",
+            Refusal::U2 { .. } => "the program stores into a part of what is gone",
+            Refusal::Unplaced { .. } => "a use of what is gone has no place in the text",
             Refusal::Memory => "out of memory",
         };
         write!(f, "{text}")
+    }
+}
+
+impl fmt::Debug for Refusal {
+    fn fmt<W: fmt::Write>(&self, f: &mut fmt::Formatter<W>) -> fmt::Result {
+        fmt::Display::fmt(self, f)
     }
 }
 

@@ -1,4 +1,5 @@
-mod Reading
-mod Running
-mod Checks
-mod TopCall
+pub mod Answered
+pub mod Answering
+pub mod Owing
+pub mod TopCall
+pub mod Traces

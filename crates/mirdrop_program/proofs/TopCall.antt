@@ -1,24 +1,13 @@
--- The words of the program, and its answers.
-use Rattle.std.proofs.Common.{◌≡◌, ℕ, ◌≤◌, true, Option, Some, List, [], ◌∷◌, ◌++◌, length, take, get_or, refl, ap, sym, ◌∙◌, arith, inl, inr, subst, String, nat_eq, eq-eqb}
-use Rattle.std.specs.Cmp.Lexicographic.{pointwise}
+-- What the program answers.
+use Rattle.std.proofs.Common.{◌≡◌, ℕ, ◌≤◌, ◌<◌, true, false, Bool, Option, Some, None, List, [], ◌∷◌, ◌++◌, length, take, refl, ap, sym, ◌∙◌, arith, inl, inr, subst}
+use Rattle.std.specs.Prelude.{◌⊎◌, ⊤}
 use Rattle.std.proofs.lemmas.List.{append-nil}
-use Rattle.std.specs.declared.alloc.Global.{Global}
-use Rattle.std.specs.Prelude.{map, string_bytes, ◌⊎◌}
-use Rattle.mir_base.specs.declared.trace.End.{End}
-use Rattle.src_meaning.specs.First.Form.{Owed, later, unknown, runs, status_of}
-use Rattle.mirdrop_program.specs.TopCall.{IsRun, Due, wrong_words, not_read, too_long, answered, Answers, whole, part, no_memory, HasAnswered, IsComplete, Delivered, taken_whole, taken_part, Responded, owing, wanting}
-
-pub one_word : (words : List (String Global)) (w : String Global) → length words ≡ 1 → w ≡ get_or words 0 w → map string_bytes words ≡ string_bytes w ∷ []
-one_word [] w one is = absurd (omega arith)
-one_word (v ∷ []) w one is = ap (λ (x : String Global). string_bytes x ∷ []) (sym is)
-one_word (v ∷ u ∷ us) w one is = absurd (omega arith)
-
-same_itself : (xs : List ℕ) → pointwise nat_eq xs xs ≡ true
-same_itself [] = refl
-same_itself (x ∷ xs) = rw (eq-eqb x x refl) (same_itself xs)
-
-pub texts_equal : (xs ys : List ℕ) → xs ≡ ys → pointwise nat_eq xs ys ≡ true
-texts_equal xs ys e = rw e (same_itself ys)
+use Rattle.std.proofs.lemmas.Option.{none-some, same_Some}
+use Rattle.program_words.specs.Words.{request_of}
+use Rattle.program_words.specs.declared.request.Request.{Request}
+use Rattle.mirdrop_program.specs.Owed.{Owed}
+use Rattle.mirdrop_program.specs.TopCall.{Due, wrong_words, not_read, too_long, answered, Answers, whole, part, no_memory, no_memory_for_trace, HasAnswered, IsComplete, Delivered, taken_whole, taken_part, Responded, owing, cut_short, wanting, answers_a_text, writes_a_trace}
+use Rattle.mirdrop_program.proofs.Answered.{IsAnswer, owed_is_answer}
 
 module _ (words : List (List ℕ)) (left taken taken_after : Option (List ℕ)) (source_failed sink_failed : Type 0) where
   -- what was due was handed to the sink
@@ -27,53 +16,41 @@ module _ (words : List (List ℕ)) (left taken taken_after : Option (List ℕ)) 
   delivers status due result owes (taken_whole h) text before told kept = (due, h before kept, whole (owes text told))
   delivers status due result owes (taken_part n failed h) text before told kept = (take n due, h before kept, part (owes text told) n failed)
 
-  pub wants_memory : IsRun words → taken_after ≡ taken → HasAnswered words left taken taken_after source_failed sink_failed 5
-  wants_memory run same text before told kept = ([], same ∙ (kept ∙ ap Some (sym (append-nil before))), no_memory run)
+  pub wants_memory : taken_after ≡ taken → HasAnswered words left taken taken_after source_failed sink_failed 5
+  wants_memory same text before told kept = ([], same ∙ (kept ∙ ap Some (sym (append-nil before))), no_memory)
 
-  complete_from : (text before : List ℕ) (status : ℕ) (written : List ℕ) → taken_after ≡ Some (before ++ written) → IsRun words → length text ≤ 131072
+  -- a request that words ask for is the one that they ask for
+  asks_same : (request other : Request) (text : List ℕ) (status : ℕ) (written : List ℕ) → request_of words ≡ Some request → request_of words ≡ Some other →
+      Owed other text status written → Owed request text status written
+  asks_same request other text status written one two owed =
+      subst (λ (r : Request). Owed r text status written) (same_Some other request (sym two ∙ one)) owed
+
+  complete_from : (request : Request) (text before : List ℕ) (status : ℕ) (written : List ℕ) → taken_after ≡ Some (before ++ written) → request_of words ≡ Some request → length text ≤ 131072
       → ¬ source_failed → ¬ sink_failed → Answers words text source_failed sink_failed status written
-      → (status ≡ 5) ⊎ ((written : List ℕ) × (taken_after ≡ Some (before ++ written)) × Owed text status written)
-  complete_from text before status written is run short no_source no_sink (whole (wrong_words not_run)) = absurd (not_run run)
-  complete_from text before status written is run short no_source no_sink (whole (not_read r failed)) = absurd (no_source failed)
-  complete_from text before status written is run short no_source no_sink (whole (too_long r long)) = absurd (omega (arith, long, short))
-  complete_from text before status written is run short no_source no_sink (whole (answered r s owes)) = inr (written, is, owes)
-  complete_from text before status written is run short no_source no_sink (part due n failed) = absurd (no_sink failed)
-  complete_from text before status written is run short no_source no_sink (no_memory r) = inl refl
+      → (status ≡ 5) ⊎ ((written : List ℕ) × (taken_after ≡ Some (before ++ written)) × Owed request text status written)
+  complete_from request text before status written is asked short no_source no_sink (whole (wrong_words none)) = absurd (none-some request (sym none ∙ asked))
+  complete_from request text before status written is asked short no_source no_sink (whole (not_read r e failed)) = absurd (no_source failed)
+  complete_from request text before status written is asked short no_source no_sink (whole (too_long r e long)) = absurd (omega (arith, long, short))
+  complete_from request text before status written is asked short no_source no_sink (whole (answered r e s owes)) = inr (written, is, asks_same request r text status written asked e owes)
+  complete_from request text before status written is asked short no_source no_sink (part due n failed) = absurd (no_sink failed)
+  complete_from request text before status written is asked short no_source no_sink no_memory = inl refl
+  complete_from request text before status written is asked short no_source no_sink (no_memory_for_trace r e t s owes n) = inl refl
 
   pub completes : (status : ℕ) → HasAnswered words left taken taken_after source_failed sink_failed status → IsComplete words left taken taken_after source_failed sink_failed status
-  completes status h text before told kept run short no_source no_sink =
+  completes status h request text before asked told kept short no_source no_sink =
       let so = h text before told kept in
-      complete_from text before status so.0 so.1 run short no_source no_sink so.2
+      complete_from request text before status so.0 so.1 asked short no_source no_sink so.2
 
-  pub answers_text : (text : List ℕ) (status : ℕ) → IsRun words → ((told : List ℕ) → left ≡ Some told → text ≡ told) → length text ≤ 131072
-      → Responded text taken taken_after sink_failed status → HasAnswered words left taken taken_after source_failed sink_failed status
-  answers_text text status run is short (owing {status = owes} {answer = due} owed delivered) =
+  pub answers_text : (request : Request) (text : List ℕ) (status : ℕ) → request_of words ≡ Some request → ((told : List ℕ) → left ≡ Some told → text ≡ told) → length text ≤ 131072
+      → Responded request text taken taken_after sink_failed status → HasAnswered words left taken taken_after source_failed sink_failed status
+  answers_text request text status asked is short (owing {status = owes} {answer = due} owed delivered) told before e kept =
       delivers owes due status
-      (λ told e. answered run (subst (λ (t : List ℕ). length t ≤ 131072) (is told e) short) (subst (λ (t : List ℕ). Owed t owes due) (is told e) owed))
-      delivered
-  answers_text text status run is short (wanting same) = wants_memory run same
-
--- the statuses of failures
-pub record IsAnswer (status : ℕ) : Type 0 where
-  pub no_words : status ≡ 2 → ⊥
-  pub no_read_fault : status ≡ 3 → ⊥
-  pub no_write_fault : status ≡ 4 → ⊥
-  pub not_long : status ≡ 6 → ⊥
-
-end_is_answer : (e : End) → IsAnswer (status_of e)
-end_is_answer End.Returned = record { no_words = λ h. omega arith; no_read_fault = λ h. omega arith; no_write_fault = λ h. omega arith; not_long = λ h. omega arith }
-end_is_answer End.Panicked = record { no_words = λ h. omega arith; no_read_fault = λ h. omega arith; no_write_fault = λ h. omega arith; not_long = λ h. omega arith }
-end_is_answer End.Aborted = record { no_words = λ h. omega arith; no_read_fault = λ h. omega arith; no_write_fault = λ h. omega arith; not_long = λ h. omega arith }
-end_is_answer End.OutOfTicks = record { no_words = λ h. omega arith; no_read_fault = λ h. omega arith; no_write_fault = λ h. omega arith; not_long = λ h. omega arith }
-end_is_answer (End.Stuck body block) = record { no_words = λ h. omega arith; no_read_fault = λ h. omega arith; no_write_fault = λ h. omega arith; not_long = λ h. omega arith }
-
-one_is_answer : IsAnswer 1
-one_is_answer = record { no_words = λ h. omega arith; no_read_fault = λ h. omega arith; no_write_fault = λ h. omega arith; not_long = λ h. omega arith }
-
-owed_is_answer : (text : List ℕ) (status : ℕ) (written : List ℕ) → Owed text status written → IsAnswer status
-owed_is_answer text status written (later none) = one_is_answer
-owed_is_answer text status written (unknown p places place spells missing) = one_is_answer
-owed_is_answer text status written (runs p places spells none) = end_is_answer _
+      (λ told e. answered request asked (subst (λ (t : List ℕ). length t ≤ 131072) (is told e) short) (subst (λ (t : List ℕ). Owed request t owes due) (is told e) owed))
+      delivered told before e kept
+  answers_text request text status asked is short (cut_short {status = owes} {answer = due} owed writes n h) told before e kept =
+      (take n due, h before kept, no_memory_for_trace request asked writes (subst (λ (t : List ℕ). length t ≤ 131072) (is told e) short)
+      (subst (λ (t : List ℕ). Owed request t owes due) (is told e) owed) n)
+  answers_text request text status asked is short (wanting same) told before e kept = wants_memory same told before e kept
 
 -- what a response that was delivered says of its status
 pub record Response (status : ℕ) (sink_failed : Type 0) : Type 0 where
@@ -89,16 +66,23 @@ delivered_response status due taken taken_after sink_failed result is (taken_who
 delivered_response status due taken taken_after sink_failed result is (taken_part n failed h) =
     record { no_words = λ e. omega arith; no_read_fault = λ e. omega arith; write_fault = λ e. failed; not_long = λ e. omega arith }
 
-pub response : (text : List ℕ) (taken taken_after : Option (List ℕ)) (sink_failed : Type 0) (result : ℕ) → Responded text taken taken_after sink_failed result → Response result sink_failed
-response text taken taken_after sink_failed result (owing {status = owes} {answer = due} owed delivered) = delivered_response owes due taken taken_after sink_failed result (owed_is_answer text owes due owed) delivered
-response text taken taken_after sink_failed result (wanting same) =
-    record { no_words = λ e. omega arith; no_read_fault = λ e. omega arith; write_fault = λ e. absurd (omega arith); not_long = λ e. omega arith }
+five : (sink_failed : Type 0) → Response 5 sink_failed
+five sink_failed = record { no_words = λ e. omega arith; no_read_fault = λ e. omega arith; write_fault = λ e. absurd (omega arith); not_long = λ e. omega arith }
 
-pub long_is_no_answer : (due : List ℕ) (taken taken_after : Option (List ℕ)) (sink_failed : Type 0) (result : ℕ) → (result ≡ 0) ⊎ (result ≡ 1) ⊎ (result ≡ 12)
-    → Delivered 6 due taken taken_after sink_failed result → ⊥
-long_is_no_answer due taken taken_after sink_failed result (inl e) (taken_whole h) = omega arith
-long_is_no_answer due taken taken_after sink_failed result (inr (inl e)) (taken_whole h) = omega arith
-long_is_no_answer due taken taken_after sink_failed result (inr (inr e)) (taken_whole h) = omega arith
-long_is_no_answer due taken taken_after sink_failed result (inl e) (taken_part n failed h) = omega arith
-long_is_no_answer due taken taken_after sink_failed result (inr (inl e)) (taken_part n failed h) = omega arith
-long_is_no_answer due taken taken_after sink_failed result (inr (inr e)) (taken_part n failed h) = omega arith
+pub response : (request : Request) (text : List ℕ) (taken taken_after : Option (List ℕ)) (sink_failed : Type 0) (result : ℕ) → Responded request text taken taken_after sink_failed result → Response result sink_failed
+response request text taken taken_after sink_failed result (owing {status = owes} {answer = due} owed delivered) = delivered_response owes due taken taken_after sink_failed result (owed_is_answer request text owes due owed) delivered
+response request text taken taken_after sink_failed result (cut_short owed writes n h) = five sink_failed
+response request text taken taken_after sink_failed result (wanting same) = five sink_failed
+
+abbrev if_false : Bool → Type 0
+if_false true = ⊥
+if_false false = ⊤
+
+no_truth : false ≡ true → ⊥
+no_truth h = subst if_false h tt
+
+-- a fault that was told answers no text
+pub fault_is_no_answer : (status : ℕ) (due : List ℕ) (taken taken_after : Option (List ℕ)) (sink_failed : Type 0) (result : ℕ) → answers_a_text status ≡ false → answers_a_text result ≡ true
+    → Delivered status due taken taken_after sink_failed result → ⊥
+fault_is_no_answer status due taken taken_after sink_failed result none is (taken_whole h) = no_truth (sym none ∙ is)
+fault_is_no_answer status due taken taken_after sink_failed result none is (taken_part n failed h) = no_truth is

@@ -1,2 +1,4 @@
-pub mod First
+pub mod Owed
+pub mod Refusals
 pub mod TopCall
+pub mod Written

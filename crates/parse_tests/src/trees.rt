@@ -254,7 +254,7 @@ fn answer(alloc: Global, text: &[u8]) -> Result<String, AllocError> {
         Err(Refusal::Syntax { pos, .. }) => format!(in alloc; "6:{}:{}", pos.line, pos.col),
         Err(Refusal::TooDeep { pos, .. }) => format!(in alloc; "7:{}:{}", pos.line, pos.col),
         Err(Refusal::Broken { at, .. }) => format!(in alloc; "8:{}:{}", at.line, at.col),
-        Err(Refusal::Memory) => format!(in alloc; "memory"),
+        Err(_) => format!(in alloc; "memory"),
     }
 }
 

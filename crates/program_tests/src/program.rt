@@ -1,4 +1,5 @@
-//! The whole program: refusals, limits, faults, and the stack. Programs with their traces are `examples`.
+//! The whole program: words, answers and refusals as one table, long texts, faults of sources and sinks, and deep runs.
+//! Programs with their traces are `examples`.
 use mir_base::List;
 use mir_edge::{MemSink, MemSource};
 use mirdrop_program::mirdrop;
@@ -12,24 +13,180 @@ struct Ended {
     written: String,
 }
 
-fn words_of(alloc: Global, words: &[&str]) -> Result<Vec<String>, AllocError> {
+fn words_of(alloc: Global, words: &str) -> Result<Vec<String>, AllocError> {
     let mut all = Vec::new(alloc);
-    for word in words {
-        all.push(String::from_str(alloc, word)?)?;
+    for word in words.split(' ') {
+        if !word.is_empty() {
+            all.push(String::from_str(alloc, word)?)?;
+        }
     }
     Ok(all)
 }
 
 /// What the words and a text give, over a source that gives 4,096 bytes a call and a sink with room.
-fn outcome(alloc: Global, words: &[&str], text: &str) -> Result<Ended, Fail> {
+fn outcome(alloc: Global, words: &str, text: &[u8]) -> Result<Ended, Fail> {
     let words = words_of(alloc, words)?;
-    let bytes = List::from_vec(text.as_bytes().to_vec(alloc)?);
+    let bytes = List::from_vec(text.to_vec(alloc)?);
     let mut source = MemSource::new(bytes, 4096, List::new(alloc));
     let mut sink = MemSink::new(alloc, 1024, List::new(alloc));
-    sink.reserve(1000000)?;
+    sink.reserve(4000000)?;
     let status = mirdrop(alloc, words.as_slice(), &mut source, &mut sink);
     let written = String::from_utf8_lossy(alloc, sink.bytes())?;
     Ok(Ended { status, written })
+}
+
+/// The words, a text, the status, and what is written.
+type Row = (&'static str, &'static [u8], u8, &'static str);
+
+const MAIN: &[u8] = b"fn main() {}";
+
+const RETURNED: &str = "call main\nreturn main\nend: returned\n";
+
+const WORDS: &str = "refused: words\n";
+
+/// Words that are refused, and the source is left; words that stand, with options in any place.
+static WORDS_ROWS: [Row; 15] = [
+    ("", MAIN, 2, WORDS),
+    ("frob", MAIN, 2, WORDS),
+    ("build", MAIN, 2, WORDS),
+    ("soak 3", MAIN, 2, WORDS),
+    ("run --ticks 1000000001", MAIN, 2, WORDS),
+    ("run --ticks", MAIN, 2, WORDS),
+    ("run --ticks 1 --ticks 2", MAIN, 2, WORDS),
+    ("run 2147483648", MAIN, 2, WORDS),
+    ("run 00000000001", MAIN, 2, WORDS),
+    ("run -1", MAIN, 2, WORDS),
+    ("check 5", MAIN, 2, WORDS),
+    ("raw 0", MAIN, 2, WORDS),
+    ("--help", MAIN, 2, WORDS),
+    ("--ticks 1 run 2147483647", MAIN, 0, RETURNED),
+    ("run 0 --ticks=0 7", MAIN, 12, "end: out of ticks\n"),
+];
+
+/// Each kind of refusal of a text, once.
+static REFUSAL_ROWS: [Row; 19] = [
+    ("check", b"", 1, "refused: T01 UnknownName at 1:1\n"),
+    ("check", b"fn main() { @ }", 1, "refused: 1 BadChar at 1:13\n"),
+    (
+        "check",
+        b"fn main() { let x = 18446744073709551616; }",
+        1,
+        "refused: 2 BadNumber at 1:21\n",
+    ),
+    ("check", b"/* fn main() {}", 1, "refused: 3 OpenComment at 1:1\n"),
+    (
+        "check",
+        b"fn main() { let s = \"x; }",
+        1,
+        "refused: 4 OpenText at 1:21\n",
+    ),
+    ("check", b"fn \xff", 1, "refused: 5 NotUtf8 at 1:4\n"),
+    ("check", b"fn main( {}", 1, "refused: 6 Syntax at 1:10\n"),
+    ("check", b"fn main() {", 1, "refused: 6 Syntax at 1:12\n"),
+    (
+        "check",
+        b"fn main() { let x: i32 = true; }",
+        1,
+        "refused: T03 Mismatch at 1:26\n",
+    ),
+    (
+        "run",
+        b"fn main() { let x: i32 = true; }",
+        1,
+        "refused: T03 Mismatch at 1:26\n",
+    ),
+    (
+        "raw",
+        b"fn main() { let x: i32 = true; }",
+        1,
+        "refused: T03 Mismatch at 1:26\n",
+    ),
+    (
+        "check",
+        b"struct T(i32);\nimpl Drop for T { fn drop(&mut self) { *self = T(0); } }\nfn main() {}\n",
+        1,
+        "refused: T15 SelfReplaced at 2:40\n",
+    ),
+    ("exec", b"", 1, "refused: 8 BadListing at line 1\n"),
+    ("exec", MAIN, 1, "refused: 8 BadListing at line 1\n"),
+    ("exec", b"mirdrop 1\nend\n", 1, "refused: 9 G1 at line 2\n"),
+    ("check", MAIN, 0, "accepted\n"),
+    ("run", MAIN, 0, RETURNED),
+    (
+        "run 1",
+        b"fn main() { print(2147483647 + ask()); }",
+        10,
+        "call main\nask 1\npanic overflow\nunwind main\nend: panicked\n",
+    ),
+    (
+        "run",
+        b"fn main() { print(2147483647 + ask()); }",
+        10,
+        "call main\npanic ask\nunwind main\nend: panicked\n",
+    ),
+];
+
+fn try_rows(rt: &HostRuntime, rows: &[Row]) -> Result<(), Fail> {
+    let alloc = rt.alloc();
+    for (words, text, status, written) in rows {
+        let outcome = outcome(alloc, words, text)?;
+        assert_eq!(rt; outcome.written.as_str(), *written, "{words}");
+        assert_eq!(rt; outcome.status, *status, "{words}");
+    }
+    Ok(())
+}
+
+#[test]
+fn words(rt: HostRuntime) -> Result<(), Fail> {
+    try_rows(&rt, WORDS_ROWS.as_slice())
+}
+
+#[test]
+fn refusals(rt: HostRuntime) -> Result<(), Fail> {
+    try_rows(&rt, REFUSAL_ROWS.as_slice())
+}
+
+/// What is gone is used in the second turn of a loop; a part of what is gone is stored into.
+static USE_ROWS: [(&str, &str); 2] = [
+    (
+        "struct D(i32);\nimpl Drop for D { fn drop(&mut self) {} }\nfn take(x: D) {}\nfn main() { let x = D(1); loop { take(x); } }\n",
+        "refused: U1 x by move at 4:39\nanswers: 0 0 0\npath: body 2 blocks ",
+    ),
+    (
+        "struct D(i32);\nimpl Drop for D { fn drop(&mut self) {} }\nfn take(x: D) {}\nfn main() { let t = (D(1), D(2)); let s = t; t.0 = D(3); }\n",
+        "refused: U2 t.0 at 4:46\nanswers:\npath: body 2 blocks ",
+    ),
+];
+
+#[test]
+fn refused_uses(rt: HostRuntime) -> Result<(), Fail> {
+    let alloc = rt.alloc();
+    for (text, lines) in USE_ROWS {
+        let checked = outcome(alloc, "check", text.as_bytes())?;
+        assert_eq!(rt; checked.status, 1);
+        assert!(rt; checked.written.as_str().starts_with(lines));
+        // `run` writes nothing but the refusal, and `raw` the same lines behind the listing.
+        let ran = outcome(alloc, "run", text.as_bytes())?;
+        assert_eq!(rt; ran.status, 1);
+        assert!(rt; ran.written.as_str() == checked.written.as_str());
+        let listed = outcome(alloc, "raw", text.as_bytes())?;
+        assert_eq!(rt; listed.status, 0);
+        assert!(rt; listed.written.as_str().starts_with("mirdrop 1\n"));
+        assert!(rt; listed.written.as_str().ends_with(checked.written.as_str()));
+    }
+    Ok(())
+}
+
+/// A raw listing of a program without drops runs as the program does.
+#[test]
+fn a_listing_runs(rt: HostRuntime) -> Result<(), Fail> {
+    let alloc = rt.alloc();
+    let listed = outcome(alloc, "raw", MAIN)?;
+    assert_eq!(rt; listed.status, 0);
+    let ran = outcome(alloc, "exec", listed.written.as_str().as_bytes())?;
+    assert_eq!(rt; ran.status, 0);
+    assert!(rt; ran.written.as_str() == RETURNED);
+    Ok(())
 }
 
 /// A text, so many times.
@@ -41,188 +198,54 @@ fn repeated(alloc: Global, text: &str, times: usize) -> Result<String, AllocErro
     Ok(all)
 }
 
-/// A text between two others.
-fn between(alloc: Global, before: &str, text: &str, after: &str) -> Result<String, AllocError> {
-    format!(in alloc; "{before}{text}{after}")
-}
-
-/// A `Drop` body that calls a function which makes a value.
-const CALLING: &str = "struct E(i32); impl Drop for E { fn drop(&mut self) {} } \
-struct D(i32); impl Drop for D { fn drop(&mut self) { let e = E(0); f(); } } \
-fn f() { let x = E(1); } fn main() { let d = D(1); }";
-
-/// A destructor that runs itself again, through a value of its own type.
-const ENDLESS: &str =
-    "struct D(i32); impl Drop for D { fn drop(&mut self) { let d = D(1); } } fn main() { let d = D(1); }";
-
-#[test]
-fn traces_of_programs(rt: HostRuntime) -> Result<(), Fail> {
-    let alloc = rt.alloc();
-    // A text, and its trace, worked out by hand from the rules.
-    let rows = [
-        ("fn main() {}", "call main\nreturn main\nend: returned\n"),
-        // A struct without a destructor is not numbered, and blanks may stand anywhere between words.
-        (
-            "struct P(i32);fn\tmain ( )\r\n{let p=P( 007 ) ;print(0);{}print(2147483647);}\n",
-            "call main\nprint 0\nprint 2147483647\nreturn main\nend: returned\n",
-        ),
-        (
-            CALLING,
-            "call main\nmake D#1\ndrop D#1\nmake E#2\ncall f\nmake E#3\ndrop E#3\nreturn E::drop\nreturn f\ndrop E#2\nreturn E::drop\nreturn D::drop\nreturn main\nend: returned\n",
-        ),
-    ];
-    for (text, trace) in rows {
-        let outcome = outcome(alloc, &["run"], text)?;
-        assert_eq!(rt; outcome.status, 0);
-        assert_eq!(rt; outcome.written.as_str(), trace);
-    }
-    Ok(())
-}
-
-#[test]
-fn refusals(rt: HostRuntime) -> Result<(), Fail> {
-    let alloc = rt.alloc();
-    // The words, a text, the status, and what is written.
-    let later = "refused: T20 Later at 1:1\n";
-    let rows: [(&[&str], &str, u8, &str); 19] = [
-        (&[], "fn main() {}", 2, "refused: words\n"),
-        (&["frob"], "fn main() {}", 2, "refused: words\n"),
-        (&["run", "run"], "fn main() {}", 2, "refused: words\n"),
-        (&["run"], "fn main() { let x = 1; }", 1, later),
-        (&["run"], "fn main() { // a comment\n}", 1, later),
-        (&["run"], "fn main() { print(2147483648); }", 1, later),
-        (&["run"], "fn main() { print(00000000001); }", 1, later),
-        (&["run"], "fn main() { print(1x); }", 1, later),
-        (&["run"], "fn main() {} fn main() {}", 1, later),
-        (
-            &["run"],
-            "struct D(i32); fn main() { let D = D(1); }",
-            1,
-            later,
-        ),
-        (
-            &["run"],
-            "struct D(i32); struct E(i32); impl Drop for D { fn drop(&mut self) {} } fn main() {}",
-            1,
-            later,
-        ),
-        (&["run"], "fn loop() {} fn main() {}", 1, later),
-        (&["run"], "fnmain() {}", 1, later),
-        (&["run"], "fn main() { é(); }", 1, later),
-        (
-            &["run"],
-            "fn main() { f(); }",
-            1,
-            "refused: T01 UnknownName at 1:13\n",
-        ),
-        (
-            &["run"],
-            "fn main() {\n  g(); let x = S(1); }",
-            1,
-            "refused: T01 UnknownName at 2:3\n",
-        ),
-        (
-            &["run"],
-            "fn f() { let x = S(1); } fn main() { g(); }",
-            1,
-            "refused: T01 UnknownName at 1:18\n",
-        ),
-        (
-            &["run"],
-            "struct D(i32);\n",
-            1,
-            "refused: T01 UnknownName at 2:1\n",
-        ),
-        (&["run"], "", 1, "refused: T01 UnknownName at 1:1\n"),
-    ];
-    for (words, text, status, written) in rows {
-        let outcome = outcome(alloc, words, text)?;
-        assert_eq!(rt; outcome.status, status, "for {text}");
-        assert_eq!(rt; outcome.written.as_str(), written);
-    }
-    Ok(())
-}
-
-#[test]
-fn runs_out_of_ticks(rt: HostRuntime) -> Result<(), Fail> {
-    let alloc = rt.alloc();
-    // 9,999 destructors are entered after `main`, each within the one before.
-    let drops = outcome(alloc, &["run"], ENDLESS)?;
-    assert_eq!(rt; drops.status, 12);
-    assert!(rt;
-        drops
-            .written
-            .as_str()
-            .starts_with("call main\nmake D#1\ndrop D#1\nmake D#2\ndrop D#2\n")
-    );
-    assert!(rt;
-        drops.written.as_str().ends_with(
-            "make D#9999\ndrop D#9999\nmake D#10000\nend: out of ticks\n"
-        )
-    );
-    Ok(())
-}
-
-#[test]
-fn limits_of_a_body(rt: HostRuntime) -> Result<(), Fail> {
-    let alloc = rt.alloc();
-    // A statement, how often, what opens and closes round it, and the status.
-    for (statement, times, status) in [
-        ("print(1);", 500, 0),
-        ("print(1);", 501, 1),
-        ("{}", 500, 0),
-        ("{}", 501, 1),
-    ] {
-        let body = repeated(alloc, statement, times)?;
-        let text = between(alloc, "fn main() {", body.as_str(), "}")?;
-        assert_eq!(rt;
-            outcome(alloc, &["run"], text.as_str())?.status,
-            status,
-            "{times}"
-        );
-    }
-    // So many braces are open at once.
-    for (depth, status) in [(32, 0), (33, 1), (50000, 1)] {
-        let open = repeated(alloc, "{", depth)?;
-        let close = repeated(alloc, "}", depth)?;
-        let text = between(alloc, "fn main() ", open.as_str(), close.as_str())?;
-        assert_eq!(rt;
-            outcome(alloc, &["run"], text.as_str())?.status,
-            status,
-            "{depth}"
-        );
-    }
-    Ok(())
-}
-
 #[test]
 fn long_texts(rt: HostRuntime) -> Result<(), Fail> {
     let alloc = rt.alloc();
     for (length, status, written) in [
-        (131072, 0, "call main\nreturn main\nend: returned\n"),
-        (131073, 6, "refused: text over 131072 bytes\n"),
+        (131057, 0, "accepted\n"),
+        (131058, 6, "refused: text over 131072 bytes\n"),
     ] {
-        let blanks = repeated(alloc, " ", length - 12)?;
-        let text = between(alloc, "fn main() {", blanks.as_str(), "}")?;
-        let outcome = outcome(alloc, &["run"], text.as_str())?;
+        let comment = repeated(alloc, "x", length)?;
+        let text = format!(in alloc; "//{}\nfn main() {{}}", comment.as_str())?;
+        let outcome = outcome(alloc, "check", text.as_bytes())?;
         assert_eq!(rt; outcome.status, status);
         assert_eq!(rt; outcome.written.as_str(), written);
     }
+    let deep = repeated(alloc, "(", 70)?;
+    let flat = repeated(alloc, ")", 70)?;
+    let text = format!(in alloc; "fn main() {{ {}1{}; }}", deep.as_str(), flat.as_str())?;
+    let outcome = outcome(alloc, "check", text.as_bytes())?;
+    assert_eq!(rt; outcome.written.as_str(), "refused: 7 TooDeep at 1:75\n");
+    Ok(())
+}
+
+#[test]
+fn deep_runs(rt: HostRuntime) -> Result<(), Fail> {
+    let alloc = rt.alloc();
+    let calls = outcome(alloc, "run --ticks 200000", b"fn main() { main(); }")?;
+    assert_eq!(rt; calls.status, 12);
+    assert_eq!(rt; calls.written.as_str().len(), 2000018);
+    assert!(rt; calls.written.as_str().ends_with("call main\nend: out of ticks\n"));
     Ok(())
 }
 
 #[test]
 fn faults(rt: HostRuntime) -> Result<(), Fail> {
     let alloc = rt.alloc();
-    let words = words_of(alloc, &["run"])?;
-    // Which reads and which writes fail, counted from 0; the status, and what the sink holds.
-    let rows: [(&[u32], &[u32], u8, &[u8]); 3] = [
-        (&[0], &[], 3, b"fault: read\n"),
-        (&[], &[1], 4, b"call"),
-        (&[], &[0], 4, b""),
+    // The words, which reads and which writes fail, counted from 0; the status, and what the sink holds.
+    let rows: [(&str, &[u32], &[u32], u8, &[u8]); 8] = [
+        ("run", &[0], &[], 3, b"fault: read\n"),
+        ("check", &[1], &[], 3, b"fault: read\n"),
+        ("run", &[], &[1], 4, b"call"),
+        ("run", &[], &[0], 4, b""),
+        ("check", &[], &[1], 4, b"acce"),
+        ("raw", &[], &[2], 4, b"mirdrop "),
+        ("frob", &[], &[1], 4, b"refu"),
+        ("run", &[0], &[1], 4, b"faul"),
     ];
-    for (reads, writes, status, written) in rows {
-        let bytes = List::from_vec(b"fn main() {}".to_vec(alloc)?);
+    for (words, reads, writes, status, written) in rows {
+        let words = words_of(alloc, words)?;
+        let bytes = List::from_vec(MAIN.to_vec(alloc)?);
         let mut source = MemSource::new(bytes, 4096, List::from_vec(reads.to_vec(alloc)?));
         let mut sink = MemSink::new(alloc, 4, List::from_vec(writes.to_vec(alloc)?));
         sink.reserve(64)?;

@@ -1,0 +1,126 @@
+-- The raw graph of a text, the uses that it refuses, and why a text has no graph, or none that is accepted.
+use Rattle.std.specs.Prelude.{◌≡◌, ◌<◌, ◌==◌, ℕ, Bool, true, false, ◌&&◌, List, Option, Some, None, slice_get, ⊤, find, option_and_then}
+use Rattle.std.specs.Option.{option_map_or}
+use Rattle.bad_uses.specs.Reaches.{MeetsNone}
+use Rattle.cfg_build.specs.Lower.{graph_of}
+use Rattle.cfg_graph.specs.declared.graph.Block.{Block}
+use Rattle.cfg_graph.specs.declared.graph.Body.{Body}
+use Rattle.cfg_graph.specs.declared.graph.Graph.{Graph}
+use Rattle.cfg_graph.specs.declared.graph.GraphFault.{GraphFault}
+use Rattle.cfg_graph.specs.declared.terminator.Term.{Term}
+use Rattle.cfg_graph.specs.Moves.BadUses.{UseRule, U1, U2}
+use Rattle.cfg_graph.specs.WellFormed.Faults.{IsCounted, IsWellFormed, first_fault}
+use Rattle.cfg_lower.specs.Claims.{EachBody, RunsAsItsSource, WalksAsItRunsFreely}
+use Rattle.cfg_lower.specs.declared.programs.Lowered.{Lowered}
+use Rattle.move_errors.specs.Refusal.{IsRefused}
+use Rattle.move_errors.specs.declared.errors.BadUse.{BadUse}
+use Rattle.move_paths.specs.declared.uses.Use.{Use}
+use Rattle.src_meaning.specs.Programs.{IsAccepted}
+use Rattle.typed_tree.specs.Tree.{ProgramTree}
+use Rattle.use_sites.specs.Listed.{program_sites}
+use Rattle.use_sites.specs.declared.site.Site.{Site}
+use Rattle.well_typed.specs.Program.{WellTyped}
+use Rattle.mir_pipeline.specs.Programs.{IsProgramOf, HasNoProgram}
+use Rattle.mir_pipeline.specs.declared.refusal.Refusal.{Refusal}
+use Rattle.mir_pipeline.specs.declared.refusal.Refusal.TheVariants as refusal
+use Rattle.mir_pipeline.specs.declared.uses.LineOfUse.{LineOfUse}
+
+-- The raw graph of a program, with the sites of its uses. It is well formed, and its lists are short. Of a well typed
+-- program it runs as the program does, up to the place where both are stuck, and each body walks as it runs freely.
+pub record IsGraphOf (program : ProgramTree) (lowered : Lowered) : Type 0 where
+  pub graph : lowered.graph ≡ graph_of program
+  pub sites : lowered.sites ≡ program_sites program
+  pub well_formed : IsWellFormed lowered.graph
+  pub counted : IsCounted lowered.graph
+  pub values : WellTyped program → RunsAsItsSource program lowered.graph
+  pub free : WellTyped program → EachBody (WalksAsItRunsFreely program.items) program lowered.graph
+
+-- the raw graph of a text's program
+abbrev pub IsLoweredOf : List ℕ → Lowered → Type 0
+IsLoweredOf text lowered = (program : ProgramTree) × IsProgramOf text program × IsGraphOf program lowered
+
+-- no path of any body meets a bad use
+abbrev pub UsesStand : Graph → Type 0
+UsesStand graph = (n : ℕ) (body : Body) → slice_get graph.bodies n ≡ Some body → MeetsNone graph.items body
+
+-- The raw graph of an accepted program. Of a well typed one no list of choices reaches a refused use in any body of the
+-- source.
+pub record IsAcceptedAs (program : ProgramTree) (lowered : Lowered) : Type 0 where
+  pub lowered_is : IsGraphOf program lowered
+  pub uses : UsesStand lowered.graph
+  pub source : WellTyped program → IsAccepted program
+
+abbrev pub IsAcceptedOf : List ℕ → Lowered → Type 0
+IsAcceptedOf text lowered = (program : ProgramTree) × IsProgramOf text program × IsAcceptedAs program lowered
+
+-- ---- the site of a bad use: that of its line; where an assignment drops what stood there, that of the store behind the
+-- drop
+
+abbrev pub behind_drop : Term → LineOfUse → LineOfUse
+behind_drop (Term.DropAt place next unwind) own = record { block = next; line = 0 }
+behind_drop term own = own
+
+abbrev pub is_drop : Use → Bool
+is_drop Use.Drops = true
+is_drop by = false
+
+abbrev pub told_by : Bool → Option Block → LineOfUse → LineOfUse
+told_by true (Some block) own = behind_drop block.term own
+told_by is_drop block own = own
+
+abbrev pub block_of : Graph → (body block : ℕ) → Option Block
+block_of graph body block = option_and_then (λ (found : Body). slice_get found.blocks block) (slice_get graph.bodies body)
+
+abbrev pub line_told : Graph → BadUse → LineOfUse
+line_told graph bad =
+    told_by (is_drop bad.by) (block_of graph bad.body bad.block) (record { block = bad.block; line = bad.line })
+
+abbrev pub stands_at : ℕ → LineOfUse → Site → Bool
+stands_at body at site = site.body == body && (site.block == at.block && site.line == at.line)
+
+abbrev pub site_of : Lowered → BadUse → Option Site
+site_of lowered bad = find (stands_at bad.body (line_told lowered.graph bad)) lowered.sites
+
+-- ---- refused uses
+
+-- a bad use of the first body that has one, along the least of the shortest lists of choices that reach one
+pub record IsFirstBad (graph : Graph) (rule : UseRule) (bad : BadUse) : Type 0 where
+  pub body : Body
+  pub there : slice_get graph.bodies bad.body ≡ Some body
+  pub refused : IsRefused graph.items body bad.body rule bad
+  pub first : (n : ℕ) (earlier : Body) → n < bad.body → slice_get graph.bodies n ≡ Some earlier → MeetsNone graph.items earlier
+
+pub record IsBadAt (lowered : Lowered) (rule : UseRule) (bad : BadUse) (site : Site) : Type 0 where
+  pub is_bad : IsFirstBad lowered.graph rule bad
+  pub told : site_of lowered bad ≡ Some site
+
+-- why the uses of a graph are refused; a bad use without a site is told apart
+abbrev pub RefusesUses : Lowered → Refusal → Type 0
+RefusesUses lowered (refusal.U1 bad site) = IsBadAt lowered U1 bad site
+RefusesUses lowered (refusal.U2 bad site) = IsBadAt lowered U2 bad site
+RefusesUses lowered (refusal.Unplaced body block line) =
+    (rule : UseRule) × (bad : BadUse) × IsFirstBad lowered.graph rule bad × (site_of lowered bad ≡ None)
+    × (body ≡ bad.body) × (block ≡ bad.block) × (line ≡ bad.line)
+RefusesUses lowered refusal.Memory = ⊤
+RefusesUses lowered other = ⊥
+
+-- ---- why a text has no graph, and why it has none that is accepted
+
+-- the graph of its program has a fault
+abbrev pub HasFaultyGraph : List ℕ → GraphFault → Type 0
+HasFaultyGraph text fault =
+    (program : ProgramTree) × IsProgramOf text program × (first_fault (graph_of program) ≡ Some fault)
+
+abbrev pub HasNoGraph : List ℕ → Refusal → Type 0
+HasNoGraph text (refusal.Faulty fault) = HasFaultyGraph text fault
+HasNoGraph text other = HasNoProgram text other
+
+-- it has a graph whose uses are refused
+abbrev pub HasBadUse : List ℕ → Refusal → Type 0
+HasBadUse text why = (lowered : Lowered) × IsLoweredOf text lowered × RefusesUses lowered why
+
+abbrev pub IsNotAccepted : List ℕ → Refusal → Type 0
+IsNotAccepted text (refusal.U1 bad site) = HasBadUse text (refusal.U1 bad site)
+IsNotAccepted text (refusal.U2 bad site) = HasBadUse text (refusal.U2 bad site)
+IsNotAccepted text (refusal.Unplaced body block line) = HasBadUse text (refusal.Unplaced body block line)
+IsNotAccepted text other = HasNoGraph text other

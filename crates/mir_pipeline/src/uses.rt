@@ -1,0 +1,219 @@
+//! The uses of a graph that are refused.
+ghost use Rattle.std.specs.Prelude.{◌≡◌, ◌<◌, ◌-◌, ◌^◌, IfOk, IfErr, OnOk, find, length};
+ghost use Rattle.std.specs.Option.{option_copied};
+ghost use Rattle.cfg_graph.specs.WellFormed.Faults.{IsCounted, IsWellFormed};
+ghost use Rattle.mir_pipeline.specs.Graphs as graphs;
+ghost use Rattle.mir_pipeline.specs.Graphs.{IsAcceptedOf, IsFirstBad, IsNotAccepted, RefusesUses, UsesStand};
+ghost use Rattle.mir_pipeline.specs.Faults.{HasFirstBad};
+ghost use Rattle.mir_pipeline.specs.declared.refusal.Refusal.TheVariants.{Unplaced};
+ghost use Rattle.cfg_graph.specs.Moves.BadUses.{U1, U2};
+
+use crate::graphs::build_raw;
+use crate::refusal::Refusal;
+use cfg_graph::{Block, Graph, Term};
+use cfg_lower::Lowered;
+use mir_base::NoMemory;
+use move_errors::{BadUse, UseError, check_uses};
+use move_paths::Use;
+use std::alloc::Global;
+use use_sites::Site;
+
+/// The first body with a bad use, in the order of numbers, and that use.
+fn first_bad(alloc: Global, graph: &Graph) -> Result<(), UseError>
+    requires well_formed { IsWellFormed graph.now }
+    requires counted { IsCounted graph.now }
+    ensures accepted { OnOk result (UsesStand graph.now) }
+    ensures refused { IfErr result (HasFirstBad graph.now) }
+{
+    for number in 0..graph.bodies.len() as u32 {
+        if let Err(error) = check_uses(alloc, graph, number) {
+            return Err(error);
+        }
+    }
+    Ok(())
+}
+
+/// A line of a body, by its block.
+#[derive(Clone, Copy)]
+pub struct LineOfUse {
+    pub block: u32,
+    pub line: u32,
+}
+
+/// The line of the store behind a block that ends by a drop, and otherwise the line itself.
+fn behind_drop(block: &Block, own: LineOfUse) -> LineOfUse
+    ensures { result ≡ graphs.behind_drop block.now.term own }
+{
+    match &block.term {
+        Term::DropAt { then, .. } => LineOfUse {
+            block: *then,
+            line: 0,
+        },
+        _ => own,
+    }
+}
+
+fn block_of(graph: &Graph, body: u32, block: u32) -> Option<&Block>
+    ensures { option_copied result ≡ graphs.block_of graph.now body block }
+{
+    graph.bodies.get(body as usize)?.blocks.get(block as usize)
+}
+
+fn is_drop(by: Use) -> bool
+    ensures { result ≡ graphs.is_drop by }
+{
+    matches!(by, Use::Drops)
+}
+
+/// The line whose site a bad use is told by.
+fn line_told(graph: &Graph, bad: &BadUse) -> LineOfUse
+    ensures { result ≡ graphs.line_told graph.now bad.now }
+{
+    let own = LineOfUse {
+        block: bad.block,
+        line: bad.line,
+    };
+    if !is_drop(bad.by) {
+        return own;
+    }
+    match block_of(graph, bad.body, bad.block) {
+        Some(block) => behind_drop(block, own),
+        None => own,
+    }
+}
+
+fn stands_at(site: &Site, body: u32, at: LineOfUse) -> bool
+    ensures { result ≡ graphs.stands_at body at site.now }
+{
+    site.body == body && (site.block == at.block && site.line == at.line)
+}
+
+fn copy_of(alloc: Global, site: &Site) -> Result<Site, NoMemory>
+    ensures { IfOk result (λ copy. copy ≡ site.now) }
+{
+    let name = site.name.copy(alloc)?;
+    Ok(Site {
+        body: site.body,
+        block: site.block,
+        line: site.line,
+        at: site.at,
+        by: site.by,
+        name,
+    })
+}
+
+/// The site of a line, if it has one.
+fn site_at(sites: &[Site], body: u32, at: LineOfUse) -> Option<&Site>
+    ensures { option_copied result ≡ find (graphs.stands_at body at) sites.now }
+{
+    for site in sites {
+        if stands_at(site, body, at) {
+            return Some(site);
+        }
+    }
+    None
+}
+
+/// The site of a bad use, if it has one.
+fn site_of(alloc: Global, lowered: &Lowered, bad: &BadUse) -> Result<Option<Site>, NoMemory>
+    ensures { IfOk result (λ site. site ≡ graphs.site_of lowered.now bad.now) }
+{
+    let at = line_told(&lowered.graph, bad);
+    match site_at(lowered.sites.as_slice(), bad.body, at) {
+        Some(site) => Ok(Some(copy_of(alloc, site)?)),
+        None => Ok(None),
+    }
+}
+
+/// A bad use whose place in the text is not known.
+fn unplaced(bad: BadUse) -> Refusal
+    ensures { result ≡ Unplaced bad.body bad.block bad.line }
+{
+    Refusal::Unplaced {
+        body: bad.body,
+        block: bad.block,
+        line: bad.line,
+    }
+}
+
+/// The refusal of a use of what is gone.
+fn of_use(alloc: Global, lowered: &Lowered, bad: BadUse) -> Refusal
+    ensures { IsFirstBad lowered.now.graph U1 bad → RefusesUses lowered.now result }
+{
+    match site_of(alloc, lowered, &bad) {
+        Ok(Some(site)) => Refusal::U1 { bad, site },
+        Ok(None) => unplaced(bad),
+        Err(NoMemory) => Refusal::Memory,
+    }
+}
+
+/// The refusal of a store into a part of what is gone.
+fn of_store(alloc: Global, lowered: &Lowered, bad: BadUse) -> Refusal
+    ensures { IsFirstBad lowered.now.graph U2 bad → RefusesUses lowered.now result }
+{
+    match site_of(alloc, lowered, &bad) {
+        Ok(Some(site)) => Refusal::U2 { bad, site },
+        Ok(None) => unplaced(bad),
+        Err(NoMemory) => Refusal::Memory,
+    }
+}
+
+fn told(alloc: Global, lowered: &Lowered, error: UseError) -> Refusal
+    ensures { HasFirstBad lowered.now.graph error → RefusesUses lowered.now result }
+{
+    match error {
+        UseError::U1(bad) => of_use(alloc, lowered, bad),
+        UseError::U2(bad) => of_store(alloc, lowered, bad),
+        UseError::Memory => Refusal::Memory,
+    }
+}
+
+/// Whether all uses of a graph that has no fault stand: no path of a body meets a use of what is gone.
+///
+/// # Errors
+///
+/// [`Refusal::U1`] and [`Refusal::U2`] of the first body, in the order of numbers, of which a path meets a bad use: that
+/// which the least of the shortest lists of choices reaches, with its site in the text. [`Refusal::Unplaced`] where the
+/// use has no site, of which it is not proved yet that there is none. [`Refusal::Memory`] where memory is wanted.
+pub fn checked_uses(alloc: Global, lowered: &Lowered) -> Result<(), Refusal>
+    requires well_formed { IsWellFormed lowered.now.graph }
+    requires counted { IsCounted lowered.now.graph }
+    ensures accepted { OnOk result (UsesStand lowered.now.graph) }
+    ensures refused { IfErr result (λ refusal. RefusesUses lowered.now refusal) }
+{
+    match first_bad(alloc, &lowered.graph) {
+        Ok(()) => Ok(()),
+        Err(error) => Err(told(alloc, lowered, error)),
+    }
+}
+
+/// The graph, if all its uses stand.
+fn accepted(alloc: Global, lowered: Lowered) -> Result<Lowered, Refusal>
+    requires well_formed { IsWellFormed lowered.graph }
+    requires counted { IsCounted lowered.graph }
+    ensures accepted { IfOk result (λ same. (same ≡ lowered) × UsesStand lowered.graph) }
+    ensures refused { IfErr result (λ refusal. RefusesUses lowered refusal) }
+{
+    match checked_uses(alloc, &lowered) {
+        Ok(()) => Ok(lowered),
+        Err(refusal) => {
+            drop(lowered);
+            Err(refusal)
+        }
+    }
+}
+
+/// The raw graph of an accepted text of at most 4,294,967,294 bytes, with scheduled drops, and the sites of its uses.
+///
+/// # Errors
+///
+/// As [`build_raw`] where the text has no graph, and otherwise as [`checked_uses`].
+#[tactic(auto, using(crate::proofs::Accepted::has_no_graph, crate::proofs::Accepted::has_bad_use))]
+pub fn checked(alloc: Global, text: &[u8]) -> Result<Lowered, Refusal>
+    requires { length text.now < 2 ^ 32 - 1 }
+    ensures accepted { IfOk result (λ lowered. IsAcceptedOf text.now lowered) }
+    ensures refused { IfErr result (λ refusal. IsNotAccepted text.now refusal) }
+{
+    let lowered = build_raw(alloc, text)?;
+    accepted(alloc, lowered)
+}

@@ -1,0 +1,74 @@
+-- What is answered to a text is what it is owed.
+use Rattle.std.proofs.Common.{◌≡◌, ℕ, List, ◌++◌, sym, subst, refl, Result, Ok, Err, IfOk}
+use Rattle.std.proofs.lemmas.List.Elements.{All-weaker}
+use Rattle.cfg_graph.specs.declared.graph.Graph.{Graph}
+use Rattle.cfg_graph.specs.WellFormed.Faults.{IsCounted, IsCountedBody}
+use Rattle.mir_pipeline.specs.Graphs.{HasNoGraph, IsAcceptedOf, IsLoweredOf, IsNotAccepted, RefusesUses, UsesStand}
+use Rattle.mir_pipeline.specs.declared.refusal.Refusal.{Refusal}
+use Rattle.mir_pipeline.specs.declared.refusal.Refusal.TheVariants.{Lex, Syntax, TooDeep, Broken, Faulty, U1, U2, Unplaced, Memory}
+use Rattle.cfg_lower.specs.declared.programs.Lowered.{Lowered}
+use Rattle.mir_text.specs.Listing.{IsShortBody, IsShortGraph, listing}
+use Rattle.mirdrop_program.specs.Owed.{OwedByCheck, OwedByRaw, accepted, not_accepted, listed, listed_with_use, not_placed, no_graph, accepted_line, IsOfUse}
+use Rattle.mirdrop_program.specs.Refusals.{IsTold, refusal_lines, refusal_status}
+
+-- what is said of a status and of a text says it of what equals them
+pub as_said : (Says : ℕ → List ℕ → Type 0) (status same_status : ℕ) (text same_text : List ℕ) → status ≡ same_status → text ≡ same_text →
+    Says same_status same_text → Says status text
+as_said Says status same_status text same_text s t says =
+    subst (λ (n : ℕ). Says n text) (sym s) (subst (λ (l : List ℕ). Says same_status l) (sym t) says)
+
+pub check_accepted : (text : List ℕ) (lowered : Lowered) (status : ℕ) (written : List ℕ) → IsAcceptedOf text lowered → status ≡ 0 → written ≡ accepted_line →
+    OwedByCheck text status written
+check_accepted text lowered status written is s w = as_said (OwedByCheck text) status 0 written accepted_line s w (accepted lowered is)
+
+pub check_refused : (text : List ℕ) (why : Refusal) (status : ℕ) (written : List ℕ) → IsNotAccepted text why → IsTold why → status ≡ refusal_status why → written ≡ refusal_lines why →
+    OwedByCheck text status written
+check_refused text why status written is told s w =
+    as_said (OwedByCheck text) status (refusal_status why) written (refusal_lines why) s w (not_accepted why is told)
+
+pub raw_listed : (text : List ℕ) (lowered : Lowered) (status : ℕ) (written : List ℕ) → IsLoweredOf text lowered → UsesStand lowered.graph → status ≡ 0 → written ≡ listing lowered.graph →
+    OwedByRaw text status written
+raw_listed text lowered status written is stand s w =
+    as_said (OwedByRaw text) status 0 written (listing lowered.graph) s w (listed lowered is stand)
+
+pub raw_with_use : (text : List ℕ) (lowered : Lowered) (why : Refusal) (status : ℕ) (written : List ℕ) → IsLoweredOf text lowered → RefusesUses lowered why → IsOfUse why →
+    status ≡ 0 → written ≡ listing lowered.graph ++ refusal_lines why → OwedByRaw text status written
+raw_with_use text lowered why status written is refuses of_use s w =
+    as_said (OwedByRaw text) status 0 written (listing lowered.graph ++ refusal_lines why) s w (listed_with_use lowered is why refuses of_use)
+
+unplaced : (text : List ℕ) (lowered : Lowered) (why : Refusal) → IsLoweredOf text lowered → RefusesUses lowered why → (IsOfUse why → ⊥) → IsTold why →
+    OwedByRaw text (refusal_status why) (refusal_lines why)
+unplaced text lowered (Lex code at) is refuses other told = absurd refuses
+unplaced text lowered (Syntax at pos) is refuses other told = absurd refuses
+unplaced text lowered (TooDeep at pos) is refuses other told = absurd refuses
+unplaced text lowered (Broken rule at) is refuses other told = absurd refuses
+unplaced text lowered (Faulty fault) is refuses other told = absurd refuses
+unplaced text lowered (U1 bad site) is refuses other told = absurd (other tt)
+unplaced text lowered (U2 bad site) is refuses other told = absurd (other tt)
+unplaced text lowered (Unplaced body block line) is refuses other told = not_placed lowered is (Unplaced body block line) refuses told refl
+unplaced text lowered Memory is refuses other told = absurd told
+
+pub raw_unplaced : (text : List ℕ) (lowered : Lowered) (why : Refusal) (status : ℕ) (written : List ℕ) → IsLoweredOf text lowered → RefusesUses lowered why → (IsOfUse why → ⊥) → IsTold why →
+    status ≡ refusal_status why → written ≡ refusal_lines why → OwedByRaw text status written
+raw_unplaced text lowered why status written is refuses other told s w =
+    as_said (OwedByRaw text) status (refusal_status why) written (refusal_lines why) s w (unplaced text lowered why is refuses other told)
+
+pub raw_refused : (text : List ℕ) (why : Refusal) (status : ℕ) (written : List ℕ) → HasNoGraph text why → IsTold why → status ≡ refusal_status why → written ≡ refusal_lines why →
+    OwedByRaw text status written
+raw_refused text why status written is told s w =
+    as_said (OwedByRaw text) status (refusal_status why) written (refusal_lines why) s w (no_graph why is told)
+
+pub short_graph : (graph : Graph) → IsCounted graph → IsShortGraph graph
+short_graph graph c = record {
+  bodies = c.bodies;
+  each = All-weaker IsCountedBody IsShortBody (λ body b. record { locals = b.locals; blocks = b.blocks }) graph.bodies c.each;
+}
+
+-- what holds of an answer where two or three things do
+pub both_ok : {A E : Type 0} (r : Result A E) (P Q S : A → Type 0) → ((a : A) → P a → Q a → S a) → IfOk r P → IfOk r Q → IfOk r S
+both_ok (Ok a) P Q S f p q = f a p q
+both_ok (Err e) P Q S f p q = tt
+
+pub all_ok : {A E : Type 0} (r : Result A E) (P Q R S : A → Type 0) → ((a : A) → P a → Q a → R a → S a) → IfOk r P → IfOk r Q → IfOk r R → IfOk r S
+all_ok (Ok a) P Q R S f p q s = f a p q s
+all_ok (Err e) P Q R S f p q s = tt

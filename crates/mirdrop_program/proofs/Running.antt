@@ -1,4 +1,0 @@
-pub mod Effort
-pub mod Steady
-pub mod Steps
-pub mod Trees

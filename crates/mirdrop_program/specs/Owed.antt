@@ -1,0 +1,76 @@
+-- What a text is owed for each command: a status, and all that is written with it.
+use Rattle.std.specs.Prelude.{◌≡◌, ℕ, ℤ, List, ◌++◌, codes, Err, ⊤}
+use Rattle.cfg_graph.specs.declared.graph.Graph.{Graph}
+use Rattle.cfg_lower.specs.declared.programs.Lowered.{Lowered}
+use Rattle.cfg_meaning.specs.Programs.{graph_run, raw_graph_run}
+use Rattle.listing_answers.specs.Answers.{IsText, Answers as AnswersListing}
+use Rattle.listing_answers.specs.declared.error.ListingError.{ListingError}
+use Rattle.mir_base.specs.declared.trace.End.{End}
+use Rattle.mir_base.specs.Lines.{line}
+use Rattle.mir_machine.specs.Runs.{run_text}
+use Rattle.mir_pipeline.specs.Graphs.{HasNoGraph, IsAcceptedOf, IsBadAt, IsLoweredOf, IsNotAccepted, RefusesUses, UsesStand}
+use Rattle.mir_pipeline.specs.declared.refusal.Refusal.{Refusal}
+use Rattle.mir_pipeline.specs.declared.refusal.Refusal.TheVariants.{U1, U2}
+use Rattle.mir_text.specs.Listing.{listing}
+use Rattle.program_words.specs.declared.request.Command.{Command}
+use Rattle.program_words.specs.declared.request.Request.{Request}
+use Rattle.mirdrop_program.specs.Refusals.{IsTold, IsToldError, error_line, refusal_lines, refusal_status}
+
+-- the status of a run, by its end
+abbrev pub end_status : End → ℕ
+end_status End.Returned = 0
+end_status End.Panicked = 10
+end_status End.Aborted = 11
+end_status End.OutOfTicks = 12
+end_status (End.Stuck body block) = 13
+
+abbrev pub accepted_line : List ℕ
+accepted_line = line (codes "accepted")
+
+-- a refusal of a use, and not of what is wrong inside
+abbrev pub IsOfUse : Refusal → Type 0
+IsOfUse (U1 bad site) = ⊤
+IsOfUse (U2 bad site) = ⊤
+IsOfUse other = ⊥
+
+module _ (text : List ℕ) where
+  -- `check`: whether the program is accepted
+  pub data OwedByCheck : ℕ → List ℕ → Type 0 where
+    accepted : (lowered : Lowered) → IsAcceptedOf text lowered → OwedByCheck 0 accepted_line
+    not_accepted : (why : Refusal) → IsNotAccepted text why → IsTold why →
+        OwedByCheck (refusal_status why) (refusal_lines why)
+
+  -- `raw`: the listing of its raw graph; where a use of it is bad, the lines of that are behind it
+  pub data OwedByRaw : ℕ → List ℕ → Type 0 where
+    listed : (lowered : Lowered) → IsLoweredOf text lowered → UsesStand lowered.graph →
+        OwedByRaw 0 (listing lowered.graph)
+    listed_with_use : (lowered : Lowered) → IsLoweredOf text lowered → (why : Refusal) → RefusesUses lowered why →
+        IsOfUse why → OwedByRaw 0 (listing lowered.graph ++ refusal_lines why)
+    not_placed : (lowered : Lowered) → IsLoweredOf text lowered → (why : Refusal) → RefusesUses lowered why →
+        IsTold why → refusal_status why ≡ 70 → OwedByRaw 70 (refusal_lines why)
+    no_graph : (why : Refusal) → HasNoGraph text why → IsTold why → OwedByRaw (refusal_status why) (refusal_lines why)
+
+  -- `run`: the trace of its raw graph, where the program is accepted
+  pub data OwedByRun (asks : List ℤ) (ticks : ℕ) : ℕ → List ℕ → Type 0 where
+    ran : (lowered : Lowered) → IsAcceptedOf text lowered →
+        OwedByRun asks ticks (end_status (raw_graph_run lowered.graph asks ticks).1)
+        (run_text lowered.graph (raw_graph_run lowered.graph asks ticks))
+    not_run : (why : Refusal) → IsNotAccepted text why → IsTold why →
+        OwedByRun asks ticks (refusal_status why) (refusal_lines why)
+
+  -- `exec`: the trace of the graph that the text lists
+  pub data OwedByExec (asks : List ℤ) (ticks : ℕ) : ℕ → List ℕ → Type 0 where
+    executed : (graph : Graph) → IsText text graph →
+        OwedByExec asks ticks (end_status (graph_run graph asks ticks).1)
+        (run_text graph (graph_run graph asks ticks))
+    no_listing : (error : ListingError) → AnswersListing text (Err error) → IsToldError error →
+        OwedByExec asks ticks 1 (error_line error)
+
+abbrev pub owed_by : Command → Request → List ℕ → ℕ → List ℕ → Type 0
+owed_by Command.Check request text = OwedByCheck text
+owed_by Command.Raw request text = OwedByRaw text
+owed_by Command.Run request text = OwedByRun text request.asks request.ticks
+owed_by Command.Exec request text = OwedByExec text request.asks request.ticks
+
+abbrev pub Owed : Request → List ℕ → ℕ → List ℕ → Type 0
+Owed request = owed_by request.command request
