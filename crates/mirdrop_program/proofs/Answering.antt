@@ -5,7 +5,7 @@ use Rattle.cfg_lower.specs.declared.programs.Lowered.{Lowered}
 use Rattle.cfg_meaning.specs.Programs.{graph_run, raw_graph_run}
 use Rattle.listing_answers.specs.Answers.{IsText, Answers as AnswersListing}
 use Rattle.listing_answers.specs.declared.error.ListingError.{ListingError}
-use Rattle.mir_base.specs.declared.no_memory.NoMemory.{NoMemory}
+use Rattle.mir_base.specs.declared.memory.NoMemory.{NoMemory}
 use Rattle.mir_machine.specs.Runs.{run_text}
 use Rattle.mir_pipeline.specs.Graphs.{IsAcceptedOf, IsNotAccepted}
 use Rattle.mir_pipeline.specs.declared.refusal.Refusal.{Refusal}
@@ -38,7 +38,7 @@ module _ (request : Request) (text : List ℕ) (taken taken_after : Option (List
   was_run : (status : ℕ) (written : List ℕ) (result : ℕ) → Owed request text status written → writes_by request.command →
       Ran status written taken taken_after sink_failed result → Done result
   was_run status written result owed writes (ran_whole d) = owing owed d
-  was_run status written result owed writes (cut n h) = cut_short owed writes n h
+  was_run status written result owed writes (cut n h) = cut_short status written owed writes n h
 
   pub program_ran : (lowered : Lowered) (result : ℕ) → request.command ≡ Command.Run → IsAcceptedOf text lowered →
       Ran (end_status (raw_graph_run lowered.graph request.asks request.ticks).1)

@@ -34,7 +34,7 @@ module _ (words : List (List ℕ)) (left taken taken_after : Option (List ℕ)) 
   complete_from request text before status written is asked short no_source no_sink (whole (answered r e s owes)) = inr (written, is, asks_same request r text status written asked e owes)
   complete_from request text before status written is asked short no_source no_sink (part due n failed) = absurd (no_sink failed)
   complete_from request text before status written is asked short no_source no_sink no_memory = inl refl
-  complete_from request text before status written is asked short no_source no_sink (no_memory_for_trace r e t s owes n) = inl refl
+  complete_from request text before status written is asked short no_source no_sink (no_memory_for_trace given due r e t s owes n) = inl refl
 
   pub completes : (status : ℕ) → HasAnswered words left taken taken_after source_failed sink_failed status → IsComplete words left taken taken_after source_failed sink_failed status
   completes status h request text before asked told kept short no_source no_sink =
@@ -47,8 +47,8 @@ module _ (words : List (List ℕ)) (left taken taken_after : Option (List ℕ)) 
       delivers owes due status
       (λ told e. answered request asked (subst (λ (t : List ℕ). length t ≤ 131072) (is told e) short) (subst (λ (t : List ℕ). Owed request t owes due) (is told e) owed))
       delivered told before e kept
-  answers_text request text status asked is short (cut_short {status = owes} {answer = due} owed writes n h) told before e kept =
-      (take n due, h before kept, no_memory_for_trace request asked writes (subst (λ (t : List ℕ). length t ≤ 131072) (is told e) short)
+  answers_text request text status asked is short (cut_short owes due owed writes n h) told before e kept =
+      (take n due, h before kept, no_memory_for_trace owes due request asked writes (subst (λ (t : List ℕ). length t ≤ 131072) (is told e) short)
       (subst (λ (t : List ℕ). Owed request t owes due) (is told e) owed) n)
   answers_text request text status asked is short (wanting same) told before e kept = wants_memory same told before e kept
 
@@ -71,7 +71,7 @@ five sink_failed = record { no_words = λ e. omega arith; no_read_fault = λ e. 
 
 pub response : (request : Request) (text : List ℕ) (taken taken_after : Option (List ℕ)) (sink_failed : Type 0) (result : ℕ) → Responded request text taken taken_after sink_failed result → Response result sink_failed
 response request text taken taken_after sink_failed result (owing {status = owes} {answer = due} owed delivered) = delivered_response owes due taken taken_after sink_failed result (owed_is_answer request text owes due owed) delivered
-response request text taken taken_after sink_failed result (cut_short owed writes n h) = five sink_failed
+response request text taken taken_after sink_failed result (cut_short owes due owed writes n h) = five sink_failed
 response request text taken taken_after sink_failed result (wanting same) = five sink_failed
 
 abbrev if_false : Bool → Type 0

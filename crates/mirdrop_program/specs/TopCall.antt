@@ -39,7 +39,7 @@ pub data Answers (words : List (List ℕ)) (text : List ℕ) (source_failed sink
   part : {status : ℕ} {due : List ℕ} → Due words text source_failed status due → (n : ℕ) → sink_failed →
       Answers words text source_failed sink_failed 4 (take n due)
   no_memory : Answers words text source_failed sink_failed 5 []
-  no_memory_for_trace : {status : ℕ} {due : List ℕ} (request : Request) → request_of words ≡ Some request →
+  no_memory_for_trace : (status : ℕ) (due : List ℕ) (request : Request) → request_of words ≡ Some request →
       writes_a_trace request.command ≡ true → length text ≤ 131072 → Owed request text status due → (n : ℕ) →
       Answers words text source_failed sink_failed 5 (take n due)
 
@@ -80,7 +80,7 @@ pub data Responded (request : Request) (text : List ℕ) (taken taken_after : Op
   owing : {status : ℕ} {answer : List ℕ} {result : ℕ} → Owed request text status answer →
       Delivered status answer taken taken_after sink_failed result
       → Responded request text taken taken_after sink_failed result
-  cut_short : {status : ℕ} {answer : List ℕ} → Owed request text status answer →
+  cut_short : (status : ℕ) (answer : List ℕ) → Owed request text status answer →
       writes_a_trace request.command ≡ true → (n : ℕ) →
       ((before : List ℕ) → taken ≡ Some before → taken_after ≡ Some (before ++ take n answer)) →
       Responded request text taken taken_after sink_failed 5

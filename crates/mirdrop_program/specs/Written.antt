@@ -1,6 +1,7 @@
 -- What was done with an answer; no public contract speaks of these words.
 use Rattle.std.specs.Prelude.{◌≡◌, ℕ, List, ◌++◌, take, Option, Some, Result, Ok, Err}
-use Rattle.mir_base.specs.declared.no_memory.NoMemory.{NoMemory}
+use Rattle.mir_base.specs.declared.memory.NoMemory.{NoMemory}
+use Rattle.trace_flow.specs.declared.error.RunError.{RunError}
 use Rattle.mirdrop_program.specs.TopCall.{Delivered}
 use Rattle.mirdrop_program.specs.declared.answers.Answer.{Answer}
 
@@ -16,3 +17,8 @@ abbrev pub HandedOn : Result Answer NoMemory → Option (List ℕ) → Option (L
 HandedOn (Ok answer) taken taken_after sink_failed result =
     Delivered answer.status answer.text.items taken taken_after sink_failed result
 HandedOn (Err want) taken taken_after sink_failed result = (taken_after ≡ taken) × (result ≡ 5)
+
+-- the status of a run that was not written to its end
+abbrev pub error_status : RunError → ℕ
+error_status (RunError.WriteFault written) = 4
+error_status RunError.Memory = 5

@@ -11,14 +11,13 @@ ghost use Rattle.program_words.specs.declared.request.Command.{Command as a_comm
 
 use crate::deliver::hand_on;
 use crate::refused::refused_listing;
-use crate::running::status_by;
+use crate::running::{status_by, status_without};
 use cfg_graph::Graph;
 use listing_answers::read_listing;
 use mir_edge::Sink;
 use mir_machine::run;
 use program_words::Request;
 use std::alloc::Global;
-use trace_flow::RunError;
 
 /// Runs a graph by strict steps, and writes its trace as it comes.
 fn execute<K: Sink>(alloc: Global, request: &Request, graph: &Graph, sink: &mut K) -> u8
@@ -31,8 +30,7 @@ fn execute<K: Sink>(alloc: Global, request: &Request, graph: &Graph, sink: &mut 
 {
     match run(alloc, graph, request.asks.as_slice(), request.ticks, sink) {
         Ok(end) => status_by(end),
-        Err(RunError::WriteFault { .. }) => 4,
-        Err(RunError::Memory) => 5,
+        Err(error) => status_without(error),
     }
 }
 

@@ -6,7 +6,7 @@ ghost use Rattle.mir_edge.specs.Faults.{HasRisen};
 ghost use Rattle.mir_machine.specs.Runs.{run_text};
 ghost use Rattle.mirdrop_program.specs.Owed.{end_status};
 ghost use Rattle.mirdrop_program.specs.TopCall.{Responded};
-ghost use Rattle.mirdrop_program.specs.Written.{Ran};
+ghost use Rattle.mirdrop_program.specs.Written.{Ran, error_status};
 ghost use Rattle.program_words.specs.declared.request.Command.{Command as a_command};
 
 use crate::deliver::hand_on;
@@ -33,6 +33,16 @@ pub fn status_by(end: End) -> u8
     }
 }
 
+/// The status of a run that was not written to its end.
+pub fn status_without(error: RunError) -> u8
+    ensures { result ≡ error_status error }
+{
+    match error {
+        RunError::WriteFault { .. } => 4,
+        RunError::Memory => 5,
+    }
+}
+
 /// Runs a raw graph, and writes its trace as it comes.
 fn run_graph<K: Sink>(alloc: Global, request: &Request, graph: &Graph, sink: &mut K) -> u8
     requires well_formed { IsWellFormed graph.now }
@@ -44,8 +54,7 @@ fn run_graph<K: Sink>(alloc: Global, request: &Request, graph: &Graph, sink: &mu
 {
     match run_raw(alloc, graph, request.asks.as_slice(), request.ticks, sink) {
         Ok(end) => status_by(end),
-        Err(RunError::WriteFault { .. }) => 4,
-        Err(RunError::Memory) => 5,
+        Err(error) => status_without(error),
     }
 }
 

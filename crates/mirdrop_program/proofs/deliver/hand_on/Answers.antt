@@ -1,5 +1,4 @@
-use Rattle.std.proofs.Common.{refl}
 use Rattle.mirdrop_program.proofs.deliver.hand_on.Goals as goal
 
 pub returns-in-Ok-clause-done : goal.returns-in-Ok-clause-done
-returns-in-Ok-clause-done g c = rw c.as_slice.ensures.value at c.deliver.ensures.done
+returns-in-Ok-clause-done g c = rw c.in-Ok.is (rw c.as_slice.ensures.value at c.deliver.ensures.done)
