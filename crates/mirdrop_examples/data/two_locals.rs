@@ -1,3 +1,9 @@
 struct D(i32);
-impl Drop for D { fn drop(&mut self) {} }
-fn main() { let a = D(1); let b = D(2); }
+impl Drop for D {
+    fn drop(&mut self) {}
+}
+fn take(x: D) {}
+fn main() {
+    let a = D(1);
+    let b = D(2);
+}

@@ -1,8 +1,8 @@
 //! Runs `mirdrop` on each example of the table in `data/README.md`, and says whether it ends with the status of
 //! the table and writes what stands in the file beside the example.
 //!
-//! A row of the table has the example's name, the words, the status, and what the example shows. The text is in
-//! `NAME.rs`, what is to be written in `NAME.trace`.
+//! A row of the table has the example's name, the file with its text, the words, the status, and what the example
+//! shows. What is to be written is in `NAME.trace`.
 #![tactic(auto)]
 
 use mir_base::{List, NoMemory};
@@ -12,10 +12,12 @@ use std::alloc::Global;
 use std::rt::Files;
 use std::{fs, io};
 
-/// A row of the table: an example, the words that it is run with, and the status that is wanted.
+/// A row of the table: an example, the file with its text, the words that it is run with, and the status that is
+/// wanted.
 #[derive(Clone, Copy)]
 struct Row<'a> {
     name: &'a str,
+    text: &'a str,
     words: &'a str,
     status: &'a str,
 }
@@ -33,6 +35,7 @@ fn row_in(line: &str) -> Option<Row<'_>> {
     let mut cells = line.split('|').skip(1);
     Some(Row {
         name: plain(cells.next()?),
+        text: plain(cells.next()?),
         words: plain(cells.next()?),
         status: plain(cells.next()?),
     })
@@ -61,7 +64,7 @@ fn outcome(alloc: Global, words: &str, text: String) -> Result<Ended, NoMemory> 
 /// The verdict on one example.
 fn verdict(rt: &(impl Files + AllocGlobal), row: &Row<'_>) -> io::Result<&'static str> {
     let alloc = rt.alloc();
-    let text = fs::read_to_string(rt, format!(in alloc; "{}.rs", row.name)?.as_str())?;
+    let text = fs::read_to_string(rt, row.text)?;
     let wanted = fs::read_to_string(rt, format!(in alloc; "{}.trace", row.name)?.as_str())?;
     let Ok(ended) = outcome(alloc, row.words, text) else {
         return Err(io::Error::from(io::ErrorKind::OutOfMemory));

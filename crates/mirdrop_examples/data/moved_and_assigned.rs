@@ -1,0 +1,11 @@
+struct D(i32);
+impl Drop for D {
+    fn drop(&mut self) {}
+}
+fn take(x: D) {}
+fn main() {
+    let mut x = D(1);
+    take(x);
+    x = D(2);
+    take(x);
+}

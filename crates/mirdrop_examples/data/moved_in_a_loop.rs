@@ -1,0 +1,4 @@
+struct D(i32);
+impl Drop for D { fn drop(&mut self) {} }
+fn take(x: D) {}
+fn main() { let x = D(1); loop { take(x); } }

@@ -1,0 +1,11 @@
+struct D(i32);
+impl Drop for D {
+    fn drop(&mut self) {}
+}
+fn take(x: D) {}
+fn main() {
+    let x = D(1);
+    if ask() == 0 {
+        take(x);
+    }
+}
