@@ -1,5 +1,5 @@
 //! What `read_typed` answers of a text, in a word.
-use mir_base::Rule;
+use mir_base::{Pos, Rule};
 use mir_pipeline::{Refusal, read_typed};
 use std::alloc::{AllocError, Global};
 
@@ -28,7 +28,24 @@ fn number(rule: Rule) -> u32 {
     }
 }
 
-/// `ok`, or the number of the first broken rule with its line and column.
+fn placed(alloc: Global, what: &str, at: Pos) -> Result<String, AllocError> {
+    format!(in alloc; "{what}:{}:{}", at.line, at.col)
+}
+
+fn refused(alloc: Global, refusal: Refusal) -> Result<String, AllocError> {
+    match refusal {
+        Refusal::Lex { code, at } => format!(in alloc; "token{code}:{}:{}", at.line, at.col),
+        Refusal::Syntax { pos, .. } => placed(alloc, "syntax", pos),
+        Refusal::TooDeep { pos, .. } => placed(alloc, "deep", pos),
+        Refusal::Broken { rule, at } => {
+            format!(in alloc; "{}:{}:{}", number(rule), at.line, at.col)
+        }
+        Refusal::Memory => format!(in alloc; "memory"),
+    }
+}
+
+/// `ok`, or the number of the first broken rule with its line and column; for what is no token or no tree, a word for
+/// that with its place.
 pub fn answer(alloc: Global, text: &[u8]) -> Result<String, AllocError> {
     if text.len() > 200_000 {
         return format!(in alloc; "long");
@@ -38,9 +55,22 @@ pub fn answer(alloc: Global, text: &[u8]) -> Result<String, AllocError> {
             drop(typed);
             format!(in alloc; "ok")
         }
-        Err(Refusal::Broken { rule, at }) => {
-            format!(in alloc; "{}:{}:{}", number(rule), at.line, at.col)
-        }
-        Err(_) => format!(in alloc; "no tree"),
+        Err(refusal) => refused(alloc, refusal),
     }
+}
+
+/// The rows whose text, behind a prelude, is answered otherwise than they say, each behind what was answered.
+pub fn wrong_rows(alloc: Global, prelude: &str, rows: &str) -> Result<String, AllocError> {
+    let mut wrong = String::new(alloc);
+    for row in rows.lines() {
+        if let Some((expected, text)) = row.split_once(' ') {
+            let text = format!(in alloc; "{prelude}{text}")?;
+            let found = answer(alloc, text.as_bytes())?;
+            if found.as_str() != expected {
+                let note = format!(in alloc; "{found}, not {row}\n")?;
+                wrong.push_str(note.as_str())?;
+            }
+        }
+    }
+    Ok(wrong)
 }

@@ -7,4 +7,14 @@ mod answers;
 #[cfg(test)]
 mod bodies;
 #[cfg(test)]
+mod borrows;
+#[cfg(test)]
 mod items;
+#[cfg(test)]
+mod names;
+#[cfg(test)]
+mod programs;
+#[cfg(test)]
+mod types;
+#[cfg(test)]
+mod uses;
