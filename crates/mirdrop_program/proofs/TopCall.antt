@@ -47,9 +47,12 @@ module _ (words : List (List ℕ)) (left taken taken_after : Option (List ℕ)) 
       delivers owes due status
       (λ told e. answered request asked (subst (λ (t : List ℕ). length t ≤ 131072) (is told e) short) (subst (λ (t : List ℕ). Owed request t owes due) (is told e) owed))
       delivered told before e kept
-  answers_text request text status asked is short (cut_short owes due owed writes n h) told before e kept =
-      (take n due, h before kept, no_memory_for_trace owes due request asked writes (subst (λ (t : List ℕ). length t ≤ 131072) (is told e) short)
-      (subst (λ (t : List ℕ). Owed request t owes due) (is told e) owed) n)
+  answers_text request text status asked is short (cut_short owes due owed writes n h) told before e kept = (
+    take n due,
+    h before kept,
+    no_memory_for_trace owes due request asked writes (subst (λ (t : List ℕ). length t ≤ 131072) (is told e) short)
+        (subst (λ (t : List ℕ). Owed request t owes due) (is told e) owed) n,
+  )
   answers_text request text status asked is short (wanting same) told before e kept = wants_memory same told before e kept
 
 -- what a response that was delivered says of its status

@@ -49,11 +49,7 @@ fn is_of_use(refusal: &Refusal) -> bool
 }
 
 /// The answer to a text whose graph has uses that are refused.
-fn with_refusal(
-    alloc: Global,
-    lowered: &Lowered,
-    refusal: &Refusal,
-) -> Result<Answer, NoMemory>
+fn with_refusal(alloc: Global, lowered: &Lowered, refusal: &Refusal) -> Result<Answer, NoMemory>
     requires counted { IsCounted lowered.now.graph }
     requires refused { RefusesUses lowered.now refusal.now }
     ensures { IfOk result (λ answer. (text : Listed ℕ) → IsLoweredOf text lowered.now →

@@ -19,12 +19,7 @@ use use_sites::Site;
 fn put_way(out: &mut String, bad: &BadUse) -> Result<(), AllocError>
     ensures { OnOk result (string_bytes out.new ≡ string_bytes out.old ++ way_lines bad.now.answers bad.now.body bad.now.path) }
 {
-    put_way_lines(
-        out,
-        bad.answers.as_slice(),
-        bad.body,
-        bad.path.as_slice(),
-    )
+    put_way_lines(out, bad.answers.as_slice(), bad.body, bad.path.as_slice())
 }
 
 /// Puts the lines of a use of what is gone.

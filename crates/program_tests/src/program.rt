@@ -66,14 +66,24 @@ static WORDS_ROWS: [Row; 15] = [
 /// Each kind of refusal of a text, once.
 static REFUSAL_ROWS: [Row; 19] = [
     ("check", b"", 1, "refused: T01 UnknownName at 1:1\n"),
-    ("check", b"fn main() { @ }", 1, "refused: 1 BadChar at 1:13\n"),
+    (
+        "check",
+        b"fn main() { @ }",
+        1,
+        "refused: 1 BadChar at 1:13\n",
+    ),
     (
         "check",
         b"fn main() { let x = 18446744073709551616; }",
         1,
         "refused: 2 BadNumber at 1:21\n",
     ),
-    ("check", b"/* fn main() {}", 1, "refused: 3 OpenComment at 1:1\n"),
+    (
+        "check",
+        b"/* fn main() {}",
+        1,
+        "refused: 3 OpenComment at 1:1\n",
+    ),
     (
         "check",
         b"fn main() { let s = \"x; }",
@@ -225,7 +235,12 @@ fn deep_runs(rt: HostRuntime) -> Result<(), Fail> {
     let calls = outcome(alloc, "run --ticks 200000", b"fn main() { main(); }")?;
     assert_eq!(rt; calls.status, 12);
     assert_eq!(rt; calls.written.as_str().len(), 2000018);
-    assert!(rt; calls.written.as_str().ends_with("call main\nend: out of ticks\n"));
+    assert!(rt;
+        calls
+            .written
+            .as_str()
+            .ends_with("call main\nend: out of ticks\n")
+    );
     Ok(())
 }
 
