@@ -40,7 +40,7 @@ fn refused(alloc: Global, refusal: Refusal) -> Result<String, AllocError> {
         Refusal::Broken { rule, at } => {
             format!(in alloc; "{}:{}:{}", number(rule), at.line, at.col)
         }
-        Refusal::Memory => format!(in alloc; "memory"),
+        _ => format!(in alloc; "memory"),
     }
 }
 

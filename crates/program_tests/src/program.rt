@@ -136,24 +136,29 @@ static REFUSAL_ROWS: [Row; 19] = [
     ),
 ];
 
-fn try_rows(rt: &HostRuntime, rows: &[Row]) -> Result<(), Fail> {
-    let alloc = rt.alloc();
+/// The words of the first row that is answered otherwise than it says.
+fn wrong_row<'a>(alloc: Global, rows: &'a [Row]) -> Result<Option<&'a str>, Fail> {
     for (words, text, status, written) in rows {
         let outcome = outcome(alloc, words, text)?;
-        assert_eq!(rt; outcome.written.as_str(), *written, "{words}");
-        assert_eq!(rt; outcome.status, *status, "{words}");
+        if outcome.status != *status || outcome.written.as_str() != *written {
+            return Ok(Some(*words));
+        }
     }
-    Ok(())
+    Ok(None)
 }
 
 #[test]
 fn words(rt: HostRuntime) -> Result<(), Fail> {
-    try_rows(&rt, WORDS_ROWS.as_slice())
+    let wrong = wrong_row(rt.alloc(), WORDS_ROWS.as_slice())?;
+    assert_eq!(rt; wrong.unwrap_or("none"), "none");
+    Ok(())
 }
 
 #[test]
 fn refusals(rt: HostRuntime) -> Result<(), Fail> {
-    try_rows(&rt, REFUSAL_ROWS.as_slice())
+    let wrong = wrong_row(rt.alloc(), REFUSAL_ROWS.as_slice())?;
+    assert_eq!(rt; wrong.unwrap_or("none"), "none");
+    Ok(())
 }
 
 /// What is gone is used in the second turn of a loop; a part of what is gone is stored into.
