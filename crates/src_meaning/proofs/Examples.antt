@@ -3,7 +3,6 @@ pub mod Assignments
 pub mod Boxes
 pub mod Closures
 pub mod Conditions
-pub mod First
 pub mod FreeRuns
 pub mod JobQueue
 pub mod LiteralTests

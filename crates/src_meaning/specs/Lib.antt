@@ -1,5 +1,4 @@
 pub mod Evaluation
-pub mod First
 pub mod Forms
 pub mod Laws
 pub mod Locals

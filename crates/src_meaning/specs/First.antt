@@ -1,4 +1,0 @@
-pub mod Form
-pub mod Meaning
-pub mod Spelling
-pub mod Tree
