@@ -1,5 +1,5 @@
 //! `let` (The Rust Reference, "let statements").
-ghost use Rattle.std.specs.Prelude.{◌≡◌, ◌∷◌, false, true, reverse, IfErr, OnOk, Some};
+ghost use Rattle.std.specs.Prelude.{◌≡◌, ◌∷◌, ◌||◌, not, false, true, reverse, IfErr, OnOk, Some};
 ghost use Rattle.mir_base.specs.declared.rule.RuleError.{RuleError};
 ghost use Rattle.pattern_rows.specs.Expected.{expected_of};
 ghost use Rattle.src_ast.specs.Seen.{syn_of};
@@ -11,11 +11,14 @@ ghost use Rattle.typing_rules.specs.Rows as rows;
 ghost use Rattle.typing_rules.specs.Scope as scope;
 ghost use Rattle.typing_rules.specs.Scope.{with_variables};
 ghost use Rattle.typing_rules.specs.Typed as typed;
+ghost use Rattle.well_typed.specs.Places.{ty_of};
+ghost use Rattle.well_typed.specs.Types.{is_same};
+ghost use Rattle.well_typed.specs.Types as types;
 ghost use Rattle.binding_rows.specs.Rests.{KeepsTables, below_value, let_alone_rest, let_rest, let_typed, value_if};
 
 use crate::bound::{bindings, enter_bound};
 use crate::scrutinees::expected_of_last;
-use item_heads::broken;
+use item_heads::{broken, obeys};
 use mir_base::{NodeId, Pos, Rule, RuleError};
 use mir_ty::TyId;
 use name_rows::adt_named;
@@ -47,10 +50,20 @@ pub fn is_one_name(checker: &Checker, node: &Node) -> bool
     }
 }
 
+/// Whether the last node may be taken apart as a value of the type `want`: a place of type `!` has no parts.
+fn has_parts(checker: &Checker, want: TyId) -> bool
+    ensures { result ≡ (is_same (ty_of (top (stack checker.now))) want || not (types.is_never checker.now.walk.items (ty_of (top (stack checker.now))))) }
+{
+    let ty = checker.last_ty();
+    ty == want || !is_never(&checker.walk.items, ty)
+}
+
 fn place_of(checker: &mut Checker, want: TyId) -> Result<(), RuleError>
     ensures gives { Gives (rows.place_for_parts (env checker.old) (Some want) (top (stack checker.old)) (state checker.old)) result checker.new }
     ensures kept { Keeps (below (stack checker.old)) checker.old result checker.new }
 {
+    let has_parts = has_parts(checker, want);
+    obeys(Rule::T03, checker.last_at(), has_parts)?;
     match how_it_fits(
         &checker.tables.pairs,
         &checker.walk.items,

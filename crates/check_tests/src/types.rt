@@ -59,6 +59,11 @@ ok fn main() { let x: () = loop { break; }; let y = loop { if true { break 1; } 
 3:1:23 fn main() { match 1 { true => {} _ => {} } }\n\
 3:1:17 fn main() { let (a, b) = 1; }\n\
 3:1:17 fn main() { let (a, b) = panic!(); }\n\
+3:1:18 fn f(x: !) { let (a, b) = x; } fn main() {}\n\
+3:1:39 fn f(x: !) { let (a, b): (i32, i32) = x; } fn main() {}\n\
+3:1:46 fn f(x: (!, i32)) { let (a, b): (i32, i32) = x.0; } fn main() {}\n\
+ok fn f(x: !) { let a: (i32, i32) = x; } fn main() {}\n\
+ok fn main() { let (a, b): (i32, i32) = panic!(); }\n\
 ok fn main() { let x = panic!(); }\n\
 3:1:37 struct S; struct R; fn main() { let S = R; }\n\
 3:1:52 enum E { A } enum F { B } fn main() { match E::A { F::B => {} _ => {} } }\n\

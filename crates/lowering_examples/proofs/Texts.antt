@@ -1,9 +1,8 @@
 -- Texts whose typed programs are lowerable, by computation: those of the examples of typing, all of them well typed. So
--- their graphs are well formed. And the one kind of text that is accepted and is not lowerable.
-use Rattle.std.proofs.Common.{◌≡◌, Bool, true, false, List, [], ◌∷◌, ℕ, refl}
-use Rattle.std.specs.Prelude.{codes}
+-- their graphs are well formed.
+use Rattle.std.proofs.Common.{◌≡◌, Bool, true, false, List, ℕ, refl}
 use Rattle.typing_rules.proofs.Accepted as texts
-use Rattle.typing_rules.proofs.Words.{Outcome, Typed, lines, outcome, stands}
+use Rattle.typing_rules.proofs.Words.{Outcome, Typed, outcome}
 use Rattle.lowered_graphs.specs.Lowerable.{is_lowerable}
 
 abbrev gives_lowerable : Outcome → Bool
@@ -111,16 +110,3 @@ never_lowerable = refl
 
 nested_closures_lowerable : is_text_lowerable texts.nested_closures ≡ true
 nested_closures_lowerable = refl
-
--- a place of type `!` that is taken apart
-abbrev never_apart : List ℕ
-never_apart = lines (
-    codes "fn f(x: !) { let (a, b): (i32, i32) = x; }" ∷
-    codes "fn main() {}" ∷
-    [])
-
-never_apart_stands : stands never_apart ≡ true
-never_apart_stands = refl
-
-never_apart_is_not_lowerable : is_text_lowerable never_apart ≡ false
-never_apart_is_not_lowerable = refl

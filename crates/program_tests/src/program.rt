@@ -226,11 +226,18 @@ fn long_texts(rt: HostRuntime) -> Result<(), Fail> {
         assert_eq!(rt; outcome.status, status);
         assert_eq!(rt; outcome.written.as_str(), written);
     }
-    let deep = repeated(alloc, "(", 70)?;
-    let flat = repeated(alloc, ")", 70)?;
-    let text = format!(in alloc; "fn main() {{ {}1{}; }}", deep.as_str(), flat.as_str())?;
-    let outcome = outcome(alloc, "check", text.as_bytes())?;
-    assert_eq!(rt; outcome.written.as_str(), "refused: 7 TooDeep at 1:75\n");
+    for (parentheses, status, written) in [
+        (61, 0, "accepted\n"),
+        (62, 1, "refused: 7 TooDeep at 1:75\n"),
+        (70, 1, "refused: 7 TooDeep at 1:75\n"),
+    ] {
+        let deep = repeated(alloc, "(", parentheses)?;
+        let flat = repeated(alloc, ")", parentheses)?;
+        let text = format!(in alloc; "fn main() {{ {}1{}; }}", deep.as_str(), flat.as_str())?;
+        let outcome = outcome(alloc, "check", text.as_bytes())?;
+        assert_eq!(rt; outcome.status, status);
+        assert_eq!(rt; outcome.written.as_str(), written);
+    }
     Ok(())
 }
 
@@ -274,6 +281,114 @@ fn faults(rt: HostRuntime) -> Result<(), Fail> {
             status
         );
         assert_eq!(rt; sink.bytes(), written);
+    }
+    Ok(())
+}
+
+/// Two locals with a destructor each, and what a run of it writes.
+const LOCALS: &[u8] = b"struct D(i32);\nimpl Drop for D { fn drop(&mut self) {} }\nfn take(x: D) {}\nfn main() { let a = D(1); let b = D(2); }";
+
+const DROPPED: &str = "call main\nmake D#1\nmake D#2\ndrop D#2\nreturn D::drop\ndrop D#1\nreturn D::drop\nreturn main\nend: returned\n";
+
+/// Each of the nine reads of 115 bytes in pieces of 16 fails in turn; the tenth is never made.
+#[test]
+fn each_read_fails(rt: HostRuntime) -> Result<(), Fail> {
+    let alloc = rt.alloc();
+    let words = words_of(alloc, "run")?;
+    for read in 0..10_u32 {
+        let bytes = List::from_vec(LOCALS.to_vec(alloc)?);
+        let mut source = MemSource::new(bytes, 16, List::from_vec([read].to_vec(alloc)?));
+        let mut sink = MemSink::new(alloc, 1024, List::new(alloc));
+        sink.reserve(1024)?;
+        let status = mirdrop(alloc, words.as_slice(), &mut source, &mut sink);
+        let (wanted, written) = if read < 9 { (3, "fault: read\n") } else { (0, DROPPED) };
+        assert_eq!(rt; status, wanted);
+        assert_eq!(rt; sink.bytes(), written.as_bytes());
+    }
+    Ok(())
+}
+
+/// Each of the 102 writes of one byte fails in turn: the sink holds the bytes before it.
+#[test]
+fn each_write_fails(rt: HostRuntime) -> Result<(), Fail> {
+    let alloc = rt.alloc();
+    let words = words_of(alloc, "run")?;
+    for write in 0..103_u32 {
+        let bytes = List::from_vec(LOCALS.to_vec(alloc)?);
+        let mut source = MemSource::new(bytes, 4096, List::new(alloc));
+        let mut sink = MemSink::new(alloc, 1, List::from_vec([write].to_vec(alloc)?));
+        sink.reserve(1024)?;
+        let status = mirdrop(alloc, words.as_slice(), &mut source, &mut sink);
+        assert_eq!(rt; status, if write < 102 { 4 } else { 0 });
+        assert_eq!(rt; sink.bytes().len(), write as usize);
+        assert!(rt; DROPPED.as_bytes().starts_with(sink.bytes()));
+    }
+    Ok(())
+}
+
+/// No text that is cut short before its last byte stands.
+#[test]
+fn each_prefix_is_refused(rt: HostRuntime) -> Result<(), Fail> {
+    let alloc = rt.alloc();
+    for length in 0..116_usize {
+        let outcome = outcome(alloc, "check", &LOCALS[..length])?;
+        assert_eq!(rt; outcome.status, if length < 115 { 1 } else { 0 });
+    }
+    Ok(())
+}
+
+const LISTING: &str = "\
+mirdrop 1
+struct D (i32) drop 0
+body 0 D::drop 1
+local 0 ()
+local 1 &mut D
+block 0 plain rank 0
+_0 = const ()
+return
+body 1 main 0
+local 0 ()
+local 1 D
+block 0 plain rank 1
+_1 = make D 0 (const 7_i32)
+drop _1 then 1 unwind resume
+block 1 plain rank 0
+_0 = const ()
+return
+end
+";
+
+/// The number of a line, what stands there instead, and what is written.
+static DAMAGED_ROWS: [(usize, &str, &str); 7] = [
+    (1, "mirdrop 2", "refused: 8 BadListing at line 1\n"),
+    (13, "_1 = make D 0 (const 07_i32)", "refused: 8 BadListing at line 13\n"),
+    (13, "_1 = make D 0 (const 7_u32)", "refused: 9 G3 at line 13\n"),
+    (14, "drop _1 then 7 unwind resume", "refused: 9 G1 at line 14\n"),
+    (14, "drop _9 then 1 unwind resume", "refused: 9 G2 at line 14\n"),
+    (14, "drop _1 then 1 unwind 1", "refused: 9 G5 at line 14\n"),
+    (9, "body 1 maine 0", "refused: 9 G1 at line 18\n"),
+];
+
+/// A text with another line in the place of one of its lines, counted from 1.
+fn with_line(alloc: Global, text: &str, number: usize, line: &str) -> Result<String, AllocError> {
+    let mut all = String::new(alloc);
+    let mut at = 0_usize;
+    for was in text.lines() {
+        at += 1;
+        all.push_str(if at == number { line } else { was })?;
+        all.push_str("\n")?;
+    }
+    Ok(all)
+}
+
+#[test]
+fn damaged_listings(rt: HostRuntime) -> Result<(), Fail> {
+    let alloc = rt.alloc();
+    for (number, line, written) in &DAMAGED_ROWS {
+        let text = with_line(alloc, LISTING, *number, line)?;
+        let outcome = outcome(alloc, "exec", text.as_bytes())?;
+        assert_eq!(rt; outcome.status, 1);
+        assert_eq!(rt; outcome.written.as_str(), *written);
     }
     Ok(())
 }

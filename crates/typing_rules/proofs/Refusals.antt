@@ -393,6 +393,13 @@ t03_12 = refl
 t03_12_stands : stands (codes "fn main() { let x: i64 = -1; }") ≡ true
 t03_12_stands = refl
 
+t03_apart : outcome (codes "fn f(x: !) { let (a, b): (i32, i32) = x; } fn main() {}")
+    ≡ Refused Rule.T03 (place 1 39)
+t03_apart = refl
+
+t03_apart_stands : stands (codes "fn f(x: !) { let a: (i32, i32) = x; } fn main() {}") ≡ true
+t03_apart_stands = refl
+
 t03_13 : outcome (codes "fn main() { let x = true && 1; }")
     ≡ Refused Rule.T03 (place 1 21)
 t03_13 = refl

@@ -11,7 +11,7 @@ use Rattle.well_typed.specs.Claim.{Claim, Holds}
 use Rattle.well_typed.specs.Nodes.{is_drop_body, typed, statements, ends_in, arm, is_one_name}
 use Rattle.well_typed.specs.Patterns.{Matched, count_of}
 use Rattle.well_typed.specs.Places.{Context, ty_of, form_of, is_place, Wanted, Passed}
-use Rattle.well_typed.specs.Types.{closure_in, reference_in, is_reference, reference_of, has_fields, inside_in}
+use Rattle.well_typed.specs.Types.{is_same, closure_in, reference_in, is_reference, reference_of, has_fields, inside_in}
 use Rattle.typing_rules.specs.Check.{Check, State}
 use Rattle.typing_rules.specs.Places.{bool, Member, agrees}
 use Rattle.typing_rules.specs.Promises.{IsReady, IsAlone, IsKnown, Gives, Spot, at_spot, Stands, Knows, IsValue, IsBase, Grows, IsPattern}
@@ -184,11 +184,17 @@ FindsMethods named = (s : State) (own : TyId) (m : Method) → named s.items own
     IsPlainType
     s.items own
 
--- what a `let` is given: one name takes a value, another pattern takes a place or a temporary apart
+abbrev pub agrees_same : Option TyId → TyId → Bool
+agrees_same None ty = true
+agrees_same (Some want) ty = is_same ty want
+
+-- what a `let` is given: one name takes a value, another pattern takes a place or a temporary apart. A place is of the
+-- very type that is asked for, where a temporary may be of type `!`
 pub record IsInParts (env : Env) (want : Option TyId) (w : State) (n : Node) : Type 0 where
   pub base : IsBase env w n
   pub fit : IsTrue (agrees w.items want (ty_of n))
   pub no_reference : IsTrue (not (is_reference w.items (ty_of n)))
+  pub own : IsTrue (not (is_place (form_of n)) || agrees_same want (ty_of n))
 
 abbrev pub IsInitialiser : Env → Bool → Option TyId → State → MaybeNode → Type 0
 IsInitialiser env is_one_name want w absent = Unit {0}

@@ -706,7 +706,7 @@ return_row at answer value want = do
 -- ---- statements
 
 -- the initialiser of a pattern with parts: a place that is taken apart where it stands, unless it is coerced; or a
--- value
+-- value. A place of type `!` has no parts to be taken
 abbrev pub as_part : Env → Option TyId → Node → Fit → Check Node
 as_part env want place Fits = no_reference place
 as_part env want place how = taken env want place
@@ -715,6 +715,7 @@ abbrev pub place_for_parts : Env → Option TyId → Node → Check Node
 place_for_parts env None place = no_reference place
 place_for_parts env (Some want) place = do
   items ← the_items
+  obeys Rule.T03 (place_in_text place) (is_same (ty_of place) want || not (is_never items (ty_of place)))
   as_part env (Some want) place (fit items want (ty_of place))
 
 abbrev pub let_ty : Option TyId → MaybeNode → Option TyId

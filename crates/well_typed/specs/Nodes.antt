@@ -122,7 +122,8 @@ abbrev pub of_scrutinee : Context → Node → Node → Claim
 of_scrutinee c p scrutinee =
     fact (are_distinct (names_of p)) & pattern c.items (matched_in false c scrutinee) (ty_of scrutinee) p
 
--- One name takes the value of the initialiser. Another pattern takes its place apart, or a temporary.
+-- One name takes the value of the initialiser. Another pattern takes its place apart, or a temporary; a place that is
+-- taken apart is of the pattern's own type, so none of type `!` is.
 abbrev pub as_initialiser : Node → Standing
 as_initialiser p = if is_one_name p then Wanted (ty_of p) else Base
 
@@ -133,7 +134,8 @@ abbrev pub of_let : Context → Node → Node → Claim
 of_let c p value =
     fact (are_distinct (names_of p)) &
     pattern c.items (if is_one_name p then whole else matched_in true c value) (ty_of p) p &
-    fact (fits c.items (ty_of p) (ty_of value) && not (is_reference c.items (ty_of value)))
+    fact (fits c.items (ty_of p) (ty_of value) && not (is_reference c.items (ty_of value))) &
+    fact (is_one_name p || (not (is_place (form_of value)) || is_same (ty_of value) (ty_of p)))
 
 abbrev mutual
   -- a node as it stands

@@ -12,17 +12,17 @@ use Rattle.well_typed.specs.Nodes as well
 use Rattle.well_typed.specs.Nodes.{typed, statements, statement, is_one_name, ends_in}
 use Rattle.well_typed.specs.Patterns.{Matched, pattern}
 use Rattle.well_typed.specs.Places.{Context, ty_of, with_entries, Base, Wanted, form_of, is_place}
-use Rattle.well_typed.specs.Types.{fits, is_never_ty, is_unit, is_dyn, is_reference}
+use Rattle.well_typed.specs.Types.{is_same, fits, is_never, is_never_ty, is_unit, is_dyn, is_reference}
 use Rattle.well_typed.proofs.ClaimLemmas.{and_true}
 use Rattle.typing_rules.specs.Check.{Check, State, Broken, and_then, obeys, pure, ◌>>=◌}
 use Rattle.typing_rules.specs.Places.{unit, agrees, Fit, Fits, Coerced, Differs, fit, used, is_fixed, in_own_guard, place_in_text}
 use Rattle.typing_rules.specs.Promises.{Gives, Knows, IsReady, IsAlone, Grows, Spot, at_spot, Stands, are_bound, IsPattern, Then, IsValue}
-use Rattle.typing_rules.specs.RowPromises.{IsStatement, IsInitialiser, SoundInitialiser, SoundDeclared, SoundPattern, IsPlace, IsInParts}
+use Rattle.typing_rules.specs.RowPromises.{IsStatement, IsInitialiser, SoundInitialiser, SoundDeclared, SoundPattern, IsPlace, IsInParts, agrees_same}
 use Rattle.typing_rules.specs.Rows as rules
 use Rattle.typing_rules.specs.Rows.{Matcher, Expected, expected, let_row, let_ty, of_value, ends_by, fitted_by, taking, taken, as_part, place_for_parts}
 use Rattle.typing_rules.specs.Scope.{Env, Entry, with_variables}
 use Rattle.typing_rules.proofs.Sound.Branches.{unit_is}
-use Rattle.typing_rules.proofs.Sound.Fitted.{fits_self, FitOf, it_fits, is_coerced, differs, how_fits}
+use Rattle.typing_rules.proofs.Sound.Fitted.{fits_self, same_self, or_left, or_right, FitOf, it_fits, is_coerced, differs, how_fits}
 use Rattle.typing_rules.proofs.Sound.Gives.{grows_number, ◌⋆◌, bind, given, found, after_number, numbered, grows_trans, grows_refl, knows_later, knows_number, obeyed}
 use Rattle.typing_rules.proofs.Sound.Later.{alone_ready, alone_no_reference, same_is, same_reference, agrees_later}
 use Rattle.typing_rules.proofs.Sound.Operators.{same_id, as_wanted}
@@ -65,6 +65,20 @@ value_fits items (Some u) n ty h fit_ = subst (λ x. IsTrue (fits items x (ty_of
 value_fits items None n ty h fit_ =
     subst (λ x. IsTrue (fits items x (ty_of n))) (same_Some (ty_of n) ty h) (fits_self items (ty_of n))
 
+-- a place that is taken apart is of the pattern's type
+is_its_own : (declared : Option TyId) (n : Node) (ty u : TyId) → let_ty declared (present n) ≡ Some ty → ty ≡ u →
+    IsTrue (not (is_place (form_of n)) || agrees_same declared (ty_of n)) →
+    IsTrue (not (is_place (form_of n)) || is_same (ty_of n) u)
+is_its_own (Some t) n ty u h same own =
+    subst (λ x. IsTrue (not (is_place (form_of n)) || is_same (ty_of n) x)) (same_Some t ty h ∙ same) own
+is_its_own None n ty u h same own =
+    subst (λ x. IsTrue (not (is_place (form_of n)) || is_same (ty_of n) x)) (same_Some (ty_of n) ty h ∙ same)
+    (either (not (is_place (form_of n))))
+  where
+    either : (b : Bool) → IsTrue (b || is_same (ty_of n) (ty_of n))
+    either true = refl
+    either false = same_self (ty_of n).0
+
 -- what a statement is, apart from what is behind it
 let_holds : (env : Env) (one : Bool) (declared : Option TyId) (t w : State) (v : MaybeNode) (ty : TyId) (n : ℕ) (b :
     Node × List
@@ -86,7 +100,8 @@ let_holds env true declared t w (present m) ty n b g is_ty now later is is_one p
     subst (λ x. Holds (pattern w.items (if x then well.whole else well.matched_in true c m) (ty_of b.0) b.0)) (sym
     is_one)
     (subst (λ x. Holds (pattern w.items well.whole x b.0)) same holds) ⋆
-    and_true (fits w.items (ty_of b.0) (ty_of m)) _ fit_ (alone_no_reference w.items (ty_of m) later.alone)
+    and_true (fits w.items (ty_of b.0) (ty_of m)) _ fit_ (alone_no_reference w.items (ty_of m) later.alone) ⋆
+    or_left (is_one_name b.0) _ is_one
 let_holds env false declared t w (present m) ty n b g is_ty now later is is_one p stands =
     let c = at_spot w.items env.answer p in
     let place = well.matched_in true c m in
@@ -99,7 +114,8 @@ let_holds env false declared t w (present m) ty n b g is_ty now later is is_one 
     subst (λ x. Holds (pattern w.items (if x then well.whole else place) (ty_of b.0) b.0)) (sym is_one) (subst (λ x.
     Holds
     (pattern w.items place x b.0)) same holds) ⋆
-    and_true (fits w.items (ty_of b.0) (ty_of m)) _ fit_ later.no_reference
+    and_true (fits w.items (ty_of b.0) (ty_of m)) _ fit_ later.no_reference ⋆
+    or_right (is_one_name b.0) _ (is_its_own declared m ty (ty_of b.0) is_ty same later.own)
 
 value_ready : (env : Env) (one : Bool) (declared : Option TyId) (t : State) (n : Node) → IsInitialiser env one
     declared t
@@ -187,6 +203,14 @@ taken_unplaced env want n s no_fit =
     on (Ok a) h = rules_on a.0 a.1 h _ _
     on (Err e) h = tt
 
+pub no_place_own : (want : Option TyId) (n : Node) → is_place (form_of n) ≡ false → IsTrue (not (is_place (form_of n))
+    || agrees_same want (ty_of n))
+no_place_own want n no_place = by (is_place (form_of n)) no_place
+  where
+    by : (b : Bool) → b ≡ false → IsTrue (not b || agrees_same want (ty_of n))
+    by true e = absurd (false≢true (sym e))
+    by false e = refl
+
 -- a value that is no place may be taken apart as a temporary
 parts_of_value : (env : Env) (want : Option TyId) (w : State) (n : Node) → IsValue env want w n → is_place (form_of n)
     ≡ false →
@@ -196,6 +220,7 @@ parts_of_value env want w n value no_place =
       base = temporary_base env want w n (record { value = value; is_no_place = no_place });
       fit = value.fit;
       no_reference = alone_no_reference w.items (ty_of n) value.alone;
+      own = no_place_own want n no_place;
     }
 
 both_parts : (env : Env) (want : Option TyId) (t : State) (r : Result (Node × State) Broken) → Gives t (IsValue env
@@ -215,9 +240,17 @@ in_parts_sound env None n t now later =
       base = (later w g).base;
       fit = refl;
       no_reference = subst (λ b. IsTrue (not b)) (sym (same_reference g.items (ty_of n) now.base.ready)) plain;
+      own = or_right (not (is_place (form_of n))) true refl;
     }
-in_parts_sound env (Some want) n t now later = by (fit t.items want (ty_of n)) refl (how_fits t.items want (ty_of n))
+in_parts_sound env (Some want) n t now later =
+    obeyed Rule.T03 (place_in_text n) (is_same (ty_of n) want || not (is_never t.items (ty_of n))) _ λ parts. by parts
+    (fit t.items want (ty_of n)) refl (how_fits t.items want (ty_of n))
   where
+    is_same_ty : (a b : Bool) → IsTrue (a || not b) → IsTrue (a || b) → IsTrue a
+    is_same_ty true b h k = refl
+    is_same_ty false true h k = h
+    is_same_ty false false h k = k
+
     apart : (how : Fit) → fit t.items want (ty_of n) ≡ how → (how ≡ Fits → ⊥) → Gives t (IsInParts env (Some want))
         (taken env
         (Some want) n t)
@@ -230,17 +263,19 @@ in_parts_sound env (Some want) n t now later = by (fit t.items want (ty_of n)) r
     is_fit Fits = true
     is_fit _ = false
 
-    by : (how : Fit) → fit t.items want (ty_of n) ≡ how → FitOf t.items want (ty_of n) how → Gives t (IsInParts env
-        (Some want))
-        (as_part env (Some want) n how t)
-    by _ e (it_fits f) =
+    by : IsTrue (is_same (ty_of n) want || not (is_never t.items (ty_of n))) → (how : Fit) → fit t.items want (ty_of
+        n) ≡ how → FitOf t.items want (ty_of n) how → Gives t (IsInParts env (Some want)) (as_part env (Some want) n
+        how t)
+    by parts _ e (it_fits f) =
         obeyed Rule.T08 (place_in_text n) (not (is_reference t.items (ty_of n))) _ λ plain.
         given n λ ready w g.
         record {
           base = (later w g).base;
           fit = agrees_later g.items (Some want) (ty_of n) f;
           no_reference = subst (λ b. IsTrue (not b)) (sym (same_reference g.items (ty_of n) now.base.ready)) plain;
+          own = or_right (not (is_place (form_of n))) _ (is_same_ty (is_same (ty_of n) want) (is_never t.items (ty_of
+            n)) parts f);
         }
-    by (Coerced trait_no) e (is_coerced adt to from has) =
+    by parts (Coerced trait_no) e (is_coerced adt to from has) =
         apart (Coerced trait_no) e (λ f. false≢true (ap is_fit f))
-    by Differs e differs = apart Differs e (λ f. false≢true (ap is_fit f))
+    by parts Differs e differs = apart Differs e (λ f. false≢true (ap is_fit f))

@@ -97,6 +97,9 @@ module _ (f : ℕ → ℕ) where
   place_on (Deref base) = refl
   place_on _ = refl
 
+  place_of_on : (n : Node) → is_place (form_of (renumbered f n)) ≡ is_place (form_of n)
+  place_of_on (node id at ty by form) = place_on form
+
   borrow_on : (form : Form) → is_borrow (form_renumbered f form) ≡ is_borrow form
   borrow_on (Borrow unique base) = refl
   borrow_on _ = refl
@@ -791,6 +794,7 @@ module _ (f : ℕ → ℕ) where
           place_pattern c.items (if is_one_name p then whole else matched_in true c value) _ (ty_of p) _ p (if_same
           (is_one_name p) _ (matched_in true c value) _ whole (one_on p) (matched_same true c in_ (well.as_initialiser
           p) value h.0)) (ty_on p) h.1.1.0 ⋆ subst Holds (λ i. fact (fits c.items (sym (ty_on p) i) (sym (ty_on value)
-          i) && not (is_reference c.items (sym (ty_on value) i)))) h.1.1.1
+          i) && not (is_reference c.items (sym (ty_on value) i)))) h.1.1.1.0 ⋆ subst Holds (λ i. fact (sym (one_on p) i ||
+          (not (sym (place_of_on value) i) || is_same (sym (ty_on value) i) (sym (ty_on p) i)))) h.1.1.1.1
       statement_on c in_ (Evaluate expression) w h = typed_on c in_ Taken expression w h
       statement_on c in_ _ w h = absurd (let no_ : IsTrue false = h in cc)

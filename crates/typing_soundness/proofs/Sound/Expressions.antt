@@ -41,7 +41,7 @@ use Rattle.typing_rules.proofs.Sound.Fitted.{fits_self}
 use Rattle.typing_rules.proofs.Sound.Gives.{bind, weaker, obeyed, found, given, gives_nothing, knows_later, grows_refl, grows_trans}
 use Rattle.typing_rules.proofs.Sound.Jumps.{continue_sound, return_sound, break_sound, while_sound}
 use Rattle.typing_rules.proofs.Sound.Later.{is_some_got, ready_later, alone_later, alone_no_reference, known_later, some_got, same_known}
-use Rattle.typing_rules.proofs.Sound.Lets.{let_sound, in_parts_sound}
+use Rattle.typing_rules.proofs.Sound.Lets.{let_sound, in_parts_sound, no_place_own}
 use Rattle.typing_rules.proofs.Sound.Literals.{literal_sound}
 use Rattle.typing_rules.proofs.Sound.Matching.{if_let_alone_sound, if_let_else_sound, while_let_sound, arm_sound, match_sound}
 use Rattle.typing_rules.proofs.Sound.Methods.{methods_found, method_sound, closure_call_sound}
@@ -492,6 +492,7 @@ module _ (closures : (env : Env) (at : Pos) (captures params : Syns) (answer : M
           base = temporary_base env want w n v;
           fit = v.value.fit;
           no_reference = alone_no_reference w.items (ty_of n) v.value.alone;
+          own = no_place_own want n v.is_no_place;
         })
 
     args_sound : (env : Env) (args : Syns) → Holds (all_shaped args) → (params : List TyId) (s : State) → Knows env s →

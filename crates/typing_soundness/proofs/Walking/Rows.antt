@@ -528,7 +528,9 @@ return_walks at answer value good want s =
 pub in_parts_walks : {f : Tape} (env : Env) (want : Option TyId) (n : Node) {s t : State} → Walks f s t (nodes_of n) →
     Walked (λ m u. Walks f s u (nodes_of m)) (rows.place_for_parts env want n t)
 in_parts_walks env None n {t = t} w = walk_obeyed Rule.T08 (place_in_text n) (not (is_reference t.items (ty_of n))) _ λ _. walk_ends w
-in_parts_walks {f} env (Some want) n {s} {t} w = by (fit t.items want (ty_of n))
+in_parts_walks {f} env (Some want) n {s} {t} w =
+    walk_obeyed Rule.T03 (place_in_text n) (is_same (ty_of n) want || not (is_never t.items (ty_of n))) _ λ _. by (fit
+    t.items want (ty_of n))
   where
     by : (how : Fit) → Walked (λ m u. Walks f s u (nodes_of m)) (rows.as_part env (Some want) n how t)
     by Fits = walk_obeyed Rule.T08 (place_in_text n) (not (is_reference t.items (ty_of n))) _ λ _. walk_ends w
