@@ -60,6 +60,23 @@ IsAlone items id = (ty : Ty) × (type_at items id ≡ Some ty) × IsValueType it
 abbrev pub IsKnown : ItemTable → TyId → Type 0
 IsKnown items id = (ty : Ty) × (type_at items id ≡ Some ty)
 
+-- the types that a tuple or an array is made of
+abbrev pub made_of : Ty → List TyId
+made_of (Ty.Tuple parts) = parts
+made_of (Ty.Array element count) = element ∷ []
+made_of _ = []
+
+-- A closure comes after what it captures: so many types were there before it, those of its captures among them, and the
+-- closures that its captures or those types are made of have lower numbers.
+pub record ComesAfter (types : List Ty) (k : ℕ) (def : ClosureDef) : Type 0 where
+  pub before : ℕ
+  pub within : before ≤ length types
+  pub captures : (part : TyId) → Contains def.captures part → suc part.0 ≤ before
+  pub captured : (part : TyId) (j : ℕ) → Contains def.captures part → slice_get types part.0 ≡ Some (Ty.Closure j) → suc
+      j ≤ k
+  pub lower : (n j : ℕ) (ty : Ty) (part : TyId) → suc n ≤ before → slice_get types n ≡ Some ty → Contains (made_of ty)
+      part → slice_get types part.0 ≡ Some (Ty.Closure j) → suc j ≤ k
+
 -- the table begins with the types that have fixed numbers, and what it says of types and heads is ready
 pub record AreReady (items : ItemTable) : Type 0 where
   pub begins : (n : ℕ) (ty : Ty) → slice_get scalars n ≡ Some ty → slice_get items.types n ≡ Some ty
@@ -78,6 +95,9 @@ pub record AreReady (items : ItemTable) : Type 0 where
       IsKnown items ty
   pub method_params : (n k : ℕ) (def : TraitDef) (sig : Sig) (ty : TyId) → slice_get items.traits n ≡ Some def →
       slice_get def.methods k ≡ Some sig → Contains sig.params ty → IsKnown items ty
+  pub order : (n : ℕ) (ty : Ty) (part : TyId) → slice_get items.types n ≡ Some ty → Contains (made_of ty) part → suc
+      part.0 ≤ n
+  pub after : (k : ℕ) (def : ClosureDef) → slice_get items.closures k ≡ Some def → ComesAfter items.types k def
 
 -- the head of a closure's body begins with the closure
 abbrev pub AreClosures : ItemTable → Type 0

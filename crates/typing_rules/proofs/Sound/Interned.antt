@@ -1,11 +1,13 @@
 -- Types that get a number.
-use Rattle.std.proofs.Common.{◌≡◌, ℕ, zero, suc, ◌+◌, ◌<◌, Bool, true, false, ◌==◌, not, if◌then◌else◌, List, [], ◌∷◌, ◌++◌, length, slice_get, Option, Some, None, IsTrue, Contains, ◌⊎◌, inl, inr, refl, ap, sym, subst, ◌∙◌, arith, nat_lt}
+use Rattle.std.proofs.Common.{◌≡◌, ℕ, zero, suc, ◌+◌, ◌<◌, ◌≤◌, Bool, true, false, ◌==◌, not, if◌then◌else◌, List, [], ◌∷◌, ◌++◌, length, slice_get, Option, Some, None, IsTrue, Contains, ◌⊎◌, inl, inr, refl, ap, sym, subst, ◌∙◌, arith, nat_lt}
 use Rattle.std.specs.Prelude.{option_and_then}
 use Rattle.std.specs.List.{position as position_of, position_or_len}
 use Rattle.std.proofs.lemmas.Bool.{eqb-true, false≢true, lt-ltb}
 use Rattle.std.proofs.lemmas.List.Quantifiers.{position-Some}
-use Rattle.std.proofs.lemmas.Option.{none-some, same_Some, slice_get-get_or}
+use Rattle.std.proofs.lemmas.List.{length-append}
+use Rattle.std.proofs.lemmas.Option.{none-some, same_Some, slice_get-get_or, slice_get_within}
 use Rattle.mir_base.specs.declared.int_kind.IntKind.{IntKind}
+use Rattle.mir_ty.specs.declared.def.ClosureDef.{ClosureDef}
 use Rattle.mir_ty.specs.declared.ty.Ty.{Ty}
 use Rattle.mir_ty.specs.declared.ty.TyId.{TyId}
 use Rattle.mir_ty.specs.ItemTable.{ItemTable, type_at, with_type}
@@ -16,7 +18,7 @@ use Rattle.well_typed.specs.Types.{is_same, are_same, inside_in, is_reference}
 use Rattle.well_typed.proofs.ClaimLemmas.{true_left, true_right}
 use Rattle.well_typed.proofs.ItemLemmas.{equal_self}
 use Rattle.typing_rules.specs.Check.{State, interned, interned_at, ty_no}
-use Rattle.typing_rules.specs.Promises.{Extends, IsReady, IsAlone, AreReady, Gives}
+use Rattle.typing_rules.specs.Promises.{Extends, IsReady, IsAlone, AreReady, Gives, made_of, ComesAfter}
 use Rattle.typing_rules.specs.RowPromises.{IsMade}
 use Rattle.typing_rules.proofs.Sound.Gives.{given}
 use Rattle.typing_rules.proofs.Sound.Later.{some_got, type_later, ready_later, alone_later, known_later, same_reference}
@@ -96,6 +98,12 @@ not_there ty tys h k is = some_below (is_equal ty) tys (below_if (is_equal ty) t
 
 -- ---- one more type
 
+-- what a type is made of is held
+pub made_held : (items : ItemTable) (ty : Ty) (part : TyId) → Contains (made_of ty) part → Contains (held_by items ty) part
+made_held items (Ty.Tuple parts) part has = has
+made_held items (Ty.Array element count) part has = has
+made_held items _ part has = absurd (omega (arith, has.1))
+
 module _ (items : ItemTable) (ty : Ty) where
   more_types : Extends items (with_type items ty)
   more_types =
@@ -153,6 +161,35 @@ module _ (items : ItemTable) (ty : Ty) where
     two : (n : ℕ) (t : Ty) → slice_get (items.types ++ ty ∷ []) n ≡ Some t → Two n t
     two n t h = slice_get-push_cases items.types ty n t h
 
+    order_more : (n : ℕ) (t : Ty) (part : TyId) → Two n t → Contains (made_of t) part → suc part.0 ≤ n
+    order_more n t part (inl is) has = all.order n t part is has
+    order_more n t part (inr new_) has =
+        let alone = made.held part (made_held items ty part (subst (λ u. Contains (made_of u) part) (sym new_.1) has)) in
+        let below = slice_get_within items.types part.0 alone.0 alone.1 in
+        let last = new_.0 in
+        omega (arith, below, last)
+
+    -- a type that is not the last one
+    was_there : (n : ℕ) (t : Ty) → suc n ≤ length items.types → Two n t → slice_get items.types n ≡ Some t
+    was_there n t below (inl is) = is
+    was_there n t below (inr new_) = let last = new_.0 in absurd (omega (arith, below, last))
+
+    after_more : (k : ℕ) (def : ClosureDef) → ComesAfter items.types k def → ComesAfter (items.types ++ ty ∷ []) k def
+    after_more k def h = record {
+      before = h.before;
+      within = let a = h.within in let b = length-append items.types (ty ∷ []) in omega (arith, a, b);
+      captures = h.captures;
+      captured = λ part j has at.
+          let a = h.within in let b = h.captures part has in
+          h.captured part j has (was_there part.0 (Ty.Closure j) (omega (arith, a, b)) (two part.0 (Ty.Closure j) at));
+      lower = λ n j t part below is has at.
+          let a = h.within in
+          let was = was_there n t (omega (arith, a, below)) (two n t is) in
+          let b = all.order n t part was has in
+          h.lower n j t part below was has (was_there part.0 (Ty.Closure j) (omega (arith, a, b, below)) (two part.0
+          (Ty.Closure j) at));
+    }
+
     ready_more : ((k : ℕ) → slice_get items.types k ≡ Some ty → ⊥) → AreReady (with_type items ty)
     ready_more absent =
         record {
@@ -177,6 +214,8 @@ module _ (items : ItemTable) (ty : Ty) where
           methods = λ n k def sig h g. alone_later more_types sig.result (all.methods n k def sig h g);
           params = λ n sig t h has. known_later more_types t (all.params n sig t h has);
           method_params = λ n k def sig t h g has. known_later more_types t (all.method_params n k def sig t h g has);
+          order = λ n t part at has. order_more n t part (two n t at) has;
+          after = λ k def at. after_more k def (all.after k def at);
         }
 
 pub interned_sound : (ty : Ty) (s : State) → IsMade s.items ty → Gives s (λ w id. type_at w.items id ≡ Some ty)

@@ -1,10 +1,10 @@
 -- Closures: what they capture, and their bodies.
-use Rattle.std.proofs.Common.{◌≡◌, ℕ, suc, ◌+◌, Bool, true, false, ◌||◌, ◌==◌, not, nat_le, if◌then◌else◌, List, [], ◌∷◌, ◌++◌, map, length, slice_get, Option, Some, None, Result, Ok, Err, IsTrue, Contains, ◌⊎◌, inl, inr, refl, ap, sym, subst, ◌∙◌, arith}
+use Rattle.std.proofs.Common.{◌≡◌, ℕ, suc, ◌+◌, ◌≤◌, Bool, true, false, ◌||◌, ◌==◌, not, nat_le, if◌then◌else◌, List, [], ◌∷◌, ◌++◌, map, length, slice_get, Option, Some, None, Result, Ok, Err, IsTrue, Contains, ◌⊎◌, inl, inr, refl, ap, sym, subst, ◌∙◌, arith}
 use Rattle.std.specs.Prelude.{option_and_then}
 use Rattle.std.specs.Option.{option_map_or}
 use Rattle.std.specs.Str.{bytes_eq}
 use Rattle.std.proofs.lemmas.List.{append_assoc, append-nil}
-use Rattle.std.proofs.lemmas.Option.{none-some}
+use Rattle.std.proofs.lemmas.Option.{none-some, same_Some, slice_get_within}
 use Rattle.mir_base.specs.declared.place_in_text.Pos.{Pos}
 use Rattle.mir_base.specs.declared.rule.Rule.{Rule}
 use Rattle.mir_ty.specs.declared.def.ClosureDef.{ClosureDef}
@@ -26,7 +26,7 @@ use Rattle.typing_rules.specs.Check.{State, Broken, pure, closure_added}
 use Rattle.well_typed.proofs.ClaimLemmas.{and_true}
 use Rattle.typing_rules.specs.Numbered.{param_renumbered}
 use Rattle.typing_rules.specs.Places.{a_node_of, used, meaning_form, is_fixed, in_own_guard}
-use Rattle.typing_rules.specs.Promises.{Extends, IsReady, IsAlone, AreReady, AreClosures, IsBelow, Grows, Gives, Spot, at_spot, Stands, Means, Knows, KnowsItems, IsValue, Sound, SoundTemporary, IsTemporary}
+use Rattle.typing_rules.specs.Promises.{Extends, IsReady, IsAlone, AreReady, AreClosures, IsBelow, Grows, Gives, Spot, at_spot, Stands, Means, Knows, KnowsItems, IsValue, IsValueType, Sound, SoundTemporary, IsTemporary, ComesAfter}
 use Rattle.typing_rules.specs.RowPromises.{IsMade}
 use Rattle.typing_rules.specs.Rows.{taken, taking}
 use Rattle.typing_rules.specs.Scope.{Env, Entry, Meaning, Local, Capture, InGuard, variable}
@@ -35,8 +35,8 @@ use Rattle.typing_rules.specs.Written as types
 use Rattle.src_ast.specs.Syntax.{Word, Syn, syn, Ident, Syns, no_syn, a_syn, MaybeSyn}
 use Rattle.typing_rules.proofs.Sound.Fitted.{leaf_ends, same_self}
 use Rattle.typing_rules.proofs.Sound.Gives.{◌⋆◌, then_map, bind, weaker, with_ready, obeyed, found, given, after_number, numbered, grows_refl, grows_trans, grows_number, knows_later, items_later}
-use Rattle.typing_rules.proofs.Sound.Interned.{interned_sound}
-use Rattle.typing_rules.proofs.Sound.Later.{extends_refl, some_got, alone_later, alone_ready, known_later, ready_later, type_later, is_some_by}
+use Rattle.typing_rules.proofs.Sound.Interned.{interned_sound, made_held}
+use Rattle.typing_rules.proofs.Sound.Later.{extends_refl, some_got, alone_later, alone_ready, known_later, ready_later, type_later, is_some_by, is_some_got}
 use Rattle.typing_rules.proofs.Sound.Places.{variable_sound, taken_sound, contains_cases}
 use Rattle.typing_rules.proofs.Sound.Scopes.{joined_cases, knows_bound}
 use Rattle.typing_soundness.specs.Shapes.{is_block, self_first}
@@ -225,6 +225,37 @@ module _ (items : ItemTable) (captures : List TyId) (body : ℕ) where
     parts_more id part variant n ty =
         λ at h. all.parts id part variant n (ap (option_and_then (λ t. slice_get (parts_of items t variant) n)) at ∙ h)
 
+    -- a closure among types that are there has a lower number
+    is_lower : (part : TyId) (j : ℕ) → IsAlone items part → type_at items part ≡ Some (Ty.Closure j) → suc j ≤ length
+        items.closures
+    is_lower part j h at = there h.0 (same_Some h.0 (Ty.Closure j) (sym h.1 ∙ at)) h.2
+      where
+        there : (ty : Ty) → ty ≡ Ty.Closure j → IsValueType items ty → suc j ≤ length items.closures
+        there ty e v =
+            let g = is_some_got (slice_get items.closures j) (subst (IsValueType items) e v) in
+            slice_get_within items.closures j g.0 g.1
+
+    after_new : (def : ClosureDef) → new_def ≡ def → ComesAfter items.types (length items.closures) def
+    after_new def is = record {
+      before = length items.types;
+      within = omega arith;
+      captures = λ part has. let h = alone part (own part has) in slice_get_within items.types part.0 h.0 h.1;
+      captured = λ part j has at. is_lower part j (alone part (own part has)) at;
+      lower = λ n j ty part below at has is. is_lower part j (all.held (record { 0 = n }) part ty at (made_held items ty
+          part has)) is;
+    }
+      where
+        own : (part : TyId) → Contains def.captures part → Contains captures part
+        own part has = subst (λ (x : ClosureDef). Contains x.captures part) (sym is) has
+
+    after_more : (k : ℕ) (def : ClosureDef) → slice_get more.closures k ≡ Some def → ComesAfter items.types k def
+    after_more k def at = by (slice_get-push_cases items.closures new_def k def at)
+      where
+        by : (slice_get items.closures k ≡ Some def) ⊎ ((k ≡ length items.closures) × (new_def ≡ def)) → ComesAfter
+            items.types k def
+        by (inl old) = all.after k def old
+        by (inr new_) = subst (λ n. ComesAfter items.types n def) (sym new_.0) (after_new def new_.1)
+
     ready_more : AreReady more
     ready_more =
         record {
@@ -242,6 +273,8 @@ module _ (items : ItemTable) (captures : List TyId) (body : ℕ) where
           params = λ n sig ty h has. known_later more_closures ty (all.params n sig ty h has);
           method_params = λ n k def sig ty h g has. known_later more_closures ty (all.method_params n k def sig ty h g
               has);
+          order = all.order;
+          after = after_more;
         }
 
 closure_added_sound : (captures : List TyId) (body : ℕ) (s : State) → ((ty : TyId) → Contains captures ty → IsAlone

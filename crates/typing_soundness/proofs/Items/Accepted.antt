@@ -21,7 +21,7 @@ use Rattle.typing_rules.specs.Collected as collected
 use Rattle.typing_rules.specs.Items.{ItemSyn, items_of, item_syns, impl_owner}
 use Rattle.typing_rules.specs.Places.{scalars}
 use Rattle.typing_rules.specs.Program as rules
-use Rattle.typing_rules.specs.Promises.{AreReady}
+use Rattle.typing_rules.specs.Promises.{AreReady, made_of}
 use Rattle.typing_rules.specs.Scope.{Env, adt_named}
 use Rattle.typing_rules.specs.Written as types
 use Rattle.src_ast.specs.Syntax.{Word, Syn, syn, MoveOf, StructItem, EnumItem, FieldDecl, VariantDecl, TraitItem, FnItem, Syns, list_of, MaybeSyn}
@@ -161,6 +161,11 @@ none_held Ty.Unit part h has = omega (arith, has.1)
 none_held Ty.Never part h has = omega (arith, has.1)
 none_held _ part h has = false≢true h
 
+none_made : (ty : Ty) (part : TyId) → IsTrue (is_scalar ty) → Contains (made_of ty) part → ⊥
+none_made (Ty.Tuple tys) part h has = false≢true h
+none_made (Ty.Array element count) part h has = false≢true h
+none_made _ part h has = omega (arith, has.1)
+
 no_part : (ty : Ty) (part : TyId) (variant n : ℕ) → IsTrue (is_scalar ty) → slice_get (parts_of collected.no_items ty variant) n
     ≡ Some part → ⊥
 no_part (Ty.Int kind) part variant n h is = none-some part is
@@ -192,6 +197,8 @@ ready_at_first = record {
   methods = λ n k def sig at is. absurd (none-some def at);
   params = λ n sig ty at has. absurd (none-some sig at);
   method_params = λ n k def sig ty at is has. absurd (none-some def at);
+  order = λ n ty part at has. absurd (none_made ty part (all_at (λ t. IsTrue (is_scalar t)) scalars n ty scalars_are at) has);
+  after = λ k def at. absurd (none-some def at);
 }
   where
     part_at : (id part : TyId) (variant n : ℕ) (o : Option Ty) → type_at collected.no_items id ≡ o → option_and_then (λ ty.

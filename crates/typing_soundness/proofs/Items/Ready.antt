@@ -315,6 +315,8 @@ module _ (items : ItemTable) (adt : Adt) (all : AreReady items) (h : AreFields i
     methods = all.methods;
     params = all.params;
     method_params = all.method_params;
+    order = all.order;
+    after = all.after;
   }
     where
       held_of : (ty : Ty) (id part : TyId) → type_at items id ≡ Some ty → Contains (held_by (with_adt items adt) ty) part →
@@ -370,6 +372,8 @@ ready_with_trait items def all h = record {
   methods = λ n k d sig at is. by n k d sig is (slice_get-push_cases items.traits def n d at);
   params = all.params;
   method_params = λ n k d sig ty at is has. param_by n k d sig ty is has (slice_get-push_cases items.traits def n d at);
+  order = all.order;
+  after = all.after;
 }
   where
     method : (d : TraitDef) (k : ℕ) (sig : Sig) → def ≡ d → slice_get d.methods k ≡ Some sig → All (IsKnown items)
@@ -402,6 +406,8 @@ ready_with_body items sig all params result = record {
   methods = all.methods;
   params = λ n other ty at has. param_by n other ty has (slice_get-push_cases items.bodies sig n other at);
   method_params = all.method_params;
+  order = all.order;
+  after = all.after;
 }
   where
     by : (n : ℕ) (other : Sig) → (slice_get items.bodies n ≡ Some other) ⊎ ((n ≡ length items.bodies) × (sig ≡ other)) →
@@ -713,6 +719,8 @@ with_impl_ready items def all = record {
   methods = all.methods;
   params = all.params;
   method_params = all.method_params;
+  order = all.order;
+  after = all.after;
 }
 
 impl_ready : (k : rules.Known) (i : Syn) (s : State) → Readies s Kept (rules.impl_of k i s)
