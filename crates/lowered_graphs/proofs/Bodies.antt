@@ -45,9 +45,9 @@ use Rattle.cfg_build.proofs.Sizes.{set_length}
 use Rattle.lowered_lines.specs.Lines.{LocalsHaveNoFault, LinesHaveNoFault}
 use Rattle.lowered_lines.proofs.Facts as facts
 use Rattle.lowered_lines.proofs.Whole.{lowered_lines_have_no_fault}
-use Rattle.lowered_graphs.specs.Lowerable.{IsLowerable, body_is_lowerable}
+use Rattle.lowered_graphs.specs.Lowerable.{IsLowerable}
 use Rattle.lowered_graphs.proofs.Cells as nodes
-use Rattle.lowered_graphs.proofs.Cells.{Lets, lets_second, each_append}
+use Rattle.lowered_graphs.proofs.Cells.{each_append}
 use Rattle.lowered_graphs.proofs.Items as of_items
 use Rattle.lowered_graphs.proofs.Items.{no_line, none_of}
 use Rattle.lowered_graphs.proofs.Known.{untrue, and_first, and_second, both, some_is, Each, There, Fine, same_fine, Told}
@@ -219,14 +219,6 @@ module _ (p : ProgramTree) (w : WellTyped p) where
       (ap suc more.0, both (types.is_same param.ty ty) _ h.0.0 more.1, omega (least, arith))
 
   module _ (low : IsLowerable p) (n : ℕ) (body : BodyTree) (at_n : slice_get p.bodies n ≡ Some body) where
-    claims_at : {A : Type 0} (f : A → Claim) (xs : List A) (i : ℕ) (x : A) → Holds (each f xs) → slice_get xs i ≡ Some x → Holds (f x)
-    claims_at f [] i x h e = absurd (none-some x e)
-    claims_at f (y ∷ ys) zero x h e = subst (λ z. Holds (f z)) (same_Some y x e) h.0
-    claims_at f (y ∷ ys) (suc i) x h e = claims_at f ys i x h.1 e
-
-    asked : Holds (body_is_lowerable p.items body)
-    asked = claims_at (body_is_lowerable p.items) p.bodies n body low.1.1.1 at_n
-
     typed : (sig : Sig) × (slice_get p.items.bodies n ≡ Some sig) × Holds (is_body p.items n sig body)
     typed = facts.body_at p w n body at_n
 
@@ -237,14 +229,11 @@ module _ (p : ProgramTree) (w : WellTyped p) where
     params = params_good typed.0.params body.params head_fine.1 typed.2.1.1.0
 
     -- ---- the cells of the block
-    lets : Lets p.items (nodes_of body.block)
-    lets = lets_second p.items (param_nodes body.params) (nodes_of body.block) (record { all = asked.0 })
-
     abbrev context : Option InScope → List ParamTree → Context
     context closure params = record { items = p.items; entries = entries_of_params params; closure = closure; loops = []; answer = body.answer }
 
     block_inside : (closure : Option InScope) (params : List ParamTree) → nodes.AllThere p.items (entries_of_params params) → Holds (typing.typed (context closure params) (Wanted body.answer) body.block) → AllFine (cells_in p.items (form_of body.block))
-    block_inside closure params names h = (nodes.node_good p.items told (context closure params) names (Wanted body.answer) body.block h lets).inside.cells
+    block_inside closure params names h = (nodes.node_good p.items told (context closure params) names (Wanted body.answer) body.block h).inside.cells
 
     names_rest : (self : ParamTree) (params : List ParamTree) → nodes.AllThere p.items (entries_of_params (self ∷ params)) → nodes.AllThere p.items (entries_of_params params)
     names_rest self params h = each_second (λ (e : InScope). There p.items e.ty) (entries_of self.pattern) (entries_of_params params) (subst (nodes.AllThere p.items) (flat_map-cons (λ (q : ParamTree). entries_of q.pattern) self params) h)
@@ -275,7 +264,7 @@ module _ (p : ProgramTree) (w : WellTyped p) where
         of_types.local_clean p.items made_types low.0 (length p.bodies) id (subst (Fine p.items) x.2 (each_at (λ (e : Entry). Fine p.items e.ty) (locals p.items body) i x.0 all_cells x.1))
 
     pub lines_clean : LinesHaveNoFault p.items (length p.bodies) (body_of p.items body)
-    lines_clean = lowered_lines_have_no_fault p w n body at_n asked.1 locals_clean
+    lines_clean = lowered_lines_have_no_fault p w n body at_n locals_clean
 
     -- ---- the line of the body
     longer : 0 < length (body_of p.items body).blocks

@@ -23,7 +23,6 @@ use Rattle.well_typed.specs.Patterns.{Matched, binding_entry, entries_of}
 use Rattle.well_typed.specs.Places as scopes
 use Rattle.well_typed.specs.Places.{InScope, Context, LoopAround, Standing, Taken, Wanted, Passed, Base, Stored, with_entries, within, entry_with, is_place, ty_of, form_of}
 use Rattle.well_typed.specs.Types as types
-use Rattle.lowered_graphs.specs.Lowerable.{has_its_type}
 use Rattle.lowered_graphs.proofs.Known.{untrue, and_first, and_second, either, not_true, found, some_is, Each, There, Fine, by_form, by_known, by_some, unit_fine, bool_fine, never_fine, same_fine, same_there, copy_fine, common_fine, Told}
 
 -- ---- lists
@@ -31,32 +30,7 @@ pub each_append : {A : Type 0} (P : A → Type 0) (xs ys : List A) → Each P xs
 each_append P [] ys h k = k
 each_append P (x ∷ xs) ys h k = (h.0, each_append P xs ys h.1 k)
 
--- each `let` among some nodes has a type of the table
-pub record Lets (items : ItemTable) (ns : List Node) : Type 0 where
-  pub all : list_all (has_its_type items) ns ≡ true
-
 module _ (items : ItemTable) where
-  first_all : (test : Node → Bool) (xs ys : List Node) → list_all test (xs ++ ys) ≡ true → list_all test xs ≡ true
-  first_all test [] ys h = refl
-  first_all test (x ∷ xs) ys h = on (test x) h (first_all test xs ys)
-    where
-      on : (b : Bool) → b && list_all test (xs ++ ys) ≡ true → (list_all test (xs ++ ys) ≡ true → list_all test xs ≡ true) → b && list_all test xs ≡ true
-      on true h more = more h
-      on false h more = h
-
-  second_all : (test : Node → Bool) (xs ys : List Node) → list_all test (xs ++ ys) ≡ true → list_all test ys ≡ true
-  second_all test [] ys h = h
-  second_all test (x ∷ xs) ys h = second_all test xs ys (and_second (test x) _ h)
-
-  pub lets_first : (xs ys : List Node) → Lets items (xs ++ ys) → Lets items xs
-  lets_first xs ys l = record { all = first_all (has_its_type items) xs ys l.all }
-
-  pub lets_second : (xs ys : List Node) → Lets items (xs ++ ys) → Lets items ys
-  lets_second xs ys l = record { all = second_all (has_its_type items) xs ys l.all }
-
-  pub lets_rest : (x : Node) (xs : List Node) → Lets items (x ∷ xs) → Lets items xs
-  lets_rest x xs l = record { all = and_second (has_its_type items x) _ l.all }
-
   -- ---- what is known of nodes
 
   -- the type of a name is in the table, and what a break carries is of no `dyn` type
@@ -419,284 +393,283 @@ module _ (items : ItemTable) (told : Told items) where
   loop_here id ty has_value = record { loop = id; ty = ty; has_value = has_value }
 
   mutual
-    pub node_good : (c : Context) → Scope c → (s : Standing) (n : Node) → Holds (typing.typed (K c) s n) → Lets items (nodes_of n) → Good items n
-    node_good c sc s (tree.node id at ty by form) h l = row_good c sc id at ty by form h.1 (lets_rest items _ _ l)
+    pub node_good : (c : Context) → Scope c → (s : Standing) (n : Node) → Holds (typing.typed (K c) s n) → Good items n
+    node_good c sc s (tree.node id at ty by form) h = row_good c sc id at ty by form h.1
 
-    pub taken : (c : Context) → Scope c → (n : Node) → Holds (typing.typed (K c) Taken n) → Lets items (nodes_of n) → Used items n
-    taken c sc (tree.node id at ty by form) h l =
-        let k = row_good c sc id at ty by form h.1 (lets_rest items _ _ l) in
+    pub taken : (c : Context) → Scope c → (n : Node) → Holds (typing.typed (K c) Taken n) → Used items n
+    taken c sc (tree.node id at ty by form) h =
+        let k = row_good c sc id at ty by form h.1 in
         record { good = k; fine = taken_fine c ty by form h.0 k.there k.sized }
 
-    pub wanted : (c : Context) → Scope c → (want : TyId) (n : Node) → Holds (typing.typed (K c) (Wanted want) n) → Lets items (nodes_of n) → Used items n
-    wanted c sc want (tree.node id at ty by form) h l =
-        let k = row_good c sc id at ty by form h.1 (lets_rest items _ _ l) in
+    pub wanted : (c : Context) → Scope c → (want : TyId) (n : Node) → Holds (typing.typed (K c) (Wanted want) n) → Used items n
+    wanted c sc want (tree.node id at ty by form) h =
+        let k = row_good c sc id at ty by form h.1 in
         record { good = k; fine = taken_fine c ty by form h.0.0 k.there k.sized }
 
-    passed_on : (c : Context) → Scope c → (want : TyId) (n : Node) → Holds (typing.typed (K c) (Passed want) n) → Lets items (nodes_of n) → Used items n
-    passed_on c sc want (tree.node id at ty by form) h l =
-        let k = row_good c sc id at ty by form h.1 (lets_rest items _ _ l) in
+    passed_on : (c : Context) → Scope c → (want : TyId) (n : Node) → Holds (typing.typed (K c) (Passed want) n) → Used items n
+    passed_on c sc want (tree.node id at ty by form) h =
+        let k = row_good c sc id at ty by form h.1 in
         record { good = k; fine = passed_fine c want ty by form h.0 k.there k.sized }
 
-    row_good : (c : Context) → Scope c → (id : ℕ) (at : Pos) (ty : TyId) (by : Option Use) (form : Form) → Holds (typing.row (K c) id ty form) → Lets items (nodes_in form) → Good items (tree.node id at ty by form)
-    row_good c sc id at ty by (tree.Number value) h l = a_value _ (by_known items types.kind_in (λ n. refl) _ ty h) refl (λ l. refl) tt tt
-    row_good c sc id at ty by (tree.Truth value) h l = a_value _ (bool_fine items ty h) refl (λ l. refl) tt tt
-    row_good c sc id at ty by tree.UnitValue h l = a_value _ (unit_fine items ty h) refl (λ l. refl) tt tt
-    row_good c sc id at ty by (tree.Variable key) h l =
+    row_good : (c : Context) → Scope c → (id : ℕ) (at : Pos) (ty : TyId) (by : Option Use) (form : Form) → Holds (typing.row (K c) id ty form) → Good items (tree.node id at ty by form)
+    row_good c sc id at ty by (tree.Number value) h = a_value _ (by_known items types.kind_in (λ n. refl) _ ty h) refl (λ l. refl) tt tt
+    row_good c sc id at ty by (tree.Truth value) h = a_value _ (bool_fine items ty h) refl (λ l. refl) tt tt
+    row_good c sc id at ty by tree.UnitValue h = a_value _ (unit_fine items ty h) refl (λ l. refl) tt tt
+    row_good c sc id at ty by (tree.Variable key) h =
         let e = found (entry_with key c.entries) _ h in
         a_place _ refl (same_there items ty e.0.ty e.2 (entry_there c.entries sc key e.0 e.1)) refl (λ l. refl) tt tt
-    row_good c sc id at ty by (tree.Captured closure part name) h l =
+    row_good c sc id at ty by (tree.Captured closure part name) h =
         let x = found c.closure _ h in
         let t = found (field_ty items x.0.ty 0 part) _ x.2.1 in
         a_place _ refl (same_there items ty t.0 t.2 (told.fields x.0.ty 0 part t.0 t.1)) refl (λ l. refl) tt tt
-    row_good c sc id at ty by (tree.Field base part) h l =
-        let b = node_good c sc Base base h.0 l in
+    row_good c sc id at ty by (tree.Field base part) h =
+        let b = node_good c sc Base base h.0 in
         let t = found (field_ty items (ty_of base) 0 part) _ h.1.1 in
         a_place _ refl (same_there items ty t.0 t.2 (told.fields (ty_of base) 0 part t.0 t.1)) refl (λ l. refl) (reach_cells base b) (nodes_good items base b)
-    row_good c sc id at ty by (tree.Index base index count) h l =
-        let b = node_good c sc Base base h.0 (lets_first items _ _ l) in
-        let i = taken c sc index h.1.0 (lets_second items _ _ l) in
+    row_good c sc id at ty by (tree.Index base index count) h =
+        let b = node_good c sc Base base h.0 in
+        let i = taken c sc index h.1.0 in
         let a = found (types.array_of items (ty_of base)) _ h.1.1.1 in
         a_place _ refl (same_there items ty a.0.0 (and_first _ _ a.2) (told.elements (ty_of base) a.0 a.1)) refl (λ l. refl)
         (joined _ _ (reach_cells base b) (used_cells true index i)) (together _ _ (nodes_good items base b) (used_nodes index i))
-    row_good c sc id at ty by (tree.Deref base) h l =
-        let b = node_good c sc Base base h.0 l in
+    row_good c sc id at ty by (tree.Deref base) h =
+        let b = node_good c sc Base base h.0 in
         let t = found (types.inside_of items (ty_of base)) _ h.1 in
         a_place _ refl (same_there items ty t.0 t.2 (told.contents (ty_of base) t.0 t.1)) refl (λ l. refl) (reach_cells base b) (nodes_good items base b)
-    row_good c sc id at ty by (tree.Not operand) h l =
-        let k = taken c sc operand h.0 l in
+    row_good c sc id at ty by (tree.Not operand) h =
+        let k = taken c sc operand h.0 in
         a_value _ (bool_fine items ty h.1.1) refl (λ l. refl) (used_cells true operand k) (used_nodes operand k)
-    row_good c sc id at ty by (tree.Negate operand) h l =
-        let k = taken c sc operand h.0 l in
+    row_good c sc id at ty by (tree.Negate operand) h =
+        let k = taken c sc operand h.0 in
         a_value _ (by_known items types.kind_in (λ n. refl) _ ty h.1.1) refl (λ l. refl) (used_cells true operand k) (used_nodes operand k)
-    row_good c sc id at ty by (tree.Arithmetic operator left right) h l =
-        let a = wanted c sc ty left h.0 (lets_first items _ _ l) in
-        let b = wanted c sc ty right h.1.0 (lets_second items _ _ l) in
+    row_good c sc id at ty by (tree.Arithmetic operator left right) h =
+        let a = wanted c sc ty left h.0 in
+        let b = wanted c sc ty right h.1.0 in
         a_value _ (by_some items types.kind_in (λ n. refl) ty h.1.1.0) refl (λ l. refl) (joined _ _ (used_cells true left a) (used_cells true right b)) (together _ _ (used_nodes left a) (used_nodes right b))
-    row_good c sc id at ty by (tree.Comparison operator left right) h l =
-        let a = taken c sc left h.0 (lets_first items _ _ l) in
-        let b = taken c sc right h.1.0 (lets_second items _ _ l) in
+    row_good c sc id at ty by (tree.Comparison operator left right) h =
+        let a = taken c sc left h.0 in
+        let b = taken c sc right h.1.0 in
         a_value _ (bool_fine items ty h.1.1.1) refl (λ l. refl) (joined _ _ (used_cells true left a) (used_cells true right b)) (together _ _ (used_nodes left a) (used_nodes right b))
-    row_good c sc id at ty by (tree.And left right) h l =
-        let a = taken c sc left h.0 (lets_first items _ _ l) in
-        let b = taken c sc right h.1.0 (lets_second items _ _ l) in
+    row_good c sc id at ty by (tree.And left right) h =
+        let a = taken c sc left h.0 in
+        let b = taken c sc right h.1.0 in
         a_value _ (bool_fine items ty h.1.1.1.1) refl (λ l. refl) (joined _ _ (used_cells true left a) (used_cells false right b)) (together _ _ (used_nodes left a) (used_nodes right b))
-    row_good c sc id at ty by (tree.Or left right) h l =
-        let a = taken c sc left h.0 (lets_first items _ _ l) in
-        let b = taken c sc right h.1.0 (lets_second items _ _ l) in
+    row_good c sc id at ty by (tree.Or left right) h =
+        let a = taken c sc left h.0 in
+        let b = taken c sc right h.1.0 in
         a_value _ (bool_fine items ty h.1.1.1.1) refl (λ l. refl) (joined _ _ (used_cells true left a) (used_cells false right b)) (together _ _ (used_nodes left a) (used_nodes right b))
-    row_good c sc id at ty by (tree.Assign place value) h l =
-        let a = node_good c sc Stored place h.0 (lets_first items _ _ l) in
-        let b = wanted c sc (ty_of place) value h.1.1.0 (lets_second items _ _ l) in
+    row_good c sc id at ty by (tree.Assign place value) h =
+        let a = node_good c sc Stored place h.0 in
+        let b = wanted c sc (ty_of place) value h.1.1.0 in
         a_value _ (unit_fine items ty h.1.1.1) refl (λ l. refl) (joined _ _ (reach_cells place a) (used_cells true value b)) (together _ _ (nodes_good items place a) (used_nodes value b))
-    row_good c sc id at ty by (tree.Call body args) h l =
+    row_good c sc id at ty by (tree.Call body args) h =
         let sig = found (slice_get items.bodies body) _ h.0 in
-        let k = arguments_good c sc sig.0.params args sig.2.1 l in
+        let k = arguments_good c sc sig.0.params args sig.2.1 in
         a_value _ (same_fine items ty sig.0.result sig.2.0 (told.results body sig.0 sig.1)) refl (λ l. refl) k.0 k.1
-    row_good c sc id at ty by (tree.MethodCall body receiver args) h l =
+    row_good c sc id at ty by (tree.MethodCall body receiver args) h =
         let sig = found (slice_get items.bodies body) _ h.0 in
-        let k = receiver_good c sig.0.params receiver args (λ t q. passed_on c sc t receiver q (lets_first items _ _ l)) (λ ts q. arguments_good c sc ts args q (lets_second items _ _ l)) sig.2.1 in
+        let k = receiver_good c sig.0.params receiver args (λ t q. passed_on c sc t receiver q) (λ ts q. arguments_good c sc ts args q) sig.2.1 in
         a_value _ (same_fine items ty sig.0.result sig.2.0 (told.results body sig.0 sig.1)) refl (λ l. refl) k.0 k.1
-    row_good c sc id at ty by (tree.VirtualCall trait_no method receiver args) h l =
+    row_good c sc id at ty by (tree.VirtualCall trait_no method receiver args) h =
         let def = found (slice_get items.traits trait_no) _ h in
         let sig = found (slice_get def.0.methods method) _ def.2 in
-        let k = receiver_good c sig.0.params receiver args (λ t q. passed_on c sc t receiver q (lets_first items _ _ l)) (λ ts q. arguments_good c sc ts args q (lets_second items _ _ l)) sig.2.1 in
+        let k = receiver_good c sig.0.params receiver args (λ t q. passed_on c sc t receiver q) (λ ts q. arguments_good c sc ts args q) sig.2.1 in
         a_value _ (same_fine items ty sig.0.result sig.2.0 (told.answers trait_no method def.0 sig.0 def.1 sig.1)) refl (λ l. refl) k.0 k.1
-    row_good c sc id at ty by (tree.ClosureCall body callee args) h l =
+    row_good c sc id at ty by (tree.ClosureCall body callee args) h =
         let sig = found (slice_get items.bodies body) _ h.0 in
-        let k = receiver_good c sig.0.params callee args (λ t q. passed_on c sc t callee q (lets_first items _ _ l)) (λ ts q. arguments_good c sc ts args q (lets_second items _ _ l)) sig.2.1 in
+        let k = receiver_good c sig.0.params callee args (λ t q. passed_on c sc t callee q) (λ ts q. arguments_good c sc ts args q) sig.2.1 in
         a_value _ (same_fine items ty sig.0.result sig.2.0 (told.results body sig.0 sig.1)) refl (λ l. refl) k.0 k.1
-    row_good c sc id at ty by (tree.Make adt variant fields) h l =
+    row_good c sc id at ty by (tree.Make adt variant fields) h =
         let v = found (types.variant_at items adt variant) _ h.1 in
-        let k = fields_good c sc v.0.fields fields v.2.1 l in
+        let k = fields_good c sc v.0.fields fields v.2.1 in
         a_value _ (by_known items types.adt_in (λ n. refl) _ ty h.0) refl (λ l. refl) k.0 k.1
-    row_good c sc id at ty by (tree.Tuple parts) h l =
+    row_good c sc id at ty by (tree.Tuple parts) h =
         let tys = found (types.tuple_of items ty) _ h in
-        let k = parts_good c sc tys.0 parts tys.2 l in
+        let k = parts_good c sc tys.0 parts tys.2 in
         a_value _ (by_form items types.tuple_in (λ n. refl) ty tys.0 tys.1) refl (λ l. refl) k.0 k.1
-    row_good c sc id at ty by (tree.Array elements) h l =
+    row_good c sc id at ty by (tree.Array elements) h =
         let a = found (types.array_of items ty) _ h in
-        let k = elements_good c sc a.0.0 elements a.2.1 l in
+        let k = elements_good c sc a.0.0 elements a.2.1 in
         a_value _ (by_form items types.array_in (λ n. refl) ty a.0 a.1) refl (λ l. refl) k.0 k.1
-    row_good c sc id at ty by (tree.Closure closure captures) h l =
+    row_good c sc id at ty by (tree.Closure closure captures) h =
         let def = found (slice_get items.closures closure) _ h.1 in
-        let k = captures_good c sc def.0.captures captures def.2 l in
+        let k = captures_good c sc def.0.captures captures def.2 in
         a_value _ (by_known items types.closure_in (λ n. refl) _ ty h.0) refl (λ l. refl) k.0 k.1
-    row_good c sc id at ty by (tree.NewBox content) h l =
+    row_good c sc id at ty by (tree.NewBox content) h =
         let inside = found (types.boxed_of items ty) _ h in
-        let k = wanted c sc inside.0 content inside.2.0 l in
+        let k = wanted c sc inside.0 content inside.2.0 in
         a_value _ (by_form items types.boxed_in (λ n. refl) ty inside.0 inside.1) refl (λ l. refl) (used_cells true content k) (used_nodes content k)
-    row_good c sc id at ty by (tree.Print operand) h l =
-        let k = taken c sc operand h.0 l in
+    row_good c sc id at ty by (tree.Print operand) h =
+        let k = taken c sc operand h.0 in
         a_value _ (unit_fine items ty h.1.1) refl (λ l. refl) (used_cells true operand k) (used_nodes operand k)
-    row_good c sc id at ty by tree.Ask h l = a_value _ (by_known items types.kind_in (λ n. refl) _ ty h) refl (λ l. refl) tt tt
-    row_good c sc id at ty by (tree.DropValue operand) h l =
-        let k = taken c sc operand h.0 l in
+    row_good c sc id at ty by tree.Ask h = a_value _ (by_known items types.kind_in (λ n. refl) _ ty h) refl (λ l. refl) tt tt
+    row_good c sc id at ty by (tree.DropValue operand) h =
+        let k = taken c sc operand h.0 in
         a_value _ (unit_fine items ty h.1) refl (λ l. refl) (used_cells true operand k) (used_nodes operand k)
-    row_good c sc id at ty by (tree.Forget operand) h l =
-        let k = taken c sc operand h.0 l in
+    row_good c sc id at ty by (tree.Forget operand) h =
+        let k = taken c sc operand h.0 in
         a_value _ (unit_fine items ty h.1) refl (λ l. refl) (used_cells true operand k) (used_nodes operand k)
-    row_good c sc id at ty by tree.Panic h l = a_value _ (never_fine items ty h) refl (λ l. refl) tt tt
-    row_good c sc id at ty by (tree.Borrow unique base) h l =
-        let b = node_good c sc (scopes.Used (scopes.borrow_by unique)) base h.0 l in
+    row_good c sc id at ty by tree.Panic h = a_value _ (never_fine items ty h) refl (λ l. refl) tt tt
+    row_good c sc id at ty by (tree.Borrow unique base) h =
+        let b = node_good c sc (scopes.Used (scopes.borrow_by unique)) base h.0 in
         let r = found (types.reference_of items ty) _ h.1.1 in
         a_value _ (by_form items types.reference_in (λ n. refl) ty r.0 r.1) refl (λ l. refl) (reach_cells base b) (nodes_good items base b)
-    row_good c sc id at ty by (tree.Unsize trait_no operand) h l =
-        let k = taken c sc operand h.0 l in
+    row_good c sc id at ty by (tree.Unsize trait_no operand) h =
+        let k = taken c sc operand h.0 in
         a_value _ (box_fine ty (ty_of operand) trait_no h.1.1) refl (λ l. refl) (used_cells true operand k) (used_nodes operand k)
-    row_good c sc id at ty by (tree.Block stmts absent) h l =
-        let k = statements_good c sc stmts (λ d. typing.tail_of d absent) h.0 (lets_first items _ [] l) in
+    row_good c sc id at ty by (tree.Block stmts absent) h =
+        let k = statements_good c sc stmts (λ d. typing.tail_of d absent) h.0 in
         a_value _ (block_fine ty stmts absent tt h.1) refl (λ l. refl) (joined _ [] k.0 tt) (together _ [] k.1 tt)
-    row_good c sc id at ty by (tree.Block stmts (present tail)) h l =
-        let k = statements_good c sc stmts (λ d. typing.tail_of d (present tail)) h.0 (lets_first items _ _ l) in
+    row_good c sc id at ty by (tree.Block stmts (present tail)) h =
+        let k = statements_good c sc stmts (λ d. typing.tail_of d (present tail)) h.0 in
         let d = behind_there c sc stmts (λ d. typing.tail_of d (present tail)) h.0 k.1 in
-        let t = taken d.0 d.2 tail d.1 (lets_second items _ _ l) in
+        let t = taken d.0 d.2 tail d.1 in
         a_value _ (block_fine ty stmts (present tail) t h.1) refl (λ l. refl) (joined _ _ k.0 (used_cells false tail t)) (together _ _ k.1 (used_nodes tail t))
-    row_good c sc id at ty by (tree.If condition body absent) h l =
-        let a = taken c sc condition h.0 (lets_first items _ _ (lets_first items _ _ l)) in
-        let b = taken c sc body h.1.1.0 (lets_second items _ _ (lets_first items _ _ l)) in
+    row_good c sc id at ty by (tree.If condition body absent) h =
+        let a = taken c sc condition h.0 in
+        let b = taken c sc body h.1.1.0 in
         a_value _ (unit_fine items ty h.1.1.1.1) refl (λ l. refl)
         (joined _ [] (joined _ _ (used_cells true condition a) (used_cells false body b)) tt) (together _ [] (together _ _ (used_nodes condition a) (used_nodes body b)) tt)
-    row_good c sc id at ty by (tree.If condition body (present otherwise)) h l =
-        let a = taken c sc condition h.0 (lets_first items _ _ (lets_first items _ _ l)) in
-        let b = taken c sc body h.1.1.0 (lets_second items _ _ (lets_first items _ _ l)) in
-        let o = taken c sc otherwise h.1.1.1.0 (lets_second items _ _ l) in
+    row_good c sc id at ty by (tree.If condition body (present otherwise)) h =
+        let a = taken c sc condition h.0 in
+        let b = taken c sc body h.1.1.0 in
+        let o = taken c sc otherwise h.1.1.1.0 in
         a_value _ (common_fine items ty (ty_of body ∷ ty_of otherwise ∷ []) (b.fine, (o.fine, tt)) h.1.1.1.1) refl (λ l. refl)
         (joined _ _ (joined _ _ (used_cells true condition a) (used_cells false body b)) (used_cells false otherwise o)) (together _ _ (together _ _ (used_nodes condition a) (used_nodes body b)) (used_nodes otherwise o))
-    row_good c sc id at ty by (tree.IfLet p scrutinee body absent) h l =
-        let s = node_good c sc (scopes.Used Use.Borrow) scrutinee h.0 (lets_second items _ _ (lets_first items _ _ (lets_first items _ _ l))) in
+    row_good c sc id at ty by (tree.IfLet p scrutinee body absent) h =
+        let s = node_good c sc (scopes.Used Use.Borrow) scrutinee h.0 in
         let q = pattern_good _ (ty_of scrutinee) p s.there h.1.0.1 in
-        let b = taken (with_entries (entries_of p) c) (with_names c (entries_of p) (pattern_names p q) sc) body h.1.1.0 (lets_second items _ _ (lets_first items _ _ l)) in
+        let b = taken (with_entries (entries_of p) c) (with_names c (entries_of p) (pattern_names p q) sc) body h.1.1.0 in
         a_value _ (unit_fine items ty h.1.1.1.1) refl (λ l. refl)
         (joined _ [] (joined _ _ (joined _ _ q.cells (reach_cells scrutinee s)) (used_cells false body b)) tt)
         (together _ [] (together _ _ (together _ _ q.nodes (nodes_good items scrutinee s)) (used_nodes body b)) tt)
-    row_good c sc id at ty by (tree.IfLet p scrutinee body (present otherwise)) h l =
-        let s = node_good c sc (scopes.Used Use.Borrow) scrutinee h.0 (lets_second items _ _ (lets_first items _ _ (lets_first items _ _ l))) in
+    row_good c sc id at ty by (tree.IfLet p scrutinee body (present otherwise)) h =
+        let s = node_good c sc (scopes.Used Use.Borrow) scrutinee h.0 in
         let q = pattern_good _ (ty_of scrutinee) p s.there h.1.0.1 in
-        let b = taken (with_entries (entries_of p) c) (with_names c (entries_of p) (pattern_names p q) sc) body h.1.1.0 (lets_second items _ _ (lets_first items _ _ l)) in
-        let o = taken c sc otherwise h.1.1.1.0 (lets_second items _ _ l) in
+        let b = taken (with_entries (entries_of p) c) (with_names c (entries_of p) (pattern_names p q) sc) body h.1.1.0 in
+        let o = taken c sc otherwise h.1.1.1.0 in
         a_value _ (common_fine items ty (ty_of body ∷ ty_of otherwise ∷ []) (b.fine, (o.fine, tt)) h.1.1.1.1) refl (λ l. refl)
         (joined _ _ (joined _ _ (joined _ _ q.cells (reach_cells scrutinee s)) (used_cells false body b)) (used_cells false otherwise o))
         (together _ _ (together _ _ (together _ _ q.nodes (nodes_good items scrutinee s)) (used_nodes body b)) (used_nodes otherwise o))
-    row_good c sc id at ty by (tree.Match scrutinee arms) h l =
-        let s = node_good c sc (scopes.Used Use.Borrow) scrutinee h.0 (lets_first items _ _ l) in
-        let k = arms_good c sc _ (ty_of scrutinee) arms s.there h.1.0 (lets_second items _ _ l) in
+    row_good c sc id at ty by (tree.Match scrutinee arms) h =
+        let s = node_good c sc (scopes.Used Use.Borrow) scrutinee h.0 in
+        let k = arms_good c sc _ (ty_of scrutinee) arms s.there h.1.0 in
         a_value _ (common_fine items ty (typing.types_in arms) k.1 h.1.1.0) refl (λ l. refl) (joined _ _ (reach_cells scrutinee s) k.0.0) (together _ _ (nodes_good items scrutinee s) k.0.1)
-    row_good c sc id at ty by (tree.Loop body) h l =
-        let b = taken (within (loop_here id ty true) c) sc body h.0 l in
+    row_good c sc id at ty by (tree.Loop body) h =
+        let b = taken (within (loop_here id ty true) c) sc body h.0 in
         a_value _ (loop_fine ty id body (used_nodes body b) h.1.1) refl (λ l. refl) (used_cells true body b) (used_nodes body b)
-    row_good c sc id at ty by (tree.While condition body) h l =
-        let a = taken (within (loop_here id ty false) c) sc condition h.0 (lets_first items _ _ l) in
-        let b = taken (within (loop_here id ty false) c) sc body h.1.1.0 (lets_second items _ _ l) in
+    row_good c sc id at ty by (tree.While condition body) h =
+        let a = taken (within (loop_here id ty false) c) sc condition h.0 in
+        let b = taken (within (loop_here id ty false) c) sc body h.1.1.0 in
         a_value _ (unit_fine items ty h.1.1.1.1) refl (λ l. refl) (joined _ _ (used_cells true condition a) (used_cells true body b)) (together _ _ (used_nodes condition a) (used_nodes body b))
-    row_good c sc id at ty by (tree.WhileLet p scrutinee body) h l =
+    row_good c sc id at ty by (tree.WhileLet p scrutinee body) h =
         let d = within (loop_here id ty false) c in
-        let s = node_good d sc (scopes.Used Use.Borrow) scrutinee h.0 (lets_second items _ _ (lets_first items _ _ l)) in
+        let s = node_good d sc (scopes.Used Use.Borrow) scrutinee h.0 in
         let q = pattern_good _ (ty_of scrutinee) p s.there h.1.0.1 in
-        let b = taken (with_entries (entries_of p) d) (with_names d (entries_of p) (pattern_names p q) sc) body h.1.1.0 (lets_second items _ _ l) in
+        let b = taken (with_entries (entries_of p) d) (with_names d (entries_of p) (pattern_names p q) sc) body h.1.1.0 in
         a_value _ (unit_fine items ty h.1.1.1.1) refl (λ l. refl)
         (joined _ _ (joined _ _ q.cells (reach_cells scrutinee s)) (used_cells true body b)) (together _ _ (together _ _ q.nodes (nodes_good items scrutinee s)) (used_nodes body b))
-    row_good c sc id at ty by (tree.Break loop absent) h l = break_good id at ty by loop absent (never_fine items ty h.1) tt
-    row_good c sc id at ty by (tree.Break loop (present value)) h l =
+    row_good c sc id at ty by (tree.Break loop absent) h = break_good id at ty by loop absent (never_fine items ty h.1) tt
+    row_good c sc id at ty by (tree.Break loop (present value)) h =
         let a = found (scopes.loop_with loop c.loops) _ h.0 in
-        break_good id at ty by loop (present value) (never_fine items ty h.1) (wanted c sc a.0.ty value a.2.1 l)
-    row_good c sc id at ty by (tree.Continue loop) h l = a_value _ (never_fine items ty h.1) refl (λ l. refl) tt tt
-    row_good c sc id at ty by (tree.Return absent) h l = a_value _ (never_fine items ty h.1) refl (λ l. refl) tt tt
-    row_good c sc id at ty by (tree.Return (present value)) h l =
-        let k = wanted c sc c.answer value h.0 l in
+        break_good id at ty by loop (present value) (never_fine items ty h.1) (wanted c sc a.0.ty value a.2.1)
+    row_good c sc id at ty by (tree.Continue loop) h = a_value _ (never_fine items ty h.1) refl (λ l. refl) tt tt
+    row_good c sc id at ty by (tree.Return absent) h = a_value _ (never_fine items ty h.1) refl (λ l. refl) tt tt
+    row_good c sc id at ty by (tree.Return (present value)) h =
+        let k = wanted c sc c.answer value h.0 in
         a_value _ (never_fine items ty h.1) refl (λ l. refl) (used_cells false value k) (used_nodes value k)
-    row_good c sc id at ty by _ h l = absurd (untrue h)
+    row_good c sc id at ty by _ h = absurd (untrue h)
 
-    arguments_good : (c : Context) → Scope c → (tys : List TyId) (args : Nodes) → Holds (typing.arguments (K c) tys args) → Lets items (nodes_among args) → Nodes_ args
-    arguments_good c sc [] no_node h l = (tt, tt)
-    arguments_good c sc [] (a_node first rest) h l = absurd (untrue h)
-    arguments_good c sc (ty ∷ tys) no_node h l = absurd (untrue h)
-    arguments_good c sc (ty ∷ tys) (a_node first rest) h l =
-        let one = passed_on c sc ty first h.0 (lets_first items _ _ l) in
-        let more = arguments_good c sc tys rest h.1 (lets_second items _ _ l) in
+    arguments_good : (c : Context) → Scope c → (tys : List TyId) (args : Nodes) → Holds (typing.arguments (K c) tys args) → Nodes_ args
+    arguments_good c sc [] no_node h = (tt, tt)
+    arguments_good c sc [] (a_node first rest) h = absurd (untrue h)
+    arguments_good c sc (ty ∷ tys) no_node h = absurd (untrue h)
+    arguments_good c sc (ty ∷ tys) (a_node first rest) h =
+        let one = passed_on c sc ty first h.0 in
+        let more = arguments_good c sc tys rest h.1 in
         (joined _ _ (used_cells true first one) more.0, together _ _ (used_nodes first one) more.1)
 
-    parts_good : (c : Context) → Scope c → (tys : List TyId) (parts : Nodes) → Holds (typing.made_parts (K c) tys parts) → Lets items (nodes_among parts) → Nodes_ parts
-    parts_good c sc [] no_node h l = (tt, tt)
-    parts_good c sc [] (a_node first rest) h l = absurd (untrue h)
-    parts_good c sc (ty ∷ tys) no_node h l = absurd (untrue h)
-    parts_good c sc (ty ∷ tys) (a_node first rest) h l =
-        let one = wanted c sc ty first h.0 (lets_first items _ _ l) in
-        let more = parts_good c sc tys rest h.1 (lets_second items _ _ l) in
+    parts_good : (c : Context) → Scope c → (tys : List TyId) (parts : Nodes) → Holds (typing.made_parts (K c) tys parts) → Nodes_ parts
+    parts_good c sc [] no_node h = (tt, tt)
+    parts_good c sc [] (a_node first rest) h = absurd (untrue h)
+    parts_good c sc (ty ∷ tys) no_node h = absurd (untrue h)
+    parts_good c sc (ty ∷ tys) (a_node first rest) h =
+        let one = wanted c sc ty first h.0 in
+        let more = parts_good c sc tys rest h.1 in
         (joined _ _ (used_cells true first one) more.0, together _ _ (used_nodes first one) more.1)
 
-    fields_good : (c : Context) → Scope c → (tys : List TyId) (fs : Fields) → Holds (typing.made_fields (K c) tys fs) → Lets items (nodes_of_fields fs) → AllFine items (cells_of_fields items fs) × AllMarked items (nodes_of_fields fs)
-    fields_good c sc tys no_field h l = (tt, tt)
-    fields_good c sc tys (a_field number value rest) h l =
+    fields_good : (c : Context) → Scope c → (tys : List TyId) (fs : Fields) → Holds (typing.made_fields (K c) tys fs) → AllFine items (cells_of_fields items fs) × AllMarked items (nodes_of_fields fs)
+    fields_good c sc tys no_field h = (tt, tt)
+    fields_good c sc tys (a_field number value rest) h =
         let ty = found (slice_get tys number) _ h.0 in
-        let one = wanted c sc ty.0 value ty.2 (lets_first items _ _ l) in
-        let more = fields_good c sc tys rest h.1 (lets_second items _ _ l) in
+        let one = wanted c sc ty.0 value ty.2 in
+        let more = fields_good c sc tys rest h.1 in
         (joined _ _ (used_cells true value one) more.0, together _ _ (used_nodes value one) more.1)
 
-    elements_good : (c : Context) → Scope c → (ty : TyId) (ns : Nodes) → Holds (typing.elements_of (K c) ty ns) → Lets items (nodes_among ns) → Nodes_ ns
-    elements_good c sc ty no_node h l = (tt, tt)
-    elements_good c sc ty (a_node first rest) h l =
-        let one = wanted c sc ty first h.0 (lets_first items _ _ l) in
-        let more = elements_good c sc ty rest h.1 (lets_second items _ _ l) in
+    elements_good : (c : Context) → Scope c → (ty : TyId) (ns : Nodes) → Holds (typing.elements_of (K c) ty ns) → Nodes_ ns
+    elements_good c sc ty no_node h = (tt, tt)
+    elements_good c sc ty (a_node first rest) h =
+        let one = wanted c sc ty first h.0 in
+        let more = elements_good c sc ty rest h.1 in
         (joined _ _ (used_cells true first one) more.0, together _ _ (used_nodes first one) more.1)
 
-    captures_good : (c : Context) → Scope c → (tys : List TyId) (ns : Nodes) → Holds (typing.captured (K c) tys ns) → Lets items (nodes_among ns) → Nodes_ ns
-    captures_good c sc [] no_node h l = (tt, tt)
-    captures_good c sc [] (a_node first rest) h l = absurd (untrue h)
-    captures_good c sc (ty ∷ tys) no_node h l = absurd (untrue h)
-    captures_good c sc (ty ∷ tys) (a_node first rest) h l =
-        let one = taken c sc first h.0 (lets_first items _ _ l) in
-        let more = captures_good c sc tys rest h.1.1 (lets_second items _ _ l) in
+    captures_good : (c : Context) → Scope c → (tys : List TyId) (ns : Nodes) → Holds (typing.captured (K c) tys ns) → Nodes_ ns
+    captures_good c sc [] no_node h = (tt, tt)
+    captures_good c sc [] (a_node first rest) h = absurd (untrue h)
+    captures_good c sc (ty ∷ tys) no_node h = absurd (untrue h)
+    captures_good c sc (ty ∷ tys) (a_node first rest) h =
+        let one = taken c sc first h.0 in
+        let more = captures_good c sc tys rest h.1.1 in
         (joined _ _ (used_cells true first one) more.0, together _ _ (used_nodes first one) more.1)
 
-    arms_good : (c : Context) → Scope c → (m : Matched) (want : TyId) (arms : Nodes) → There items want → Holds (typing.arms_of (K c) m want arms) → Lets items (nodes_among arms) → Nodes_ arms × Each (Fine items) (typing.types_in arms)
-    arms_good c sc m want no_node t h l = ((tt, tt), tt)
-    arms_good c sc m want (a_node first rest) t h l =
-        let one = arm_good c sc m want first t h.0 (lets_first items _ _ l) in
-        let more = arms_good c sc m want rest t h.1 (lets_second items _ _ l) in
+    arms_good : (c : Context) → Scope c → (m : Matched) (want : TyId) (arms : Nodes) → There items want → Holds (typing.arms_of (K c) m want arms) → Nodes_ arms × Each (Fine items) (typing.types_in arms)
+    arms_good c sc m want no_node t h = ((tt, tt), tt)
+    arms_good c sc m want (a_node first rest) t h =
+        let one = arm_good c sc m want first t h.0 in
+        let more = arms_good c sc m want rest t h.1 in
         ((joined _ _ one.0.0 more.0.0, together _ _ one.0.1 more.0.1), (one.1, more.1))
 
-    arm_good : (c : Context) → Scope c → (m : Matched) (want : TyId) (n : Node) → There items want → Holds (typing.arm (K c) m want n) → Lets items (nodes_of n) → (AllFine items (cells items true n) × AllMarked items (nodes_of n)) × Fine items (ty_of n)
-    arm_good c sc m want (tree.node id at ty by (tree.Arm p guard body)) t h l =
-        let ll = lets_rest items _ _ l in
+    arm_good : (c : Context) → Scope c → (m : Matched) (want : TyId) (n : Node) → There items want → Holds (typing.arm (K c) m want n) → (AllFine items (cells items true n) × AllMarked items (nodes_of n)) × Fine items (ty_of n)
+    arm_good c sc m want (tree.node id at ty by (tree.Arm p guard body)) t h =
         let q = pattern_good m want p t h.1.1.0 in
-        let g = guard_good (with_entries (scopes.in_guard (entries_of p)) c) (with_names c (scopes.in_guard (entries_of p)) (guard_names (entries_of p) (pattern_names p q)) sc) guard h.1.1.1.0 (lets_second items _ _ (lets_first items _ _ ll)) in
-        let b = taken (with_entries (entries_of p) c) (with_names c (entries_of p) (pattern_names p q) sc) body h.1.1.1.1.0 (lets_second items _ _ ll) in
+        let g = guard_good (with_entries (scopes.in_guard (entries_of p)) c) (with_names c (scopes.in_guard (entries_of p)) (guard_names (entries_of p) (pattern_names p q)) sc) guard h.1.1.1.0 in
+        let b = taken (with_entries (entries_of p) c) (with_names c (entries_of p) (pattern_names p q) sc) body h.1.1.1.1.0 in
         let f = same_fine items ty (ty_of body) h.1.1.1.1.1 b.fine in (
           a_part (tree.node id at ty by (tree.Arm p guard body)) f refl (λ l. refl) (joined _ _ (joined _ _ q.cells g.0) (used_cells false body b)) (together _ _ (together _ _ q.nodes g.1) (used_nodes body b)),
           f,
         )
-    arm_good c sc m want (tree.node id at ty by _) t h l = absurd (untrue h)
+    arm_good c sc m want (tree.node id at ty by _) t h = absurd (untrue h)
 
-    guard_good : (c : Context) → Scope c → (guard : MaybeNode) → Holds (typing.guarded (K c) guard) → Lets items (nodes_if_any guard) → AllFine items (cells_if_any items true guard) × AllMarked items (nodes_if_any guard)
-    guard_good c sc absent h l = (tt, tt)
-    guard_good c sc (present guard) h l = let k = taken c sc guard h.0 l in (used_cells true guard k, used_nodes guard k)
+    guard_good : (c : Context) → Scope c → (guard : MaybeNode) → Holds (typing.guarded (K c) guard) → AllFine items (cells_if_any items true guard) × AllMarked items (nodes_if_any guard)
+    guard_good c sc absent h = (tt, tt)
+    guard_good c sc (present guard) h = let k = taken c sc guard h.0 in (used_cells true guard k, used_nodes guard k)
 
-    statements_good : (c : Context) → Scope c → (stmts : Nodes) (behind : Context → Claim) → Holds (typing.statements (K c) stmts behind) → Lets items (nodes_among stmts) → Nodes_ stmts
-    statements_good c sc no_node behind h l = (tt, tt)
-    statements_good c sc (a_node (tree.node id at ty by form) rest) behind h l =
+    statements_good : (c : Context) → Scope c → (stmts : Nodes) (behind : Context → Claim) → Holds (typing.statements (K c) stmts behind) → Nodes_ stmts
+    statements_good c sc no_node behind h = (tt, tt)
+    statements_good c sc (a_node (tree.node id at ty by form) rest) behind h =
         let n = tree.node id at ty by form in
-        let one = statement_good c sc id at ty by form (unit_fine items ty (and_second _ _ h.0)) h.1.0 (lets_first items (nodes_of n) (nodes_among rest) l) in
-        let more = statements_good (with_entries (typing.entries_in form) c) (with_names c (typing.entries_in form) one.1 sc) rest behind h.1.1 (lets_second items (nodes_of n) (nodes_among rest) l) in
+        let one = statement_good c sc id at ty by form (unit_fine items ty (and_second _ _ h.0)) h.1.0 in
+        let more = statements_good (with_entries (typing.entries_in form) c) (with_names c (typing.entries_in form) one.1 sc) rest behind h.1.1 in
         (joined (cells items true n) (all_cells items rest) one.0.0 more.0, together (nodes_of n) (nodes_among rest) one.0.1 more.1)
 
-    statement_good : (c : Context) → Scope c → (id : ℕ) (at : Pos) (ty : TyId) (by : Option Use) (form : Form) → Fine items ty → Holds (typing.statement (K c) form) → Lets items (nodes_of (tree.node id at ty by form)) →
+    statement_good : (c : Context) → Scope c → (id : ℕ) (at : Pos) (ty : TyId) (by : Option Use) (form : Form) → Fine items ty → Holds (typing.statement (K c) form) →
         (AllFine items (cells items true (tree.node id at ty by form)) × AllMarked items (nodes_of (tree.node id at ty by form))) × AllThere items (typing.entries_in form)
-    statement_good c sc id at ty by (tree.Let p absent) f h l =
-        let t = some_is (type_at items (ty_of p)) (and_first _ _ l.all) in
-        let q = pattern_good _ (ty_of p) p t h.1 in
+    statement_good c sc id at ty by (tree.Let p absent) f h =
+        let t = some_is (type_at items (ty_of p)) h.1.1 in
+        let q = pattern_good _ (ty_of p) p t h.1.0 in
         (a_part (tree.node id at ty by (tree.Let p absent)) f refl (λ l. refl) (joined _ [] q.cells tt) (together _ [] q.nodes tt), pattern_names p q)
-    statement_good c sc id at ty by (tree.Let p (present value)) f h l =
-        let t = some_is (type_at items (ty_of p)) (and_first _ _ l.all) in
+    statement_good c sc id at ty by (tree.Let p (present value)) f h =
+        let t = some_is (type_at items (ty_of p)) h.1.1.1.1.1 in
         let q = pattern_good _ (ty_of p) p t h.1.1.0 in
-        let v = value_good c sc (typing.is_one_name p) (ty_of p) value h.0 (lets_second items (nodes_of p) (nodes_of value) (lets_rest items _ _ l)) in
+        let v = value_good c sc (typing.is_one_name p) (ty_of p) value h.0 in
         (a_part (tree.node id at ty by (tree.Let p (present value))) f refl (λ l. refl) (joined _ _ q.cells (initial p value v.1 v.0)) (together _ _ q.nodes (nodes_good items value v.0)), pattern_names p q)
-    statement_good c sc id at ty by (tree.Evaluate expression) f h l =
-        let k = taken c sc expression h (lets_rest items _ _ l) in
+    statement_good c sc id at ty by (tree.Evaluate expression) f h =
+        let k = taken c sc expression h in
         (a_part (tree.node id at ty by (tree.Evaluate expression)) f refl (λ l. refl) (used_cells true expression k) (used_nodes expression k), tt)
-    statement_good c sc id at ty by _ f h l = absurd (untrue h)
+    statement_good c sc id at ty by _ f h = absurd (untrue h)
 
-    value_good : (c : Context) → Scope c → (one : Bool) (ty : TyId) (value : Node) → Holds (typing.typed (K c) (if one then Wanted ty else Base) value) → Lets items (nodes_of value) → Good items value × (one ≡ true → Fine items (ty_of value))
-    value_good c sc true want (tree.node id at ty by form) h l =
-        let k = row_good c sc id at ty by form h.1 (lets_rest items _ _ l) in
+    value_good : (c : Context) → Scope c → (one : Bool) (ty : TyId) (value : Node) → Holds (typing.typed (K c) (if one then Wanted ty else Base) value) → Good items value × (one ≡ true → Fine items (ty_of value))
+    value_good c sc true want (tree.node id at ty by form) h =
+        let k = row_good c sc id at ty by form h.1 in
         (k, λ e. taken_fine c ty by form h.0.0 k.there k.sized)
-    value_good c sc false want (tree.node id at ty by form) h l = (row_good c sc id at ty by form h.1 (lets_rest items _ _ l), λ e. absurd (untrue e))
+    value_good c sc false want (tree.node id at ty by form) h = (row_good c sc id at ty by form h.1, λ e. absurd (untrue e))

@@ -115,12 +115,14 @@ method_stands = (refl, refl, refl)
 method_lacks : (is_well_typed (trait_with (codes "m&")) ≡ true) × (is_lowerable (trait_with (codes "m&")) ≡ false) × (first_number (trait_with (codes "m&")) ≡ Some 7)
 method_lacks = (refl, refl, refl)
 
+-- ---- what typing asks of a `let`, so that its lines and its locals have no fault
+
 -- let x: T; of a type that is not in the table
 let_stands : (is_well_typed (with_main items (let_of i32 Use.Copy)) ≡ true) × (is_lowerable (with_main items (let_of i32 Use.Copy)) ≡ true) × (first_number (with_main items (let_of i32 Use.Copy)) ≡ None)
 let_stands = (refl, refl, refl)
 
-let_lacks : (is_well_typed (with_main items (let_of (ty_no 4) Use.Move)) ≡ true) × (is_lowerable (with_main items (let_of (ty_no 4) Use.Move)) ≡ false) × (first_number (with_main items (let_of (ty_no 4) Use.Move)) ≡ Some 1)
-let_lacks = (refl, refl, refl)
+let_is_ill_typed : (is_well_typed (with_main items (let_of (ty_no 4) Use.Move)) ≡ false) × (first_number (with_main items (let_of (ty_no 4) Use.Move)) ≡ Some 1)
+let_is_ill_typed = (refl, refl)
 
 -- fn f(x: !) { let (a, b): (i32, i32) = x; }
 abbrev binds : ℕ → List ℕ → Node
@@ -149,8 +151,8 @@ apart ty = record {
 pair_stands : (is_well_typed (apart (ty_no 4)) ≡ true) × (is_lowerable (apart (ty_no 4)) ≡ true) × (first_number (apart (ty_no 4)) ≡ None)
 pair_stands = (refl, refl, refl)
 
-never_lacks : (is_well_typed (apart never) ≡ true) × (is_lowerable (apart never) ≡ false) × (first_number (apart never) ≡ Some 3)
-never_lacks = (refl, refl, refl)
+never_is_ill_typed : (is_well_typed (apart never) ≡ false) × (first_number (apart never) ≡ Some 3)
+never_is_ill_typed = (refl, refl)
 
 -- ---- which locals lines name
 

@@ -28,7 +28,6 @@ use Rattle.well_typed.specs.Claim.{Claim, Holds, some}
 use Rattle.well_typed.specs.Nodes.{is_closure_body}
 use Rattle.well_typed.specs.Places.{InScope, LoopAround, Context, entry_with, loop_with}
 use Rattle.well_typed.specs.Types as types
-use Rattle.lowered_lines.specs.Lines.{takes_its_type}
 use Rattle.cfg_build.specs.Build as build
 use Rattle.cfg_graph.specs.declared.terminator.Unwind.{Unwind}
 use Rattle.cfg_build.specs.Build.{Frame, Lowers, act, act_by, is_last, done_by, then_lower, change, from_changed, jumps_if}
@@ -239,10 +238,9 @@ module _ (g : Ground) where
   Over n [] = Unit {0}
   Over n (m ∷ ms) = (nat_lt n (number_of m) ≡ true) × Over n ms
 
-  -- and a `let` takes a place apart at its own type
   abbrev pub Rise : List tree.Node → Type 0
   Rise [] = Unit {0}
-  Rise (n ∷ ns) = (Over (number_of n) ns × (takes_its_type n ≡ true)) × Rise ns
+  Rise (n ∷ ns) = Over (number_of n) ns × Rise ns
 
   abbrev pub AliasesOver : Aliases → List tree.Node → Type 0
   AliasesOver [] ns = Unit {0}
@@ -262,7 +260,7 @@ module _ (g : Ground) where
 
   pub rise_first : (xs ys : List tree.Node) → Rise (xs ++ ys) → Rise xs
   rise_first [] ys h = tt
-  rise_first (x ∷ xs) ys h = ((over_first (number_of x) xs ys h.0.0, h.0.1), rise_first xs ys h.1)
+  rise_first (x ∷ xs) ys h = (over_first (number_of x) xs ys h.0, rise_first xs ys h.1)
 
   pub rise_second : (xs ys : List tree.Node) → Rise (xs ++ ys) → Rise ys
   rise_second [] ys h = h
@@ -275,7 +273,7 @@ module _ (g : Ground) where
 
   pub rise_across : (xs ys : List tree.Node) → Rise (xs ++ ys) → Below xs ys
   rise_across [] ys h = tt
-  rise_across (x ∷ xs) ys h = (over_second (number_of x) xs ys h.0.0, rise_across xs ys h.1)
+  rise_across (x ∷ xs) ys h = (over_second (number_of x) xs ys h.0, rise_across xs ys h.1)
 
   aliases_first : (aliases : Aliases) (xs ys : List tree.Node) → AliasesOver aliases (xs ++ ys) → AliasesOver aliases xs
   aliases_first [] xs ys h = tt

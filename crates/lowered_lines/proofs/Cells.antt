@@ -200,10 +200,10 @@ module _ (g : Ground) where
   -- ---- and no two are the same
   mutual
     pub apart_cells : (own : Bool) (n : Node) → base.Rise g (nodes_of n) → Distinct (cells g.items own n)
-    apart_cells own (tree.node id at ty by form) r = distinct_made _ _ (cells_in g.items form) (keys_in form (λ k. (id == k) ≡ false) (over_apart id (nodes_in form) r.0.0)) (apart_in form r.1)
+    apart_cells own (tree.node id at ty by form) r = distinct_made _ _ (cells_in g.items form) (keys_in form (λ k. (id == k) ≡ false) (over_apart id (nodes_in form) r.0)) (apart_in form r.1)
 
     apart_reached : (n : Node) → base.Rise g (nodes_of n) → Distinct (reached_cells g.items n)
-    apart_reached (tree.node id at ty by form) r = distinct_made _ _ (cells_in g.items form) (keys_in form (λ k. (id == k) ≡ false) (over_apart id (nodes_in form) r.0.0)) (apart_in form r.1)
+    apart_reached (tree.node id at ty by form) r = distinct_made _ _ (cells_in g.items form) (keys_in form (λ k. (id == k) ≡ false) (over_apart id (nodes_in form) r.0)) (apart_in form r.1)
 
     pub apart_in : (form : Form) → base.Rise g (nodes_in form) → Distinct (cells_in g.items form)
     apart_in (tree.Number value_) r = tt
@@ -344,7 +344,7 @@ module _ (g : Ground) where
   in_pattern (tree.node id at ty by form) P h = (h.0, keys_in form P h.1)
 
   inside : (p : Node) → base.Rise g (nodes_of p) → OfKeys (λ k. (number_of p == k) ≡ false) (cells_in g.items (form_of p)) × Distinct (cells_in g.items (form_of p))
-  inside (tree.node id at ty by form) r = (keys_in form (λ k. (id == k) ≡ false) (over_apart id (nodes_in form) r.0.0), apart_in form r.1)
+  inside (tree.node id at ty by form) r = (keys_in form (λ k. (id == k) ≡ false) (over_apart id (nodes_in form) r.0), apart_in form r.1)
 
   keys_of_params : (params : List ParamTree) (P : ℕ → Type 0) → OfNodes P (param_nodes params) → OfKeys P (map entry_of_param params) × OfKeys P (cells_of_params params)
   keys_of_params [] P h = (tt, tt)

@@ -549,7 +549,7 @@ module _ (g : Ground) where
     pub sound : (a : Around) → base.Fine g x a (nodes_among ns) → Sound (lower.statements F a (lower.lower_all F ns))
 
   statement_keyed : (x : Context) (form : Form) (id : ℕ) (at : Pos) (ty : TyId) (by : Option Use) → Holds (typing.statement (K x) form) → Cells (cells g.items true (tree.node id at ty by form)) → names.Keyed g (typing.entries_in form)
-  statement_keyed x (tree.Let p absent) id at ty by h c = names.keyed g p typing.whole (ty_of p) h.1 (base.cells_first g (cells g.items true p) (initial_cells g.items p absent) (base.cells_second g _ (cells_in g.items (tree.Let p absent)) c))
+  statement_keyed x (tree.Let p absent) id at ty by h c = names.keyed g p typing.whole (ty_of p) h.1.0 (base.cells_first g (cells g.items true p) (initial_cells g.items p absent) (base.cells_second g _ (cells_in g.items (tree.Let p absent)) c))
   statement_keyed x (tree.Let p (present v)) id at ty by h c = names.keyed g p _ (ty_of p) h.1.1.0 (base.cells_first g (cells g.items true p) (initial_cells g.items p (present v)) (base.cells_second g _ (cells_in g.items (tree.Let p (present v))) c))
   statement_keyed x (tree.Evaluate expression) id at ty by h c = tt
   statement_keyed x (tree.Number value) id at ty by h c = absurd (untrue h)
@@ -1393,7 +1393,7 @@ module _ (g : Ground) where
           sound = λ a f own to. base.scoped g id true _ (rules.pended g true innermost (L expression).head _ (rules.inner g) (λ d. k.cell ce (rules.made_by_drop g (L expression).head.ty d)) (k.evaluates true ce a (fine_in x a (tree.node id at ty by (tree.Evaluate expression)) (nodes_of expression) f) false (Into (L expression).head.id) (λ v. k.cell ce v)));
         }
     stmt_good x (tree.Let p absent) id at ty by h r c =
-        let keys = names.bound_keys g ((shape g.items p).bindings (whole_local 0)) (entries_of p) (names.named g p typing.whole (ty_of p) h.1 (whole_local 0)) (statement_keyed x (tree.Let p absent) id at ty by h c) in
+        let keys = names.bound_keys g ((shape g.items p).bindings (whole_local 0)) (entries_of p) (names.named g p typing.whole (ty_of p) h.1.0 (whole_local 0)) (statement_keyed x (tree.Let p absent) id at ty by h c) in
         record {
           ended = λ e. absurd (untrue e);
           leaves = λ a own to. branches.declared_leaves g x.loops ((L p).shape.bindings (whole_local 0));
@@ -1416,42 +1416,42 @@ module _ (g : Ground) where
     stmt_good x (tree.Let (tree.node idp atp typ byp tree.Wildcard) (present v)) id at ty by h r c =
         let p = tree.node idp atp typ byp tree.Wildcard in
         let cs = base.cells_second g _ (cells_in g.items (tree.Let p (present v))) c in
-        let it = parts_let x p v (head id ty by) (node_good x v Base h.0 (base.rise_second g (nodes_of p) (nodes_of v) r.1)) h.0 (typing.matched_in true (K x) v) h.1.1.0 (and_first _ _ h.1.1.1) r.0.1 (base.cells_first g (cells g.items true p) (reached_cells g.items v) cs) (base.cells_second g (cells g.items true p) (reached_cells g.items v) cs) in
+        let it = parts_let x p v (head id ty by) (node_good x v Base h.0 (base.rise_second g (nodes_of p) (nodes_of v) r.1)) h.0 (typing.matched_in true (K x) v) h.1.1.0 (and_first _ _ h.1.1.1.0) h.1.1.1.1.0 (base.cells_first g (cells g.items true p) (reached_cells g.items v) cs) (base.cells_second g (cells g.items true p) (reached_cells g.items v) cs) in
         record { ended = λ e a own to. it.ended e a; leaves = λ a own to. it.leaves a; sound = λ a f own to. it.sound a (base.fine_second g x a (nodes_of p) (nodes_of v) (fine_in x a (tree.node id at ty by (tree.Let p (present v))) (nodes_of p ++ nodes_of v) f)) }
     stmt_good x (tree.Let (tree.node idp atp typ byp (tree.NumberPattern value)) (present v)) id at ty by h r c =
         let p = tree.node idp atp typ byp (tree.NumberPattern value) in
         let cs = base.cells_second g _ (cells_in g.items (tree.Let p (present v))) c in
-        let it = parts_let x p v (head id ty by) (node_good x v Base h.0 (base.rise_second g (nodes_of p) (nodes_of v) r.1)) h.0 (typing.matched_in true (K x) v) h.1.1.0 (and_first _ _ h.1.1.1) r.0.1 (base.cells_first g (cells g.items true p) (reached_cells g.items v) cs) (base.cells_second g (cells g.items true p) (reached_cells g.items v) cs) in
+        let it = parts_let x p v (head id ty by) (node_good x v Base h.0 (base.rise_second g (nodes_of p) (nodes_of v) r.1)) h.0 (typing.matched_in true (K x) v) h.1.1.0 (and_first _ _ h.1.1.1.0) h.1.1.1.1.0 (base.cells_first g (cells g.items true p) (reached_cells g.items v) cs) (base.cells_second g (cells g.items true p) (reached_cells g.items v) cs) in
         record { ended = λ e a own to. it.ended e a; leaves = λ a own to. it.leaves a; sound = λ a f own to. it.sound a (base.fine_second g x a (nodes_of p) (nodes_of v) (fine_in x a (tree.node id at ty by (tree.Let p (present v))) (nodes_of p ++ nodes_of v) f)) }
     stmt_good x (tree.Let (tree.node idp atp typ byp (tree.TruthPattern value)) (present v)) id at ty by h r c =
         let p = tree.node idp atp typ byp (tree.TruthPattern value) in
         let cs = base.cells_second g _ (cells_in g.items (tree.Let p (present v))) c in
-        let it = parts_let x p v (head id ty by) (node_good x v Base h.0 (base.rise_second g (nodes_of p) (nodes_of v) r.1)) h.0 (typing.matched_in true (K x) v) h.1.1.0 (and_first _ _ h.1.1.1) r.0.1 (base.cells_first g (cells g.items true p) (reached_cells g.items v) cs) (base.cells_second g (cells g.items true p) (reached_cells g.items v) cs) in
+        let it = parts_let x p v (head id ty by) (node_good x v Base h.0 (base.rise_second g (nodes_of p) (nodes_of v) r.1)) h.0 (typing.matched_in true (K x) v) h.1.1.0 (and_first _ _ h.1.1.1.0) h.1.1.1.1.0 (base.cells_first g (cells g.items true p) (reached_cells g.items v) cs) (base.cells_second g (cells g.items true p) (reached_cells g.items v) cs) in
         record { ended = λ e a own to. it.ended e a; leaves = λ a own to. it.leaves a; sound = λ a f own to. it.sound a (base.fine_second g x a (nodes_of p) (nodes_of v) (fine_in x a (tree.node id at ty by (tree.Let p (present v))) (nodes_of p ++ nodes_of v) f)) }
     stmt_good x (tree.Let (tree.node idp atp typ byp (tree.StructPattern fields_)) (present v)) id at ty by h r c =
         let p = tree.node idp atp typ byp (tree.StructPattern fields_) in
         let cs = base.cells_second g _ (cells_in g.items (tree.Let p (present v))) c in
-        let it = parts_let x p v (head id ty by) (node_good x v Base h.0 (base.rise_second g (nodes_of p) (nodes_of v) r.1)) h.0 (typing.matched_in true (K x) v) h.1.1.0 (and_first _ _ h.1.1.1) r.0.1 (base.cells_first g (cells g.items true p) (reached_cells g.items v) cs) (base.cells_second g (cells g.items true p) (reached_cells g.items v) cs) in
+        let it = parts_let x p v (head id ty by) (node_good x v Base h.0 (base.rise_second g (nodes_of p) (nodes_of v) r.1)) h.0 (typing.matched_in true (K x) v) h.1.1.0 (and_first _ _ h.1.1.1.0) h.1.1.1.1.0 (base.cells_first g (cells g.items true p) (reached_cells g.items v) cs) (base.cells_second g (cells g.items true p) (reached_cells g.items v) cs) in
         record { ended = λ e a own to. it.ended e a; leaves = λ a own to. it.leaves a; sound = λ a f own to. it.sound a (base.fine_second g x a (nodes_of p) (nodes_of v) (fine_in x a (tree.node id at ty by (tree.Let p (present v))) (nodes_of p ++ nodes_of v) f)) }
     stmt_good x (tree.Let (tree.node idp atp typ byp (tree.VariantPattern variant is_test fields_)) (present v)) id at ty by h r c =
         let p = tree.node idp atp typ byp (tree.VariantPattern variant is_test fields_) in
         let cs = base.cells_second g _ (cells_in g.items (tree.Let p (present v))) c in
-        let it = parts_let x p v (head id ty by) (node_good x v Base h.0 (base.rise_second g (nodes_of p) (nodes_of v) r.1)) h.0 (typing.matched_in true (K x) v) h.1.1.0 (and_first _ _ h.1.1.1) r.0.1 (base.cells_first g (cells g.items true p) (reached_cells g.items v) cs) (base.cells_second g (cells g.items true p) (reached_cells g.items v) cs) in
+        let it = parts_let x p v (head id ty by) (node_good x v Base h.0 (base.rise_second g (nodes_of p) (nodes_of v) r.1)) h.0 (typing.matched_in true (K x) v) h.1.1.0 (and_first _ _ h.1.1.1.0) h.1.1.1.1.0 (base.cells_first g (cells g.items true p) (reached_cells g.items v) cs) (base.cells_second g (cells g.items true p) (reached_cells g.items v) cs) in
         record { ended = λ e a own to. it.ended e a; leaves = λ a own to. it.leaves a; sound = λ a f own to. it.sound a (base.fine_second g x a (nodes_of p) (nodes_of v) (fine_in x a (tree.node id at ty by (tree.Let p (present v))) (nodes_of p ++ nodes_of v) f)) }
     stmt_good x (tree.Let (tree.node idp atp typ byp (tree.TuplePattern parts_)) (present v)) id at ty by h r c =
         let p = tree.node idp atp typ byp (tree.TuplePattern parts_) in
         let cs = base.cells_second g _ (cells_in g.items (tree.Let p (present v))) c in
-        let it = parts_let x p v (head id ty by) (node_good x v Base h.0 (base.rise_second g (nodes_of p) (nodes_of v) r.1)) h.0 (typing.matched_in true (K x) v) h.1.1.0 (and_first _ _ h.1.1.1) r.0.1 (base.cells_first g (cells g.items true p) (reached_cells g.items v) cs) (base.cells_second g (cells g.items true p) (reached_cells g.items v) cs) in
+        let it = parts_let x p v (head id ty by) (node_good x v Base h.0 (base.rise_second g (nodes_of p) (nodes_of v) r.1)) h.0 (typing.matched_in true (K x) v) h.1.1.0 (and_first _ _ h.1.1.1.0) h.1.1.1.1.0 (base.cells_first g (cells g.items true p) (reached_cells g.items v) cs) (base.cells_second g (cells g.items true p) (reached_cells g.items v) cs) in
         record { ended = λ e a own to. it.ended e a; leaves = λ a own to. it.leaves a; sound = λ a f own to. it.sound a (base.fine_second g x a (nodes_of p) (nodes_of v) (fine_in x a (tree.node id at ty by (tree.Let p (present v))) (nodes_of p ++ nodes_of v) f)) }
     stmt_good x (tree.Let (tree.node idp atp typ byp (tree.ArrayPattern elements)) (present v)) id at ty by h r c =
         let p = tree.node idp atp typ byp (tree.ArrayPattern elements) in
         let cs = base.cells_second g _ (cells_in g.items (tree.Let p (present v))) c in
-        let it = parts_let x p v (head id ty by) (node_good x v Base h.0 (base.rise_second g (nodes_of p) (nodes_of v) r.1)) h.0 (typing.matched_in true (K x) v) h.1.1.0 (and_first _ _ h.1.1.1) r.0.1 (base.cells_first g (cells g.items true p) (reached_cells g.items v) cs) (base.cells_second g (cells g.items true p) (reached_cells g.items v) cs) in
+        let it = parts_let x p v (head id ty by) (node_good x v Base h.0 (base.rise_second g (nodes_of p) (nodes_of v) r.1)) h.0 (typing.matched_in true (K x) v) h.1.1.0 (and_first _ _ h.1.1.1.0) h.1.1.1.1.0 (base.cells_first g (cells g.items true p) (reached_cells g.items v) cs) (base.cells_second g (cells g.items true p) (reached_cells g.items v) cs) in
         record { ended = λ e a own to. it.ended e a; leaves = λ a own to. it.leaves a; sound = λ a f own to. it.sound a (base.fine_second g x a (nodes_of p) (nodes_of v) (fine_in x a (tree.node id at ty by (tree.Let p (present v))) (nodes_of p ++ nodes_of v) f)) }
     stmt_good x (tree.Let (tree.node idp atp typ byp (tree.OrPattern alternatives)) (present v)) id at ty by h r c =
         let p = tree.node idp atp typ byp (tree.OrPattern alternatives) in
         let cs = base.cells_second g _ (cells_in g.items (tree.Let p (present v))) c in
-        let it = parts_let x p v (head id ty by) (node_good x v Base h.0 (base.rise_second g (nodes_of p) (nodes_of v) r.1)) h.0 (typing.matched_in true (K x) v) h.1.1.0 (and_first _ _ h.1.1.1) r.0.1 (base.cells_first g (cells g.items true p) (reached_cells g.items v) cs) (base.cells_second g (cells g.items true p) (reached_cells g.items v) cs) in
+        let it = parts_let x p v (head id ty by) (node_good x v Base h.0 (base.rise_second g (nodes_of p) (nodes_of v) r.1)) h.0 (typing.matched_in true (K x) v) h.1.1.0 (and_first _ _ h.1.1.1.0) h.1.1.1.1.0 (base.cells_first g (cells g.items true p) (reached_cells g.items v) cs) (base.cells_second g (cells g.items true p) (reached_cells g.items v) cs) in
         record { ended = λ e a own to. it.ended e a; leaves = λ a own to. it.leaves a; sound = λ a f own to. it.sound a (base.fine_second g x a (nodes_of p) (nodes_of v) (fine_in x a (tree.node id at ty by (tree.Let p (present v))) (nodes_of p ++ nodes_of v) f)) }
     stmt_good x (tree.Let (tree.node idp atp typ byp (tree.Number value)) (present v)) id at ty by h r c = absurd (untrue h.1.1.0.1)
     stmt_good x (tree.Let (tree.node idp atp typ byp (tree.Truth value)) (present v)) id at ty by h r c = absurd (untrue h.1.1.0.1)

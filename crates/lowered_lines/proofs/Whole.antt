@@ -43,7 +43,7 @@ use Rattle.cfg_build.specs.Lower.{body_of, frame}
 use Rattle.cfg_build.proofs.Bodies.{lowered_is_ranked, lowered_keeps_to_cleanup}
 use Rattle.cfg_build.proofs.Lines as lines
 use Rattle.cfg_build.proofs.Typed.{well_typed_names_loops}
-use Rattle.lowered_lines.specs.Lines.{takes_its_type, TakesPlacesApart, LocalsHaveNoFault, LinesHaveNoFault, LoweredLinesHaveNoFault}
+use Rattle.lowered_lines.specs.Lines.{LocalsHaveNoFault, LinesHaveNoFault, LoweredLinesHaveNoFault}
 use Rattle.cfg_build.proofs.TypedLines as typed_lines
 use Rattle.lowered_lines.proofs.Base as base
 use Rattle.lowered_lines.proofs.Base.{Ground, untrue, and_first, and_second, same_id, found}
@@ -72,12 +72,12 @@ all_over g n (m ∷ ns) h =
     further n m [] less h = tt
     further n m (k ∷ ns) less h = (lt-ltb n (number_of k) (let a = ltb-true n m less in let b = ltb-true m (number_of k) h.0 in omega (a, b, arith)), further n m ns less h.1)
 
-rising : (g : Ground) (ns : List Node) → do_rise (map number_of ns) ≡ true → list_all takes_its_type ns ≡ true → base.Rise g ns
-rising g [] h t = tt
-rising g (n ∷ ns) h t = ((all_over g (number_of n) ns h, and_first (takes_its_type n) _ t), rising g ns (and_second (FirstOver (number_of n) (map number_of ns)) _ h) (and_second (takes_its_type n) _ t))
+rising : (g : Ground) (ns : List Node) → do_rise (map number_of ns) ≡ true → base.Rise g ns
+rising g [] h = tt
+rising g (n ∷ ns) h = (all_over g (number_of n) ns h, rising g ns (and_second (FirstOver (number_of n) (map number_of ns)) _ h))
 
 -- ---- the lines of a body
-module _ (p : ProgramTree) (w : WellTyped p) (n : ℕ) (body : BodyTree) (at_n : slice_get p.bodies n ≡ Some body) (apart : TakesPlacesApart body) (clean : LocalsHaveNoFault p.items (length p.bodies) (body_of p.items body)) where
+module _ (p : ProgramTree) (w : WellTyped p) (n : ℕ) (body : BodyTree) (at_n : slice_get p.bodies n ≡ Some body) (clean : LocalsHaveNoFault p.items (length p.bodies) (body_of p.items body)) where
   abbrev g : Ground
   g = record {
     items = p.items;
@@ -102,7 +102,7 @@ module _ (p : ProgramTree) (w : WellTyped p) (n : ℕ) (body : BodyTree) (at_n :
   typed = facts.body_at p w n body at_n
 
   rise : base.Rise g (body_nodes body)
-  rise = rising g (body_nodes body) typed.2.1.1.1.0 apart
+  rise = rising g (body_nodes body) typed.2.1.1.1.0
 
   -- ---- each cell is found by its key
   all_cells : base.CellsOk g (locals p.items body)
@@ -504,4 +504,4 @@ module _ (p : ProgramTree) (w : WellTyped p) (n : ℕ) (body : BodyTree) (at_n :
       )
 
 pub lowered_lines_have_no_fault : LoweredLinesHaveNoFault
-lowered_lines_have_no_fault program w n body at apart clean = no_fault program w n body at apart clean
+lowered_lines_have_no_fault program w n body at clean = no_fault program w n body at clean

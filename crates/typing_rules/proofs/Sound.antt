@@ -19,6 +19,7 @@ pub mod Named
 pub mod OneName
 pub mod Operators
 pub mod Parts
+pub mod PartsFirst
 pub mod Patterns
 pub mod Places
 pub mod References

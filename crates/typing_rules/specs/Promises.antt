@@ -9,7 +9,7 @@ use Rattle.mir_ty.specs.declared.def.Sig.{Sig}
 use Rattle.mir_ty.specs.declared.def.TraitDef.{TraitDef}
 use Rattle.mir_ty.specs.declared.ty.Ty.{Ty}
 use Rattle.mir_ty.specs.declared.ty.TyId.{TyId}
-use Rattle.mir_ty.specs.AreItems.{AreDistinct}
+use Rattle.mir_ty.specs.AreItems.{AreDistinct, types_in}
 use Rattle.mir_ty.specs.ItemTable.{ItemTable, type_at}
 use Rattle.mir_ty.specs.Parts.{field_ty, held_by, parts_of}
 use Rattle.typed_tree.specs.Tree.{Node, BodyTree}
@@ -81,6 +81,9 @@ pub record ComesAfter (types : List Ty) (k : ℕ) (def : ClosureDef) : Type 0 wh
 pub record AreReady (items : ItemTable) : Type 0 where
   pub begins : (n : ℕ) (ty : Ty) → slice_get scalars n ≡ Some ty → slice_get items.types n ≡ Some ty
   pub distinct : AreDistinct items.types
+  -- the types in a type, behind boxes and references too, have lower numbers
+  pub parts_first : (id part : TyId) (ty : Ty) → type_at items id ≡ Some ty → Contains (types_in ty) part → suc part.0 ≤
+      id.0
   pub held : (id part : TyId) (ty : Ty) → type_at items id ≡ Some ty → Contains (held_by items ty) part → IsAlone
       items part
   pub parts : (id part : TyId) (variant n : ℕ) → field_ty items id variant n ≡ Some part → IsAlone items part

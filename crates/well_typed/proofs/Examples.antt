@@ -202,6 +202,15 @@ range_breaks : of_main (n 0 unit (Block (nodes ((n 1 unit (Evaluate (n 2 unit (P
     2147483648))))))) ∷ [])) absent)) ≡ false
 range_breaks = refl
 
+-- a `let` is of a type of the table
+let_type_stands : of_main (n 0 unit (Block (nodes ((n 1 unit (Let (used 2 i32 Use.Copy name) absent)) ∷ [])) absent)) ≡
+    true
+let_type_stands = refl
+
+let_type_breaks : of_main (n 0 unit (Block (nodes ((n 1 unit (Let (used 2 (ty_no 99) Use.Move name) absent)) ∷ []))
+    absent)) ≡ false
+let_type_breaks = refl
+
 -- operands have one integer type
 sum_stands : of_main (n 0 unit (Block (nodes ((n 1 unit (Evaluate (n 2 i32 (Arithmetic Math.Add (n 3 i32 (Number (pos
     1))) (n 4 i32 (Number (pos 2))))))) ∷ [])) absent)) ≡ true

@@ -1,10 +1,10 @@
 -- When a node of a typed body is well typed: one row a form (The Rust Reference, "Expressions", "Statements"). A row
 -- asks nothing but what its children are by themselves, the entries in scope, the loops around it and the items.
-use Rattle.std.specs.Prelude.{ℕ, nat_lt, Bool, true, false, ◌==◌, ◌&&◌, ◌||◌, not, List, [], ◌∷◌, Option, Some, None, is_none, length, slice_get, option_and_then, if◌then◌else◌}
+use Rattle.std.specs.Prelude.{ℕ, nat_lt, Bool, true, false, ◌==◌, ◌&&◌, ◌||◌, not, List, [], ◌∷◌, Option, Some, None, is_none, is_some, length, slice_get, option_and_then, if◌then◌else◌}
 use Rattle.std.specs.List.{list_any, filter_map}
 use Rattle.std.specs.Option.{option_map_or}
 use Rattle.mir_ty.specs.declared.ty.TyId.{TyId}
-use Rattle.mir_ty.specs.ItemTable.{ItemTable}
+use Rattle.mir_ty.specs.ItemTable.{ItemTable, type_at}
 use Rattle.mir_ty.specs.Parts.{field_ty}
 use Rattle.typed_tree.specs.declared.node.Use.{Use}
 use Rattle.typed_tree.specs.Nodes.{nodes_of}
@@ -123,7 +123,8 @@ of_scrutinee c p scrutinee =
     fact (are_distinct (names_of p)) & pattern c.items (matched_in false c scrutinee) (ty_of scrutinee) p
 
 -- One name takes the value of the initialiser. Another pattern takes its place apart, or a temporary; a place that is
--- taken apart is of the pattern's own type, so none of type `!` is.
+-- taken apart is of the pattern's own type, so none of type `!` is. The type of the pattern is in the table: it is written
+-- or is that of the value.
 abbrev pub as_initialiser : Node → Standing
 as_initialiser p = if is_one_name p then Wanted (ty_of p) else Base
 
@@ -135,7 +136,8 @@ of_let c p value =
     fact (are_distinct (names_of p)) &
     pattern c.items (if is_one_name p then whole else matched_in true c value) (ty_of p) p &
     fact (fits c.items (ty_of p) (ty_of value) && not (is_reference c.items (ty_of value))) &
-    fact (is_one_name p || (not (is_place (form_of value)) || is_same (ty_of value) (ty_of p)))
+    fact (is_one_name p || (not (is_place (form_of value)) || is_same (ty_of value) (ty_of p))) &
+    fact (is_some (type_at c.items (ty_of p)))
 
 abbrev mutual
   -- a node as it stands
@@ -314,7 +316,8 @@ abbrev mutual
 
   pub statement : Context → Form → Claim
   statement c (Let p absent) =
-      fact (are_distinct (names_of p)) & pattern c.items whole (ty_of p) p
+      fact (are_distinct (names_of p)) & pattern c.items whole (ty_of p) p &
+      fact (is_some (type_at c.items (ty_of p)))
   statement c (Let p (present value)) =
       typed c (as_initialiser p) value & of_let c p value
   statement c (Evaluate expression) = typed c Taken expression

@@ -10,6 +10,7 @@ use Rattle.mir_base.specs.declared.int_kind.IntKind.{IntKind}
 use Rattle.mir_ty.specs.declared.def.ClosureDef.{ClosureDef}
 use Rattle.mir_ty.specs.declared.ty.Ty.{Ty}
 use Rattle.mir_ty.specs.declared.ty.TyId.{TyId}
+use Rattle.mir_ty.specs.AreItems.{types_in}
 use Rattle.mir_ty.specs.ItemTable.{ItemTable, type_at, with_type}
 use Rattle.mir_ty.specs.Parts.{held_by, parts_of}
 use Rattle.mir_ty.proofs.ListLemmas.{slice_get-append_left, slice_get-last, slice_get-push_cases}
@@ -23,6 +24,7 @@ use Rattle.typing_rules.specs.RowPromises.{IsMade}
 use Rattle.typing_rules.proofs.Sound.Gives.{given}
 use Rattle.typing_rules.proofs.Sound.Later.{some_got, type_later, ready_later, alone_later, known_later, same_reference}
 use Rattle.typing_rules.proofs.Sound.Operators.{same_id}
+use Rattle.typing_rules.proofs.Sound.PartsFirst.{part_first}
 
 -- ---- equal types are the same
 
@@ -147,6 +149,12 @@ module _ (items : ItemTable) (ty : Ty) where
         made.parts part variant n (ap (λ xs. slice_get xs n) (sym (parts_same ty variant)) ∙ (ap (λ u. slice_get
         (parts_of (with_type items ty) u variant) n) new_.1 ∙ h))
 
+    first_more : (id part : TyId) (t : Ty) → Two id.0 t → Contains (types_in t) part → suc part.0 ≤ id.0
+    first_more id part t (inl is) has = all.parts_first id part t is has
+    first_more id part t (inr new_) has =
+        subst (λ n. suc part.0 ≤ n) (sym new_.0) (part_first items ty made part (subst (λ u. Contains (types_in u) part)
+        (sym new_.1) has))
+
     inside_more : (id to : TyId) (t : Ty) → Two id.0 t → inside_in t ≡ Some to → IsReady items to × IsTrue
         (not (is_reference items to))
     inside_more id to t (inl is) h = all.inside id to (ap (option_and_then inside_in) is ∙ h)
@@ -195,6 +203,7 @@ module _ (items : ItemTable) (ty : Ty) where
         record {
           begins = λ n t h. more_types.types n t (all.begins n t h);
           distinct = λ i j t a b. distinct_more absent i j t (two i t a) (two j t b);
+          parts_first = λ id part t at has. first_more id part t (two id.0 t at) has;
           held = λ id part t at has. alone_later more_types part (held_more id part t (two id.0 t at) has);
           parts = λ id part variant n h.
               let known = some_got (λ u. slice_get (parts_of (with_type items ty) u variant) n) (type_at (with_type

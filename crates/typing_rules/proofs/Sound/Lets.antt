@@ -1,16 +1,18 @@
 -- `let`.
 use Rattle.std.proofs.Common.{◌≡◌, ℕ, Bool, true, false, ◌&&◌, ◌||◌, not, if◌then◌else◌, List, Option, Some, None, IsTrue, refl, ap, sym, subst, arith, Result, Ok, Err, ◌∙◌}
+use Rattle.std.specs.Prelude.{is_some}
 use Rattle.std.proofs.lemmas.Option.{none-some, same_Some}
 use Rattle.mir_base.specs.declared.place_in_text.Pos.{Pos}
 use Rattle.mir_base.specs.declared.rule.Rule.{Rule}
 use Rattle.mir_ty.specs.declared.ty.TyId.{TyId}
-use Rattle.mir_ty.specs.ItemTable.{ItemTable}
+use Rattle.mir_ty.specs.ItemTable.{ItemTable, type_at}
 use Rattle.typed_tree.specs.Tree as tree
 use Rattle.typed_tree.specs.Tree.{Node, node, Nodes, MaybeNode, absent, present}
 use Rattle.well_typed.specs.Claim.{Holds}
 use Rattle.well_typed.specs.Nodes as well
 use Rattle.well_typed.specs.Nodes.{typed, statements, statement, is_one_name, ends_in}
-use Rattle.well_typed.specs.Patterns.{Matched, pattern}
+use Rattle.well_typed.specs.Names.{are_distinct}
+use Rattle.well_typed.specs.Patterns.{Matched, pattern, names_of}
 use Rattle.well_typed.specs.Places.{Context, ty_of, with_entries, Base, Wanted, form_of, is_place}
 use Rattle.well_typed.specs.Types.{is_same, fits, is_never, is_never_ty, is_unit, is_dyn, is_reference}
 use Rattle.well_typed.proofs.ClaimLemmas.{and_true}
@@ -24,7 +26,7 @@ use Rattle.typing_rules.specs.Scope.{Env, Entry, with_variables}
 use Rattle.typing_rules.proofs.Sound.Branches.{unit_is}
 use Rattle.typing_rules.proofs.Sound.Fitted.{fits_self, same_self, or_left, or_right, FitOf, it_fits, is_coerced, differs, how_fits}
 use Rattle.typing_rules.proofs.Sound.Gives.{grows_number, ◌⋆◌, bind, given, found, after_number, numbered, grows_trans, grows_refl, knows_later, knows_number, obeyed}
-use Rattle.typing_rules.proofs.Sound.Later.{alone_ready, alone_no_reference, same_is, same_reference, agrees_later}
+use Rattle.typing_rules.proofs.Sound.Later.{ready_later, alone_ready, alone_no_reference, same_is, same_reference, agrees_later}
 use Rattle.typing_rules.proofs.Sound.Operators.{same_id, as_wanted}
 use Rattle.typing_rules.proofs.Sound.Scopes.{behind, bound_stands, knows_bound}
 use Rattle.std.proofs.lemmas.Bool.{false≢true}
@@ -79,19 +81,31 @@ is_its_own None n ty u h same own =
     either true = refl
     either false = same_self (ty_of n).0
 
+-- the type of what is bound is in the table
+is_in_table : (items : ItemTable) (ty u : TyId) → ty ≡ u → IsReady items ty → IsTrue (is_some (type_at items u))
+is_in_table items ty u same ready = subst (λ x. IsTrue (is_some (type_at items x))) same (ap is_some ready.1)
+
+-- the facts of a `let` with a value
+put_together : (c : Context) (p n : Node) → Holds (typed c (well.as_initialiser p) n) → IsTrue (are_distinct (names_of p)) →
+    Holds (pattern c.items (if is_one_name p then well.whole else well.matched_in true c n) (ty_of p) p) → IsTrue (fits
+    c.items (ty_of p) (ty_of n) && not (is_reference c.items (ty_of n))) → IsTrue (is_one_name p || (not (is_place (form_of
+    n)) || is_same (ty_of n) (ty_of p))) → IsTrue (is_some (type_at c.items (ty_of p))) → Holds (statement c (tree.Let p
+    (present n)))
+put_together c p n value names taken fit own there = value ⋆ names ⋆ taken ⋆ fit ⋆ own ⋆ there
+
 -- what a statement is, apart from what is behind it
 let_holds : (env : Env) (one : Bool) (declared : Option TyId) (t w : State) (v : MaybeNode) (ty : TyId) (n : ℕ) (b :
     Node × List
     Entry) → Grows t w → let_ty declared v ≡ Some ty → IsInitialiser env one declared t v → IsInitialiser env one
     declared w v
-    → IsPattern (of_value env one v t.items) ty n w b → is_one_name b.0 ≡ one → (p : Spot) → Stands env w p → Holds
-    (statement
-    (at_spot w.items env.answer p) (tree.Let b.0 v))
-let_holds env one declared t w absent ty n b g is_ty now later is is_one p stands =
+    → IsPattern (of_value env one v t.items) ty n w b → is_one_name b.0 ≡ one → IsReady w.items
+    ty → (p : Spot) → Stands env w p → Holds (statement (at_spot w.items env.answer p) (tree.Let b.0 v))
+let_holds env one declared t w absent ty n b g is_ty now later is is_one ready p stands =
     let holds = is.holds well.whole refl (λ h. refl) in
-    is.names ⋆ subst (λ x. Holds (pattern w.items well.whole x b.0)) (pattern_type w.items well.whole ty b.0 holds)
-    holds
-let_holds env true declared t w (present m) ty n b g is_ty now later is is_one p stands =
+    let same = pattern_type w.items well.whole ty b.0 holds in
+    is.names ⋆ subst (λ x. Holds (pattern w.items well.whole x b.0)) same holds ⋆
+    is_in_table w.items ty (ty_of b.0) same ready
+let_holds env true declared t w (present m) ty n b g is_ty now later is is_one ready p stands =
     let holds = is.holds well.whole refl (λ h. refl) in
     let same = pattern_type w.items well.whole ty b.0 holds in
     let c = at_spot w.items env.answer p in
@@ -101,8 +115,9 @@ let_holds env true declared t w (present m) ty n b g is_ty now later is is_one p
     is_one)
     (subst (λ x. Holds (pattern w.items well.whole x b.0)) same holds) ⋆
     and_true (fits w.items (ty_of b.0) (ty_of m)) _ fit_ (alone_no_reference w.items (ty_of m) later.alone) ⋆
-    or_left (is_one_name b.0) _ is_one
-let_holds env false declared t w (present m) ty n b g is_ty now later is is_one p stands =
+    or_left (is_one_name b.0) (not (is_place (form_of m)) || is_same (ty_of m) (ty_of b.0)) is_one ⋆
+    is_in_table w.items ty (ty_of b.0) same ready
+let_holds env false declared t w (present m) ty n b g is_ty now later is is_one ready p stands =
     let c = at_spot w.items env.answer p in
     let place = well.matched_in true c m in
     let holds = is.holds place refl (λ h. later.base.moves p stands (subst (λ x. IsTrue (not x)) (sym
@@ -110,12 +125,12 @@ let_holds env false declared t w (present m) ty n b g is_ty now later is is_one 
     h)) in
     let same = pattern_type w.items place ty b.0 holds in
     let fit_ = subst (λ x. IsTrue (fits w.items x (ty_of m))) same (value_fits w.items declared m ty is_ty later.fit) in
-    as_base c false b.0 m is_one (later.base.holds p stands) ⋆ is.names ⋆
-    subst (λ x. Holds (pattern w.items (if x then well.whole else place) (ty_of b.0) b.0)) (sym is_one) (subst (λ x.
-    Holds
-    (pattern w.items place x b.0)) same holds) ⋆
-    and_true (fits w.items (ty_of b.0) (ty_of m)) _ fit_ later.no_reference ⋆
-    or_right (is_one_name b.0) _ (is_its_own declared m ty (ty_of b.0) is_ty same later.own)
+    put_together c b.0 m (as_base c false b.0 m is_one (later.base.holds p stands)) is.names
+    (subst (λ x. Holds (pattern w.items (if x then well.whole else place) (ty_of b.0) b.0)) (sym is_one) (subst (λ x.
+    Holds (pattern w.items place x b.0)) same holds))
+    (and_true (fits w.items (ty_of b.0) (ty_of m)) _ fit_ later.no_reference)
+    (or_right (is_one_name b.0) _ (is_its_own declared m ty (ty_of b.0) is_ty same later.own))
+    (is_in_table w.items ty (ty_of b.0) same ready)
 
 value_ready : (env : Env) (one : Bool) (declared : Option TyId) (t : State) (n : Node) → IsInitialiser env one
     declared t
@@ -142,10 +157,8 @@ let_sound env at one written value matcher s good_w good_v good_m k =
     after_number (bind (good_w (numbered s)) λ declared t g d.
     bind (good_v declared t (knows_later env g (knows_number env k))) λ v u h e.
     found Rule.T16 at (let_ty declared v) _ λ ty is_ty.
-    bind (good_m (of_value env one v u.items) ty u (grows_trans (grows_number s) (grows_trans g h)) (ty_ready env one
-    declared u v ty is_ty (λ x is. d u h x is) (e u
-    (grows_refl
-    u)))) λ b x i f.
+    let is_ready = ty_ready env one declared u v ty is_ty (λ x is. d u h x is) (e u (grows_refl u)) in
+    bind (good_m (of_value env one v u.items) ty u (grows_trans (grows_number s) (grows_trans g h)) is_ready) λ b x i f.
     given _ λ ready w l.
     let on = grows_trans i l in
     let is = f w l in
@@ -153,8 +166,8 @@ let_sound env at one written value matcher s good_w good_v good_m k =
       record {
         holds = λ p stands rest behind_ then_.
             and_true true (is_unit w.items unit) refl (unit_is w.items (l.ready ready)) ⋆
-            let_holds env one declared u w v ty u.next_node b on is_ty (e u (grows_refl u)) (e w on) is.0 is.1 p
-            stands ⋆
+            let_holds env one declared u w v ty u.next_node b on is_ty (e u (grows_refl u)) (e w on) is.0 is.1
+            (ready_later on.items ty is_ready) p stands ⋆
             subst (λ es. Holds (statements (with_entries es (at_spot w.items env.answer p)) rest behind_)) (sym
             is.0.entries)
             (then_ (behind (are_bound false b.1) p) (bound_stands env u w p u.next_node w.next_node b.1 ku (omega arith)

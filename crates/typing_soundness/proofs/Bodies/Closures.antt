@@ -261,6 +261,7 @@ module _ (items : ItemTable) (captures : List TyId) (body : ℕ) where
         record {
           begins = all.begins;
           distinct = all.distinct;
+          parts_first = all.parts_first;
           held = λ id part ty at has. alone_later more_closures part (held_more id part ty at has);
           parts = λ id part variant n h.
               let g = some_got (λ ty. slice_get (parts_of more ty variant) n) (type_at items id) part h in

@@ -8,6 +8,7 @@ use Rattle.mir_base.specs.declared.place_in_text.Pos.{Pos}
 use Rattle.mir_base.specs.declared.rule.Rule.{Rule}
 use Rattle.mir_ty.specs.declared.ty.Ty.{Ty}
 use Rattle.mir_ty.specs.declared.ty.TyId.{TyId}
+use Rattle.mir_ty.specs.AreItems.{types_in}
 use Rattle.mir_ty.specs.ItemTable.{ItemTable, type_at}
 use Rattle.mir_ty.specs.Parts.{held_by, parts_of}
 use Rattle.src_tree.specs.Layout.{Parts}
@@ -154,6 +155,13 @@ is_scalar _ = false
 scalars_are : All (λ ty. IsTrue (is_scalar ty)) scalars
 scalars_are = (refl, (refl, (refl, (refl, (refl, (refl, (refl, (refl, tt))))))))
 
+nothing_in : (ty : Ty) (part : TyId) → IsTrue (is_scalar ty) → Contains (types_in ty) part → ⊥
+nothing_in (Ty.Int kind) part h has = omega (arith, has.1)
+nothing_in Ty.Bool part h has = omega (arith, has.1)
+nothing_in Ty.Unit part h has = omega (arith, has.1)
+nothing_in Ty.Never part h has = omega (arith, has.1)
+nothing_in _ part h has = false≢true h
+
 none_held : (ty : Ty) (part : TyId) → IsTrue (is_scalar ty) → Contains (held_by collected.no_items ty) part → ⊥
 none_held (Ty.Int kind) part h has = omega (arith, has.1)
 none_held Ty.Bool part h has = omega (arith, has.1)
@@ -188,6 +196,7 @@ ready_at_first : AreReady collected.no_items
 ready_at_first = record {
   begins = λ n ty h. h;
   distinct = scalars_distinct;
+  parts_first = λ id part ty at has. absurd (nothing_in ty part (scalar_at id ty at) has);
   held = λ id part ty at has. absurd (none_held ty part (scalar_at id ty at) has);
   parts = λ id part variant n is. absurd (part_at id part variant n (type_at collected.no_items id) refl is);
   held_fields = λ n part has. absurd (omega (arith, has.1));

@@ -306,6 +306,7 @@ module _ (items : ItemTable) (adt : Adt) (all : AreReady items) (h : AreFields i
   ready_with_adt = record {
     begins = all.begins;
     distinct = all.distinct;
+    parts_first = all.parts_first;
     held = λ id part ty at has. held_of ty id part at has;
     parts = λ id part variant n is. parts_at id part variant n (type_at items id) refl is;
     held_fields = held_in;
@@ -363,6 +364,7 @@ ready_with_trait : (items : ItemTable) (def : TraitDef) → AreReady items → A
 ready_with_trait items def all h = record {
   begins = all.begins;
   distinct = all.distinct;
+  parts_first = all.parts_first;
   held = all.held;
   parts = all.parts;
   held_fields = all.held_fields;
@@ -397,6 +399,7 @@ ready_with_body : (items : ItemTable) (sig : Sig) → AreReady items → All (Is
 ready_with_body items sig all params result = record {
   begins = all.begins;
   distinct = all.distinct;
+  parts_first = all.parts_first;
   held = all.held;
   parts = all.parts;
   held_fields = all.held_fields;
@@ -710,6 +713,7 @@ with_impl_ready : (items : ItemTable) (def : ImplDef) → AreReady items → Are
 with_impl_ready items def all = record {
   begins = all.begins;
   distinct = all.distinct;
+  parts_first = all.parts_first;
   held = all.held;
   parts = all.parts;
   held_fields = all.held_fields;

@@ -1,7 +1,7 @@
 -- What is well typed stays so where its nodes get other numbers, by a function that is one to one on the numbers that
 -- there are.
 use Rattle.std.proofs.Common.{◌≡◌, ℕ, suc, Bool, true, false, ◌&&◌, ◌||◌, ◌==◌, not, if◌then◌else◌, List, [], ◌∷◌, ◌++◌, map, length, slice_get, Option, Some, None, IsTrue, Contains, ◌⊎◌, inl, inr, refl, ap, sym, subst, ◌∙◌, arith}
-use Rattle.std.specs.Prelude.{is_none}
+use Rattle.std.specs.Prelude.{is_none, is_some}
 use Rattle.std.specs.List.{find, filter_map, cons_option, list_any}
 use Rattle.std.specs.Option.{option_map_or}
 use Rattle.std.proofs.lemmas.Bool.{eqb-true, false≢true}
@@ -14,7 +14,7 @@ use Rattle.mir_ty.specs.declared.def.TraitDef.{TraitDef}
 use Rattle.mir_ty.specs.declared.adt.Variant.{Variant}
 use Rattle.mir_ty.specs.declared.ty.TyId.{TyId}
 use Rattle.mir_ty.specs.Facts.{is_copy, has_drop_impl}
-use Rattle.mir_ty.specs.ItemTable.{ItemTable}
+use Rattle.mir_ty.specs.ItemTable.{ItemTable, type_at}
 use Rattle.mir_ty.specs.Parts.{field_ty}
 use Rattle.typed_tree.specs.declared.node.Use.{Use}
 use Rattle.typed_tree.specs.Nodes.{number_of, nodes_of, nodes_in, nodes_among, nodes_of_fields, nodes_if_any}
@@ -786,7 +786,8 @@ module _ (f : ℕ → ℕ) where
           (statement (context_on f c) (form_renumbered f form))
       statement_on c in_ (Let p absent) w h = (
         names_so p h.0,
-        place_pattern c.items whole whole (ty_of p) _ p refl (ty_on p) h.1,
+        place_pattern c.items whole whole (ty_of p) _ p refl (ty_on p) h.1.0,
+        subst Holds (λ i. fact (is_some (type_at c.items (sym (ty_on p) i)))) h.1.1,
       )
       statement_on c in_ (Let p (present value)) w h =
           let hv = typed_on c in_ (well.as_initialiser p) value (right_in (nodes_of p) (nodes_of value) w) h.0 in
@@ -794,7 +795,8 @@ module _ (f : ℕ → ℕ) where
           place_pattern c.items (if is_one_name p then whole else matched_in true c value) _ (ty_of p) _ p (if_same
           (is_one_name p) _ (matched_in true c value) _ whole (one_on p) (matched_same true c in_ (well.as_initialiser
           p) value h.0)) (ty_on p) h.1.1.0 ⋆ subst Holds (λ i. fact (fits c.items (sym (ty_on p) i) (sym (ty_on value)
-          i) && not (is_reference c.items (sym (ty_on value) i)))) h.1.1.1.0 ⋆ subst Holds (λ i. fact (sym (one_on p) i ||
-          (not (sym (place_of_on value) i) || is_same (sym (ty_on value) i) (sym (ty_on p) i)))) h.1.1.1.1
+          i) && not (is_reference c.items (sym (ty_on value) i)))) h.1.1.1.0 ⋆ subst Holds (λ i. fact (sym (one_on p) i || (not
+          (sym (place_of_on value) i) || is_same (sym (ty_on value) i) (sym (ty_on p) i)))) h.1.1.1.1.0 ⋆
+          subst Holds (λ i. fact (is_some (type_at c.items (sym (ty_on p) i)))) h.1.1.1.1.1
       statement_on c in_ (Evaluate expression) w h = typed_on c in_ Taken expression w h
       statement_on c in_ _ w h = absurd (let no_ : IsTrue false = h in cc)
