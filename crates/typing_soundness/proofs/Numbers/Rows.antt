@@ -786,8 +786,10 @@ module _ (f : ℕ → ℕ) where
           (statement (context_on f c) (form_renumbered f form))
       statement_on c in_ (Let p absent) w h = (
         names_so p h.0,
-        place_pattern c.items whole whole (ty_of p) _ p refl (ty_on p) h.1.0,
-        subst Holds (λ i. fact (is_some (type_at c.items (sym (ty_on p) i)))) h.1.1,
+        (
+          place_pattern c.items whole whole (ty_of p) _ p refl (ty_on p) h.1.0,
+          subst Holds (λ i. fact (is_some (type_at c.items (sym (ty_on p) i)))) h.1.1,
+        ),
       )
       statement_on c in_ (Let p (present value)) w h =
           let hv = typed_on c in_ (well.as_initialiser p) value (right_in (nodes_of p) (nodes_of value) w) h.0 in
