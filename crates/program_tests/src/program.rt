@@ -286,9 +286,11 @@ fn faults(rt: HostRuntime) -> Result<(), Fail> {
 }
 
 /// Two locals with a destructor each, and what a run of it writes.
-const LOCALS: &[u8] = b"struct D(i32);\nimpl Drop for D { fn drop(&mut self) {} }\nfn take(x: D) {}\nfn main() { let a = D(1); let b = D(2); }";
+const LOCALS: &[u8] =
+    b"struct D(i32);\nimpl Drop for D { fn drop(&mut self) {} }\nfn take(x: D) {}\nfn main() { let a = D(1); let b = D(2); }";
 
-const DROPPED: &str = "call main\nmake D#1\nmake D#2\ndrop D#2\nreturn D::drop\ndrop D#1\nreturn D::drop\nreturn main\nend: returned\n";
+const DROPPED: &str =
+    "call main\nmake D#1\nmake D#2\ndrop D#2\nreturn D::drop\ndrop D#1\nreturn D::drop\nreturn main\nend: returned\n";
 
 /// Each of the nine reads of 115 bytes in pieces of 16 fails in turn; the tenth is never made.
 #[test]
@@ -301,7 +303,11 @@ fn each_read_fails(rt: HostRuntime) -> Result<(), Fail> {
         let mut sink = MemSink::new(alloc, 1024, List::new(alloc));
         sink.reserve(1024)?;
         let status = mirdrop(alloc, words.as_slice(), &mut source, &mut sink);
-        let (wanted, written) = if read < 9 { (3, "fault: read\n") } else { (0, DROPPED) };
+        let (wanted, written) = if read < 9 {
+            (3, "fault: read\n")
+        } else {
+            (0, DROPPED)
+        };
         assert_eq!(rt; status, wanted);
         assert_eq!(rt; sink.bytes(), written.as_bytes());
     }
@@ -361,10 +367,26 @@ end
 /// The number of a line, what stands there instead, and what is written.
 static DAMAGED_ROWS: [(usize, &str, &str); 7] = [
     (1, "mirdrop 2", "refused: 8 BadListing at line 1\n"),
-    (13, "_1 = make D 0 (const 07_i32)", "refused: 8 BadListing at line 13\n"),
-    (13, "_1 = make D 0 (const 7_u32)", "refused: 9 G3 at line 13\n"),
-    (14, "drop _1 then 7 unwind resume", "refused: 9 G1 at line 14\n"),
-    (14, "drop _9 then 1 unwind resume", "refused: 9 G2 at line 14\n"),
+    (
+        13,
+        "_1 = make D 0 (const 07_i32)",
+        "refused: 8 BadListing at line 13\n",
+    ),
+    (
+        13,
+        "_1 = make D 0 (const 7_u32)",
+        "refused: 9 G3 at line 13\n",
+    ),
+    (
+        14,
+        "drop _1 then 7 unwind resume",
+        "refused: 9 G1 at line 14\n",
+    ),
+    (
+        14,
+        "drop _9 then 1 unwind resume",
+        "refused: 9 G2 at line 14\n",
+    ),
     (14, "drop _1 then 1 unwind 1", "refused: 9 G5 at line 14\n"),
     (9, "body 1 maine 0", "refused: 9 G1 at line 18\n"),
 ];

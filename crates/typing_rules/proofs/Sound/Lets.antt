@@ -287,7 +287,7 @@ in_parts_sound env (Some want) n t now later =
           fit = agrees_later g.items (Some want) (ty_of n) f;
           no_reference = subst (λ b. IsTrue (not b)) (sym (same_reference g.items (ty_of n) now.base.ready)) plain;
           own = or_right (not (is_place (form_of n))) _ (is_same_ty (is_same (ty_of n) want) (is_never t.items (ty_of
-            n)) parts f);
+              n)) parts f);
         }
     by parts (Coerced trait_no) e (is_coerced adt to from has) =
         apart (Coerced trait_no) e (λ f. false≢true (ap is_fit f))
