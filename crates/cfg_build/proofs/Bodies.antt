@@ -38,7 +38,7 @@ use Rattle.cfg_code.specs.Code.{BodyAt, FunctionAt}
 use Rattle.cfg_code.specs.Laws.{target_of, HoldsBody, HoldsProgram}
 use Rattle.cfg_code.specs.Spots.{Target, body_ways, StepAt, stays, goes, Joins}
 use Rattle.cfg_build.specs.Build.{Frame, Rest, Made, Building, ending, made, reserved, Lowers}
-use Rattle.cfg_build.specs.Laws.{NamesItsLoops, AllNameTheirLoops, LoweredRunsAsItsSource, LoweredWalksAsItRunsFreely, LoweredIsRanked, LoweredKeepsToCleanup, LoweredIsPrepared}
+use Rattle.cfg_build.specs.Laws.{NamesItsLoops, AllNameTheirLoops, LoweredRunsAsItsSource, LoweredWalksAsItRunsFreely, LoweredIsRanked, LoweredKeepsToCleanup, LoweredIsPrepared, IsRefilledIn, LoweredRefillsParts}
 use Rattle.cfg_build.specs.Lower as lower
 use Rattle.cfg_build.specs.Lower.{frame, entire_function, start, built, blocks_of, nodes_of, body_of, node_in, node_of, graph_of}
 use Rattle.cfg_build.proofs.Forms.{function_at, function_lowers}
@@ -431,6 +431,28 @@ module _ (items : ItemTable) (tree : BodyTree) (named : NamesItsLoops tree) wher
   begins : begins_once (body_of items tree) ≡ true
   begins = blocks_begin_once (body_of items tree).blocks (λ n block e. (block_well n block e).0)
 
+  refilled_by : (place : Place) (next : ℕ) (unwind : Unwind) → rules.DropsWell t (Term.DropAt place next unwind) →
+      (place.steps ≡ []) ⊎ IsRefilledIn (body_of items tree) place next
+  refilled_by place next (Unwind.Block m) (inl h) = inl h
+  refilled_by place next (Unwind.Block m) (inr h) =
+      let at = h.0 in
+      inr (
+        record { kind = at.0; rank = at.1; stmts = Stmt.Put place at.2 ∷ at.3; term = at.4 },
+        at.2,
+        at.3,
+        at.5,
+        refl,
+      )
+  refilled_by place next Unwind.Resume h = inl h
+  refilled_by place next Unwind.Abort h = inl h
+
+  refilled_at : (n next : ℕ) (block : Block) (place : Place) (unwind : Unwind) → slice_get (body_of items tree).blocks n ≡
+      Some block → block.term ≡ Term.DropAt place next unwind → (place.steps ≡ []) ⊎ IsRefilledIn (body_of items tree)
+      place next
+  refilled_at n next block place unwind e is =
+      refilled_by place next unwind (subst (rules.DropsWell t) is (ends_drop (is_cleanup block) block.term (block_tidy n
+      block e).0))
+
   holds : HoldsBody items tree (body_of items tree) (node_of items tree)
   holds = record { ranked = is_ranked; params = refl; locals = refl; holds_code = holds_code }
 
@@ -471,3 +493,6 @@ lowered_keeps_to_cleanup items tree named n block e =
 
 pub lowered_is_prepared : LoweredIsPrepared
 lowered_is_prepared items tree named = (frees items tree named, begins items tree named, refills items tree named)
+
+pub lowered_refills_parts : LoweredRefillsParts
+lowered_refills_parts items tree named = refilled_at items tree named

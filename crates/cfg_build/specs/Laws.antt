@@ -1,9 +1,14 @@
 -- The laws of the lowering: the raw graph of a typed program runs as the program does, and each of its bodies walks
 -- as the body of the program runs freely.
-use Rattle.std.specs.Prelude.{[], ◌≢◌, length, ◌<◌, ◌≤◌, ◌+◌, ◌*◌, ◌≡◌, ℕ, ℤ, Bool, true, List, Some, slice_get, Contains}
+use Rattle.std.specs.Prelude.{[], ◌∷◌, ◌⊎◌, ◌≢◌, length, ◌<◌, ◌≤◌, ◌+◌, ◌*◌, ◌≡◌, ℕ, ℤ, Bool, true, List, Some, slice_get, Contains}
 use Rattle.cfg_graph.specs.declared.graph.Block.{Block}
+use Rattle.cfg_graph.specs.declared.graph.Body.{Body}
+use Rattle.cfg_graph.specs.declared.place.Operand.{Operand}
+use Rattle.cfg_graph.specs.declared.place.Place.{Place}
 use Rattle.cfg_graph.specs.Edges.{IsRanked, targets}
 use Rattle.cfg_graph.specs.declared.statement.Stmt.{Stmt}
+use Rattle.cfg_graph.specs.declared.terminator.Term.{Term}
+use Rattle.cfg_graph.specs.declared.terminator.Unwind.{Unwind}
 use Rattle.cfg_graph.specs.Uses.{places_of_stmt}
 use Rattle.cfg_graph.specs.Ready.{begins_once, frees_nothing, refills_dropped}
 use Rattle.cfg_graph.specs.WellFormed.Cleanup.{keeps_to_cleanup}
@@ -71,6 +76,20 @@ LoweredIsPrepared =
     (frees_nothing (body_of items tree) ≡ true)
     × (begins_once (body_of items tree) ≡ true)
     × (refills_dropped items (body_of items tree) ≡ true)
+
+-- a value is put into a place by the first statement of a block
+abbrev pub IsRefilledIn : Body → Place → ℕ → Type 0
+IsRefilledIn body place n =
+    (block : Block) × (from : Operand) × (rest : List Stmt) × (slice_get body.blocks n ≡ Some block)
+    × (block.stmts ≡ Stmt.Put place from ∷ rest)
+
+-- what is dropped is a whole local, or what an assignment puts a value into at once
+abbrev pub LoweredRefillsParts : Type 0
+LoweredRefillsParts =
+    (items : ItemTable) (tree : BodyTree) → NamesItsLoops tree →
+    (n next : ℕ) (block : Block) (place : Place) (unwind : Unwind) →
+    slice_get (body_of items tree).blocks n ≡ Some block → block.term ≡ Term.DropAt place next unwind →
+    (place.steps ≡ []) ⊎ IsRefilledIn (body_of items tree) place next
 
 -- the blocks of a body are no more than 32 times the square of its nodes, and 64 more for each node
 abbrev pub LoweredIsSmall : Type 0
