@@ -391,7 +391,7 @@ module _ (p : ProgramTree) (w : WellTyped p) where
         (
           places (faults.types_of_trait def) fine,
           (
-            both _ _ (both _ _ (name_of_item def.name (all_got is_item_name trait_names n def.name trait_named own)) (all_got trait_is_named p.items.traits n def low.1.1.0 e))
+            both _ _ (both _ _ (name_of_item def.name (all_got is_item_name trait_names n def.name trait_named own)) (all_got trait_is_named p.items.traits n def low.1.1 e))
                 (ap not (not_repeated trait_names n def.name trait_distinct own)),
             tt,
           ),

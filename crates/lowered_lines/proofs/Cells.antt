@@ -416,7 +416,7 @@ module _ (g : Ground) where
           let away = keys_of_params body.params P (below_apart (param_nodes body.params) (nodes_of n) across) in
           let outer = map entry_of_param body.params ++ cells_of_params body.params in
           let keys = keys_append P (map entry_of_param body.params) (cells_of_params body.params) away.0 away.1 in (
-            keys_joined id outer (cells_in g.items form) (flipped outer id (heads outer keys)) (keys_in form (λ k. (id == k) ≡ false) (over_apart id (nodes_in form) rb.0.0)),
+            keys_joined id outer (cells_in g.items form) (flipped outer id (heads outer keys)) (keys_in form (λ k. (id == k) ≡ false) (over_apart id (nodes_in form) rb.0)),
             joined_apart outer (cells_in g.items form) (joined_apart (map entry_of_param body.params) (cells_of_params body.params) ps.0 ps.1 ps.2) (apart_in form rb.1)
                 (apart_nodes outer (nodes_of n) (cells_in g.items form) keys (λ k q. keys_in form (λ m. (k == m) ≡ false) q.1)),
           )

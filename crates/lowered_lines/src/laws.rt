@@ -4,8 +4,7 @@ ghost use Rattle.lowered_lines.specs.Lines.{LoweredLinesHaveNoFault};
 /// No line of a lowered body has a fault, where the program is well typed and the types of the body's locals have none:
 /// what a line names exists, places and operands have the types that it wants, no value of a `dyn` type is moved or
 /// stored, what becomes a trait object has an impl; edges lead to blocks, lower the rank unless a turn begins there, and
-/// keep to cleanup blocks. A `let` whose pattern is not one name has to take a place apart at the place's own type, since
-/// a place of type `!` fits a pattern of any type.
+/// keep to cleanup blocks.
 pub fn law_of_lowered_lines()
     ensures lines { LoweredLinesHaveNoFault }
 {}
