@@ -13,8 +13,8 @@ use Rattle.lowered_graphs.specs.Lowerable.{are_parts_first, IsLowerable, is_lowe
 abbrev pub TestTells : Type 0
 TestTells = (p : ProgramTree) → IsLowerable p ↔ IsTrue (is_lowerable p)
 
--- the test of the order of types tells exactly where the types in each type have lower numbers, and a table to whose end
--- a type of types in it is added keeps it
+-- the test of the order of types tells exactly where the types in each type have lower numbers, and a table to whose
+-- end a type of types in it is added keeps it
 abbrev pub OrderIsTested : Type 0
 OrderIsTested = (types : List Ty) → IsTrue (are_parts_first 0 types) ↔ ArePartsFirst types
 

@@ -3,8 +3,7 @@ ghost use Rattle.lowered_graphs.specs.Laws.{GraphsAreWellFormed, HeadsHaveNoFaul
 ghost use Rattle.lowered_graphs.specs.Laws.{MainIsThere, NoLineHasAFault, NoLocalHasAFault, OrderIsTested, TestTells};
 
 /// The raw graph of a well typed program is well formed, where the program is lowerable, as that of each accepted text is:
-/// the types in a type have lower numbers than it, the names of structs, enums, variants and methods can stand in a
-/// listing, and each `let` has a type of the table and takes a place apart at the place's own type.
+/// the types in a type have lower numbers, and the names of structs, enums, variants and methods can stand in a listing.
 ///
 /// So no struct, enum, trait, impl or closure has a fault; no body with its head, its name and its locals; no local by its
 /// type; no statement and no terminator; and there is a `main`. Whether a program is lowerable is told by a

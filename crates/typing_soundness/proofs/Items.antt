@@ -8,5 +8,6 @@ pub mod Headed
 pub mod Heads
 pub mod Known
 pub mod Meanings
+pub mod Named
 pub mod Ready
 pub mod Rest

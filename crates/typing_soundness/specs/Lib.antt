@@ -4,6 +4,7 @@ pub mod Heads
 pub mod Items
 pub mod Legal
 pub mod Met
+pub mod Named
 pub mod Numbers
 pub mod Program
 pub mod Shapes

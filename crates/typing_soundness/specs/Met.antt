@@ -18,8 +18,8 @@ use Rattle.typing_soundness.specs.Closures.{BodySyn, Function, Closure, Head, Ta
 
 -- later items have the closures of earlier ones
 abbrev pub HaveClosures : ItemTable → ItemTable → Type 0
-HaveClosures old new = (n : ℕ) (def : ClosureDef) → slice_get old.closures n ≡ Some def → slice_get new.closures n ≡ Some
-    def
+HaveClosures old new =
+    (n : ℕ) (def : ClosureDef) → slice_get old.closures n ≡ Some def → slice_get new.closures n ≡ Some def
 
 -- what a receiver is, of the type `Self`
 abbrev pub IsReceiver : ItemTable → Receiver → TyId → TyId → Type 0
@@ -74,8 +74,8 @@ text_legal (Closure head) = head_legal legal head.params head.answer
 -- a body is made of a text; a closure has the next number of closures
 abbrev pub IsBodyOf : ItemTable → ℕ → BodySyn → BodyTree → Type 0
 IsBodyOf items closure text body =
-    AreTypesOf items closure text (types_of body) body.answer × HasBody items closure text body.number × IsTrue (text_legal
-    text)
+    AreTypesOf items closure text (types_of body) body.answer × HasBody items closure text body.number
+    × IsTrue (text_legal text)
 
 -- the number of the closure behind a body
 abbrev pub behind : BodySyn → ℕ → ℕ
@@ -90,8 +90,8 @@ AreMade P from to [] rest (body ∷ bodies) = ⊥
 AreMade P from to (text ∷ texts) rest (body ∷ bodies) =
     P from text body × AreMade P (behind text from) to texts rest bodies
 
--- From one state to a later one come the bodies of this text; structs, enums and heads stay, and types and closures that
--- are there.
+-- From one state to a later one come the bodies of this text; structs, enums and heads stay, and types and closures
+-- that are there.
 pub record Met (f : Tape) (s t : State) : Type 0 where
   pub types : HaveTypes s.items t.items
   pub distinct : AreDistinct s.items.types → AreDistinct t.items.types

@@ -1,6 +1,7 @@
 //! What is proved of the checks of expressions, as clauses of functions without parameters.
 ghost use Rattle.typing_soundness.specs.Expressions.{Loops, Paths, Callees, AreSound, Closures, Functions};
 ghost use Rattle.typing_soundness.specs.Items.{AdtsAreTyped, ClosuresAreTyped, HeadsAreTyped, RestIsEnough, TypesDiffer};
+ghost use Rattle.typing_soundness.specs.Named.{NamesAreWords};
 ghost use Rattle.typing_soundness.specs.Numbers.{StaysTyped, AreInOrder};
 ghost use Rattle.typing_soundness.specs.Program.{
   AreInTextOrder,
@@ -69,4 +70,10 @@ pub fn law_of_items()
     ensures closures { ClosuresAreTyped }
     ensures adts { AdtsAreTyped }
     ensures programs { RestIsEnough }
+{}
+
+/// Of a text that is accepted, names of structs, enums, variants and methods that are words in the text are so in the table
+/// of its program.
+pub fn law_of_names()
+    ensures names { NamesAreWords }
 {}
