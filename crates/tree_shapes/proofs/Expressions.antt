@@ -39,7 +39,7 @@ pub shape_list : (gs : Held) (close : Token) → EachBut IsExpr IsExpr gs → Ho
 shape_list gs close h = all_shape (gs ⊕ tok close end) (each_join IsExpr gs (tok close end) (each_of IsExpr gs h) tt)
 
 pub name_plain : (g : Tree) → IsName g → IsTrue (is_plain (ident_name (just (view g))))
-name_plain g k = subst (λ v. IsTrue (is_plain (ident_name (just v)))) (sym k.is) k.plain
+name_plain g k = subst (λ v. IsTrue (is_plain (ident_name (just v)))) (sym k.is) k.named.plain
 
 -- ---- blocks
 
@@ -276,9 +276,9 @@ expression_due at self (Token.Name n) p = by (grammar.is_panic n)
     by : (b : Bool) → Due self (grammar.named b self) (λ r rest. RowIs self r (node at r (tok (Token.Name n) rest)))
     by true = (
       (λ text. expr refl tt (λ a r. refl) refl refl refl, expr refl tt (λ a r. refl) refl refl refl),
-      path_name at self n p,
+      path_name at self n p.plain,
     )
-    by false = path_name at self n p
+    by false = path_name at self n p.plain
 expression_due at self (Token.Word Keyword.SelfType) p = path_self at self
 expression_due at self (Token.Mark Mark.OpenParenthesis) p = λ gs e l. round_row at gs e
 expression_due at self (Token.Mark Mark.OpenBracket) p =

@@ -10,12 +10,13 @@ use Rattle.src_tree.specs.Layout.{Node, Parts, end, tok, sub}
 use Rattle.src_ast.specs.Syntax.{Word, syn, Ident, Syns, a_syn}
 use Rattle.src_ast.specs.View.{view, is_ident, is_label}
 use Rattle.typing_rules.specs.Items.{bodies_in}
-use Rattle.typing_rules.specs.Promises.{is_plain_name}
 use Rattle.typing_rules.specs.Written.{Around}
 use Rattle.well_typed.specs.Claim.{Holds}
 use Rattle.typing_soundness.specs.Closures.{BodySyn, closures_of, function_text}
 use Rattle.typing_soundness.specs.Heads.{bodies_text, inner_text}
+use Rattle.typing_soundness.specs.Named.{variant_named, head_named, item_named}
 use Rattle.typing_soundness.specs.Shapes.{shaped, is_block, no_self, variant_shaped, function_shaped, item_shaped}
+use Rattle.tree_shapes.proofs.Tokens.{IsTextName}
 
 abbrev pub Tree : Type 0
 Tree = Node Pos
@@ -37,7 +38,7 @@ pub record IsName (g : Tree) : Type 0 where
   pub at : Pos
   pub word : Word
   pub is : view g ≡ syn at (Ident word)
-  pub plain : IsTrue (is_plain_name word)
+  pub named : IsTextName word
 
 pub record IsLabel (g : Tree) : Type 0 where
   pub tells : Tells g
@@ -58,10 +59,12 @@ pub record IsParam (self : Bool) (g : Tree) : Type 0 where
 pub record IsVariant (g : Tree) : Type 0 where
   pub quiet : IsQuiet g
   pub shape : Holds (variant_shaped (view g))
+  pub name : Holds (variant_named (view g))
 
 pub record IsHead (g : Tree) : Type 0 where
   pub quiet : IsQuiet g
   pub shape : Holds (function_shaped (view g))
+  pub name : Holds (head_named (view g))
 
 -- an expression, a statement, an arm, an initialiser of a field
 pub record IsExpr (g : Tree) : Type 0 where
@@ -84,6 +87,7 @@ pub record IsItem (g : Tree) : Type 0 where
   pub tells : (around : Around) (rest : List BodySyn) → bodies_text around (bodies_in g) rest ≡ inner_text around (view
       g) rest
   pub shape : Holds (item_shaped (view g))
+  pub names : Holds (item_named (view g))
 
 -- ---- by row
 

@@ -18,6 +18,8 @@ use Rattle.typing_rules.specs.Written.{Around}
 use Rattle.well_typed.specs.Claim.{Holds, each}
 use Rattle.typing_soundness.specs.Closures.{BodySyn, closures_of, closures_in, closures_among, functions_text, function_text}
 use Rattle.typing_soundness.specs.Heads.{bodies_text, inner_text}
+use Rattle.well_typed.specs.Names.{is_word}
+use Rattle.typing_soundness.specs.Named.{is_type_name, variant_named, head_named, item_named}
 use Rattle.typing_soundness.specs.Shapes.{has_kind, function_shaped, variant_shaped, item_shaped}
 use Rattle.tree_shapes.proofs.Due.{◌⊕◌, IsLoose, is_loose, Due}
 use Rattle.tree_shapes.proofs.Functions.{Headed, fn_plain, fn_typed, fn_tells, has_arrow, param_still}
@@ -26,6 +28,17 @@ use Rattle.tree_shapes.proofs.Lists.{◌⧺◌, views_join, join_none, last_one,
 use Rattle.tree_shapes.proofs.Telling.{IsStill, no_body, quiet_list, of_quiet, of_name, quiet, tell_all, silent_all, each_join, each_map, each_of, has_behind, still_tells, still_silent, text_join}
 use Rattle.tree_shapes.proofs.Tokens.{IsPlain}
 use Rattle.tree_shapes.proofs.Types.{EntryDue}
+
+-- ---- names
+
+plain_name : (g : Tree) → IsName g → IsTrue (is_plain_name (named (view g)).1)
+plain_name g k = subst (λ v. IsTrue (is_plain_name (named v).1)) (sym k.is) k.named.plain
+
+word_name : (g : Tree) → IsName g → IsTrue (is_word (named (view g)).1)
+word_name g k = subst (λ v. IsTrue (is_word (named v).1)) (sym k.is) k.named.is_word
+
+type_name : (g : Tree) → IsName g → IsTrue (is_type_name (named (view g)).1)
+type_name g k = subst (λ v. IsTrue (is_type_name (named v).1)) (sym k.is) k.named.is_type
 
 -- ---- heads of traits
 
@@ -38,6 +51,7 @@ head_is at name kn gs m params still answer e =
       quiet = quiet refl (of_name kn, each_join IsStill gs tail (param_still true gs params) still) (λ a r. ap (λ x.
           closures_in a x r) e) (ap (λ x. is_some (ident_in x)) e);
       shape = subst (λ x. Holds (function_shaped (syn at x))) (sym e) (params_first true gs params, refl);
+      name = subst (λ x. Holds (head_named (syn at x))) (sym e) (word_name name kn);
     }
 
 pub head_due : (at : Pos) (self : Bool) (t : Token) → IsPlain t → EntryDue at self t (grammar.head t)
@@ -77,6 +91,7 @@ fn_is at name kn gs params loose m b kb h k answer e = record {
   tells = λ around rest. fn_tells at false name kn gs params loose m b kb h k answer _ e around rest ∙ fn_both at _ _ _ _
       _ e around rest;
   shape = subst (λ x. Holds (item_shaped (syn at x))) (sym e) (params_first false gs params, (kb.block, kb.expr.shape));
+  names = subst (λ x. Holds (item_named (syn at x))) (sym e) refl;
 }
 
 fn_due : (at : Pos) (self : Bool) → Due self (grammar.head_rest false (grammar.part grammar.block (grammar.ends
@@ -103,10 +118,11 @@ variant_due at self (Token.Name n) p = (
       record {
         quiet = quiet refl (quiet_list gs _ e) (λ a r. refl) refl;
         shape = some_kind (has_mark Mark.OpenBrace (tokens_in parts)) (views parts);
+        name = p.is_word;
       },
   (
-    λ gs e l. record { quiet = quiet refl (quiet_list gs _ e) (λ a r. refl) refl; shape = refl },
-    record { quiet = quiet refl tt (λ a r. refl) refl; shape = refl },
+    λ gs e l. record { quiet = quiet refl (quiet_list gs _ e) (λ a r. refl) refl; shape = refl; name = p.is_word },
+    record { quiet = quiet refl tt (λ a r. refl) refl; shape = refl; name = p.is_word },
   ),
 )
 variant_due at self _ p = tt
@@ -128,9 +144,6 @@ word_behind w (tok t gs) m l =
     ap (λ b. if b then tokens_in (gs ⊕ m) else behind_word w (tokens_in (gs ⊕ m))) (apart_word w t l.0)
     ∙ word_behind w gs m l.1
 word_behind w (sub g gs) m l = word_behind w gs m l
-
-plain_name : (g : Tree) → IsName g → IsTrue (is_plain_name (named (view g)).1)
-plain_name g k = subst (λ v. IsTrue (is_plain_name (named v).1)) (sym k.is) k.plain
 
 -- an item without bodies
 still_item : (at : Pos) (r : Row) (parts : Held) → is_body_row r ≡ false → Each IsStill parts → ((around : Around) (rest
@@ -154,12 +167,18 @@ struct_is at parts m ds name kn still is_named is_behind is_word kind =
     record {
       tells = still_item at Row.Struct parts refl still (λ a r. ap (λ x. inner_text a (syn at x) r) e);
       shape = subst (λ x. Holds (item_shaped (syn at x))) (sym e) (plain_name name kn, kind);
+      names = subst (λ x. Holds (item_named (syn at x))) (sym e) (type_name name kn);
     }
 
 all_variants : (gs : Held) → Each IsVariant gs → Holds (each variant_shaped (list_of (views gs)))
 all_variants end h = refl
 all_variants (tok t gs) h = all_variants gs h
 all_variants (sub g gs) h = (h.0.shape, all_variants gs h.1)
+
+variants_named : (gs : Held) → Each IsVariant gs → Holds (each variant_named (list_of (views gs)))
+variants_named end h = refl
+variants_named (tok t gs) h = variants_named gs h
+variants_named (sub g gs) h = (h.0.name, variants_named gs h.1)
 
 enum_is : (at : Pos) (parts m : Held) (ds : List Named) (name : Tree) → IsName name → Each IsStill parts → idents (views
     parts) ≡ ds ++ named (view name) ∷ [] → behind_idents (views parts) ≡ views m → Each IsVariant m → IsItem (node at
@@ -171,6 +190,7 @@ enum_is at parts m ds name kn still is_named is_behind variants =
     record {
       tells = still_item at Row.Enum parts refl still (λ a r. ap (λ x. inner_text a (syn at x) r) e);
       shape = subst (λ x. Holds (item_shaped (syn at x))) (sym e) (plain_name name kn, all_variants m variants);
+      names = subst (λ x. Holds (item_named (syn at x))) (sym e) (type_name name kn, variants_named m variants);
     }
 
 -- the name of an item, and with what is derived before it
@@ -284,6 +304,11 @@ all_heads end h = refl
 all_heads (tok t gs) h = all_heads gs h
 all_heads (sub g gs) h = (h.0.shape, all_heads gs h.1)
 
+heads_named : (gs : Held) → Each IsHead gs → Holds (each head_named (list_of (views gs)))
+heads_named end h = refl
+heads_named (tok t gs) h = heads_named gs h
+heads_named (sub g gs) h = (h.0.name, heads_named gs h.1)
+
 all_methods : (gs : Held) → Each IsMethod gs → Holds (each function_shaped (list_of (views gs)))
 all_methods end h = refl
 all_methods (tok t gs) h = all_methods gs h
@@ -310,6 +335,7 @@ trait_due at self = λ name kn gs e l.
                 gs e) tt,
           ) (λ a r. refl);
       shape = all_heads (gs ⊕ tail) (each_join IsHead gs tail e tt);
+      names = heads_named (gs ⊕ tail) (each_join IsHead gs tail e tt);
     }
 
 skip_name : (around : Around) (name : Tree) → IsName name → (bodies : List Syn) (rest : List BodySyn) → bodies_text
@@ -324,6 +350,7 @@ impl_is at parts m trait_ owner methods e h = record {
   tells = λ around rest.
       h around rest ∙ methods_tell around m methods rest ∙ sym (ap (λ x. inner_text around (syn at x) rest) e);
   shape = subst (λ x. Holds (item_shaped (syn at x))) (sym e) (all_methods m methods);
+  names = subst (λ x. Holds (item_named (syn at x))) (sym e) refl;
 }
 
 impl_due : (at : Pos) (self : Bool) → Due self (grammar.part grammar.a_name (grammar.if_word Keyword.For (grammar.part

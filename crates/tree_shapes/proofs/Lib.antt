@@ -11,3 +11,4 @@ pub mod Texts
 pub mod Tokens
 pub mod Trees
 pub mod Types
+pub mod Words

@@ -1,4 +1,4 @@
--- Names in a text are without the mark of closures' names.
+-- Names in a text are words, without the mark of closures' names, and none is a keyword.
 use Rattle.std.proofs.Common.{◌≡◌, ℕ, ◌+◌, ◌/◌, ◌%◌, ◌≤◌, Bool, true, false, ◌||◌, ◌==◌, not, List, [], ◌∷◌, ◌++◌, map, Option, Some, None, IsTrue, refl, sym, ap, ◌∙◌, subst, arith}
 use Rattle.std.specs.Prelude.{cond, nat_lt}
 use Rattle.std.specs.List.{list_any, list_all}
@@ -21,10 +21,14 @@ use Rattle.src_token.specs.Numbers.{number_of, number_reading}
 use Rattle.src_token.specs.Rows.{Row, blank, line_comment, comment, open_comment, slash, mark, word, number, label, no_label, text, open_text, other, text_with}
 use Rattle.src_token.specs.Tokens.{Tokens, Cut, Cutting, token_of, tokens_of}
 use Rattle.src_token.specs.Words.{keyword_of, marked, worded}
+use Rattle.well_typed.specs.Names.{is_word}
+use Rattle.well_typed.proofs.ClaimLemmas.{and_true}
+use Rattle.typing_rules.specs.Promises.{is_plain_name}
 use Rattle.src_tree.specs.Layout.{node, end, tok, sub, spell, spell_parts}
 use Rattle.tree_shapes.proofs.Good.{Tree, Held}
 use Rattle.tree_shapes.proofs.Tokens.{IsPlain}
 use Rattle.tree_shapes.proofs.Trees.{AllPlain, PartsPlain}
+use Rattle.tree_shapes.proofs.Words.{word_of, no_dyn}
 
 -- ---- bytes
 
@@ -124,13 +128,26 @@ abbrev ReadsPlain : Reading → Type 0
 ReadsPlain (Reads t) = IsPlain t
 ReadsPlain _ = Unit {0}
 
-marked_plain : (piece : List ℕ) (o : Option Mark) → NoHash piece → IsPlain (marked piece o)
-marked_plain piece None h = ap not (all_plain piece h)
-marked_plain piece (Some m) h = tt
+-- an identifier, which is a keyword or a name
+module _ (c : ℕ) (cs : List ℕ) (e : beginning_of c ≡ Beginning.Letter) (f : IsTrue (list_all is_xid_continue cs)) where
+  abbrev own : List ℕ
+  own = c ∷ cs
 
-worded_plain : (piece : List ℕ) (o : Option Keyword) → NoHash piece → IsPlain (worded piece o)
-worded_plain piece None h = marked_plain piece (mark_of piece) h
-worded_plain piece (Some w) h = tt
+  marked_plain : (o : Option Mark) → keyword_of own ≡ None → IsPlain (marked own o)
+  marked_plain None none =
+      let plain = ap not (all_plain own (begins c e, go_on cs f)) in
+      let a = word_of c cs e f in
+      record {
+        plain = plain;
+        is_word = a;
+        is_type = and_true (is_word (encode_utf8_all own)) _ a (and_true (is_plain_name (encode_utf8_all own)) _ plain (ap
+            not (no_dyn own none)));
+      }
+  marked_plain (Some m) none = tt
+
+  worded_plain : (o : Option Keyword) → keyword_of own ≡ o → IsPlain (worded own o)
+  worded_plain None none = marked_plain (mark_of own) none
+  worded_plain (Some w) is = tt
 
 number_plain : (run : List ℕ) → ReadsPlain (number_reading run)
 unfolding number_reading
@@ -152,7 +169,7 @@ row_plain _ _ (comment inside e) = tt
 row_plain _ _ open_comment = tt
 row_plain _ _ slash = tt
 row_plain _ _ (mark c cs m e f) = tt
-row_plain _ _ (word c cs e f) = worded_plain (c ∷ cs) (keyword_of (c ∷ cs)) (begins c e, go_on cs f)
+row_plain _ _ (word c cs e f) = worded_plain c cs e f (keyword_of (c ∷ cs)) refl
 row_plain _ _ (number c cs e f) = number_plain (c ∷ cs)
 row_plain _ _ (label cs e) = tt
 row_plain _ _ no_label = tt

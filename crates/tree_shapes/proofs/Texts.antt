@@ -24,8 +24,10 @@ use Rattle.typing_soundness.specs.Program.{IsOfText, IsAccepted, HaveHeads}
 use Rattle.typing_soundness.specs.Shapes.{item_shaped}
 use Rattle.typing_soundness.proofs.Items.Accepting.{are_headed, are_typed}
 use Rattle.typing_soundness.proofs.Items.Adts.{text_adts}
+use Rattle.typing_soundness.proofs.Items.Named.{names_are_words}
 use Rattle.typing_soundness.proofs.Items.Heads.{text_types, text_heads, text_closures}
 use Rattle.typing_soundness.specs.Items.{but_heads}
+use Rattle.typing_soundness.specs.Named.{item_named, HasNames}
 use Rattle.typing_soundness.proofs.Items.Rest.{rest_is_enough}
 use Rattle.tree_shapes.specs.Texts.{IsAcceptedText, HasTypedBodies}
 use Rattle.tree_shapes.proofs.Good.{Held, Each, IsItem}
@@ -42,11 +44,21 @@ items_listed end h = tt
 items_listed (tok t rest) h = items_listed rest h
 items_listed (sub g rest) h = (λ around. fun_ext (λ r. h.0.tells around r), items_listed rest h.1)
 
+items_named : (parts : Held) → Each IsItem parts → Holds (each item_named (item_syns (items.items_of parts)))
+items_named end h = refl
+items_named (tok t rest) h = items_named rest h
+items_named (sub g rest) h = (h.0.names, items_named rest h.1)
+
+items_in : (text : List ℕ) (tokens : List Spanned) (end_ : Pos) (tree : Tree) → Tokens text tokens → IsTree tokens end_
+    tree → Each IsItem (items_of tree)
+items_in text tokens end_ tree h is =
+    items_are (items_of tree) (plain_parts (items_of tree) [] (subst EachPlain (sym is.spelled) (tokens_plain text tokens
+    h))).0 is.levelled
+
 pub is_of_text : (text : List ℕ) (tokens : List Spanned) (end_ : Pos) (tree : Tree) → Tokens text tokens → IsTree tokens
     end_ tree → IsOfText (items_of tree)
 is_of_text text tokens end_ tree h is =
-    let plain = plain_parts (items_of tree) [] (subst EachPlain (sym is.spelled) (tokens_plain text tokens h)) in
-    let are = items_are (items_of tree) plain.0 is.levelled in
+    let are = items_in text tokens end_ tree h is in
     record { shaped = items_shaped (items_of tree) are; listed = items_listed (items_of tree) are }
 
 -- what was collected of an accepted text
@@ -79,6 +91,10 @@ module _ (text : List ℕ) (p : ProgramTree) (h : IsAcceptedText text p) where
   pub text_program : Holds (but_heads p.items) → WellTyped p
   text_program = rest_is_enough parts found.0 p accepted
 
+  names : HasNames p.items
+  names =
+      names_are_words parts found.0 p accepted (items_named parts (items_in text h.tokens h.end_ h.tree h.cut h.is_tree))
+
   pub typed_bodies : HasTypedBodies p
   typed_bodies = record {
     heads = text_headed.0;
@@ -89,6 +105,7 @@ module _ (text : List ℕ) (p : ProgramTree) (h : IsAcceptedText text p) where
     heads_typed = text_heads parts found.0 p accepted;
     closures_typed = text_closures parts found.0 p accepted;
     adts_typed = text_adts parts found.0 p accepted;
+    names = names;
   }
 
 -- ---- what is read

@@ -10,10 +10,17 @@ use Rattle.src_tree.specs.Grammar.{is, mark_number, word_number}
 use Rattle.src_tree.proofs.Samples.{nth}
 use Rattle.src_ast.specs.Syntax.{Word}
 use Rattle.typing_rules.specs.Promises.{is_plain_name}
+use Rattle.typing_soundness.specs.Named.{is_type_name}
+use Rattle.well_typed.specs.Names.{is_word}
 
--- a name in a text is without the mark of closures' names
+-- a name in a text is a word, without the mark of closures' names, and no keyword
+pub record IsTextName (n : Word) : Type 0 where
+  pub plain : IsTrue (is_plain_name n)
+  pub is_word : IsTrue (is_word n)
+  pub is_type : IsTrue (is_type_name n)
+
 abbrev pub IsPlain : Token → Type 0
-IsPlain (Token.Name n) = IsTrue (is_plain_name n)
+IsPlain (Token.Name n) = IsTextName n
 IsPlain _ = Unit {0}
 
 abbrev marks : List Mark
@@ -86,7 +93,7 @@ TokenDue Kind.Derive C = (n : Word) → C (Token.Name n)
 pub token_due : (k : Kind) (t : Token) (C : Token → Type 0) → is k t ≡ true → IsPlain t → TokenDue k C → C t
 token_due (Kind.Mark m) (Token.Mark n) C e p d = subst (λ x. C (Token.Mark x)) (same_mark m n e) d
 token_due (Kind.Word w) (Token.Word v) C e p d = word_due w v C e d
-token_due Kind.Name (Token.Name n) C e p d = d n p
+token_due Kind.Name (Token.Name n) C e p d = d n p.plain
 token_due Kind.Number (Token.Number value suffix) C e p d = d value suffix
 token_due Kind.Digits (Token.Number value None) C e p d = d value
 token_due Kind.Label (Token.Label n) C e p d = d n

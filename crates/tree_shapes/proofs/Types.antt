@@ -119,7 +119,7 @@ name_due at self (Token.Name n) p = record {
   at = at;
   word = n;
   is = refl;
-  plain = p;
+  named = p;
 }
 name_due at self _ p = tt
 

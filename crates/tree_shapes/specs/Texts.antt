@@ -17,6 +17,7 @@ use Rattle.typing_rules.specs.Borrows.{read_typed}
 use Rattle.typing_rules.specs.Program.{typed_program}
 use Rattle.typing_rules.specs.Promises.{AreReady, AreClosures}
 use Rattle.typing_soundness.specs.Items.{is_head_typed, IsAdtTyped, IsClosureTyped, but_heads}
+use Rattle.typing_soundness.specs.Named.{HasNames}
 use Rattle.typing_soundness.specs.Program.{IsOfText, HaveHeads}
 
 -- The tree of a text is one as the laws of typing ask.
@@ -34,8 +35,8 @@ pub record IsAcceptedText (text : List ℕ) (p : ProgramTree) : Type 0 where
   pub typed : typed_program (items_of tree) tree.end ≡ Ok p
 
 -- Each body has its head and each closure its body, and each body is well typed, among items that are ready: so the
--- program is well typed where its items are. Of these, heads and closures are,
--- and structs and enums but for names of fields and drop bodies, and equal types have one number.
+-- program is well typed where its items are. Of these, heads and closures are, and structs and enums but for names of
+-- fields and drop bodies; equal types have one number, and names of structs, enums, variants and methods are words.
 pub record HasTypedBodies (p : ProgramTree) : Type 0 where
   pub heads : HaveHeads p.items.bodies p.bodies
   pub closures : AreClosures p.items
@@ -45,6 +46,7 @@ pub record HasTypedBodies (p : ProgramTree) : Type 0 where
   pub heads_typed : IsTrue (list_all (is_head_typed p.items) p.items.bodies)
   pub closures_typed : (n : ℕ) (def : ClosureDef) → slice_get p.items.closures n ≡ Some def → IsClosureTyped p.items n def
   pub adts_typed : (n : ℕ) (adt : Adt) → slice_get p.items.adts n ≡ Some adt → IsAdtTyped p.items adt
+  pub names : HasNames p.items
 
 -- Each body of an accepted text has its head, and each closure its body.
 abbrev pub BodiesHaveHeads : Type 0
