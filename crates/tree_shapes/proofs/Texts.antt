@@ -24,9 +24,13 @@ use Rattle.typing_soundness.specs.Program.{IsOfText, IsAccepted, HaveHeads}
 use Rattle.typing_soundness.specs.Shapes.{item_shaped}
 use Rattle.typing_soundness.proofs.Items.Accepting.{are_headed, are_typed}
 use Rattle.typing_soundness.proofs.Items.Adts.{text_adts}
-use Rattle.typing_soundness.proofs.Items.Named.{names_are_words}
+use Rattle.typing_soundness.proofs.Items.Finite.{text_finite}
+use Rattle.typing_soundness.proofs.Items.Traits.{text_traits}
 use Rattle.typing_soundness.proofs.Items.Heads.{text_types, text_heads, text_closures}
-use Rattle.typing_soundness.specs.Items.{but_heads}
+use Rattle.typing_soundness.specs.Items.{left_of_items}
+use Rattle.typing_soundness.proofs.Items.Impls.{text_impls}
+use Rattle.typing_soundness.proofs.Items.Main.{text_main}
+use Rattle.typing_soundness.proofs.Items.Named.{names_are_words}
 use Rattle.typing_soundness.specs.Named.{item_named, HasNames}
 use Rattle.typing_soundness.proofs.Items.Rest.{rest_is_enough}
 use Rattle.tree_shapes.specs.Texts.{IsAcceptedText, HasTypedBodies}
@@ -88,7 +92,7 @@ module _ (text : List ℕ) (p : ProgramTree) (h : IsAcceptedText text p) where
   pub text_typed : AreReady p.items × Holds (are_bodies p.items 0 p.items.bodies p.bodies)
   text_typed = are_typed parts found.0 p accepted
 
-  pub text_program : Holds (but_heads p.items) → WellTyped p
+  pub text_program : Holds (left_of_items p.items) → WellTyped p
   text_program = rest_is_enough parts found.0 p accepted
 
   names : HasNames p.items
@@ -105,6 +109,10 @@ module _ (text : List ℕ) (p : ProgramTree) (h : IsAcceptedText text p) where
     heads_typed = text_heads parts found.0 p accepted;
     closures_typed = text_closures parts found.0 p accepted;
     adts_typed = text_adts parts found.0 p accepted;
+    finite = text_finite parts found.0 p accepted;
+    traits_typed = text_traits parts found.0 p accepted;
+    impls_differ = text_impls parts found.0 p accepted;
+    has_main = text_main parts found.0 p accepted;
     names = names;
   }
 

@@ -13,9 +13,11 @@ use Rattle.src_ast.specs.Syntax.{Syn, syn, Shape, Minus, Bang, Star, Ampersand, 
 
 -- ---- bodies in the order of the text
 
--- what the types of a body are written by: its parameters and its answer, and what names stand around it
+-- what the head of a body is written by: its own name, which a closure has not, its parameters and its answer, and what
+-- names stand around it
 pub record Head : Type 0 where
   pub around : Around
+  pub name : Word
   pub params : Syns
   pub answer : MaybeSyn
 
@@ -68,6 +70,7 @@ module _ (around : Around) where
     closures_in (ReturnOf value) = closures_if_any value
     closures_in (MoveOf captures params answer body) = λ rest. Closure (record {
       around = around;
+      name = [];
       params = params;
       answer = answer;
     }) ∷ closures_of body rest
@@ -87,7 +90,7 @@ module _ (around : Around) where
 module _ (around : Around) where
   abbrev pub function_text : Syn → Tape
   function_text (syn at (FnItem name params answer block)) =
-      λ rest. Function (record { around = around; params = params; answer = answer }) ∷ closures_if_any around block rest
+      λ rest. Function (record { around = around; name = name.1; params = params; answer = answer }) ∷ closures_if_any around block rest
   function_text _ = λ rest. rest
 
   abbrev pub functions_text : List Syn → Tape

@@ -1,5 +1,5 @@
 -- The heads that are collected for the bodies of a text, before any body is looked at.
-use Rattle.std.specs.Prelude.{◌≡◌, ℕ, true, false, List, [], ◌∷◌, length, Some, codes}
+use Rattle.std.specs.Prelude.{◌≡◌, ℕ, true, false, List, [], ◌∷◌, length, Option, Some, codes, option_and_then, slice_get}
 use Rattle.mir_ty.specs.declared.adt.Adt.{Adt}
 use Rattle.mir_ty.specs.declared.adt.Variant.{Variant}
 use Rattle.mir_ty.specs.declared.def.Sig.{Sig}
@@ -7,12 +7,12 @@ use Rattle.mir_ty.specs.declared.ty.Ty.{Ty}
 use Rattle.mir_ty.specs.declared.ty.TyId.{TyId}
 use Rattle.mir_ty.specs.ItemTable.{ItemTable, type_at}
 use Rattle.typing_rules.specs.Collected as rules
-use Rattle.typing_rules.specs.Items.{ItemSyn}
+use Rattle.typing_rules.specs.Items.{ItemSyn, full_name}
 use Rattle.typing_rules.specs.Places.{unit}
 use Rattle.typing_rules.specs.Promises.{is_plain_name}
 use Rattle.typing_rules.specs.Written.{Around}
-use Rattle.src_ast.specs.Syntax.{Syn, syn, MoveOf, StructItem, EnumItem, VariantDecl, ImplItem, FnItem, ParamOf, Syns, no_syn, a_syn, list_of, MaybeSyn, nothing, just}
-use Rattle.typing_soundness.specs.Closures.{BodySyn, Function, Closure, Tape, functions_text, function_text}
+use Rattle.src_ast.specs.Syntax.{Word, Syn, syn, MoveOf, StructItem, EnumItem, VariantDecl, ImplItem, FnItem, ParamOf, Syns, no_syn, a_syn, list_of, MaybeSyn, nothing, just}
+use Rattle.typing_soundness.specs.Closures.{BodySyn, Function, Closure, Head, Tape, functions_text, function_text}
 use Rattle.typing_soundness.specs.Met.{HasTypes}
 use Rattle.well_typed.specs.Claim.{Claim, fact}
 use Rattle.typing_soundness.specs.Shapes.{no_self}
@@ -46,9 +46,16 @@ AreHeadTypes items closure (Closure head) (self ∷ params) answer =
     (type_at items self ≡ Some (Ty.Closure closure)) × MeanClosureParams head.around items head.params
     params × MeansClosureAnswer head.around items head.answer answer
 
+-- the struct or enum that a method is of, by its name, and the whole name of a function or a method
+abbrev pub owner_of : Around → Option Word
+owner_of around = option_and_then (slice_get around.adts) around.self_adt
+
+abbrev pub function_name : Head → Word
+function_name head = full_name (owner_of head.around) head.name
+
 -- the name of a closure has a mark that no name in a text has
 abbrev pub HasName : BodySyn → List ℕ → Type 0
-HasName (Function head) name = Unit {0}
+HasName (Function head) name = name ≡ function_name head
 HasName (Closure head) name = is_plain_name name ≡ false
 
 abbrev pub IsHeadOf : ItemTable → ℕ → BodySyn → Sig → Type 0
@@ -90,9 +97,9 @@ AreAdtsOf _ _ = ⊥
 module _ (around : Around) where
   abbrev pub body_text : Syn → Tape
   body_text (syn at (FnItem name params answer block)) =
-      λ rest. Function (record { around = around; params = params; answer = answer }) ∷ rest
+      λ rest. Function (record { around = around; name = name.1; params = params; answer = answer }) ∷ rest
   body_text (syn at (MoveOf captures params answer body)) =
-      λ rest. Closure (record { around = around; params = params; answer = answer }) ∷ rest
+      λ rest. Closure (record { around = around; name = []; params = params; answer = answer }) ∷ rest
   body_text _ = λ rest. rest
 
   abbrev pub bodies_text : List Syn → Tape

@@ -1,6 +1,6 @@
 //! What is proved of the checks of expressions, as clauses of functions without parameters.
 ghost use Rattle.typing_soundness.specs.Expressions.{Loops, Paths, Callees, AreSound, Closures, Functions};
-ghost use Rattle.typing_soundness.specs.Items.{AdtsAreTyped, ClosuresAreTyped, HeadsAreTyped, RestIsEnough, TypesDiffer};
+ghost use Rattle.typing_soundness.specs.Items.{AdtsAreTyped, ClosuresAreTyped, HasMain, HeadsAreTyped, ImplsDiffer, RestIsEnough, TraitsAreTyped, TypesAreFinite, TypesDiffer};
 ghost use Rattle.typing_soundness.specs.Named.{NamesAreWords};
 ghost use Rattle.typing_soundness.specs.Numbers.{StaysTyped, AreInOrder};
 ghost use Rattle.typing_soundness.specs.Program.{
@@ -58,17 +58,22 @@ pub fn law_of_programs()
     ensures programs { ProgramsAreTyped }
 {}
 
-/// Of the items of a text that is accepted: equal types have one number, with `bool` and `()` among them; each head of a
-/// body has parameters of types that may stand there, and a result that stands alone; each closure has captures that
-/// stand alone and a body, whose head begins with the closure and goes on with types that stand alone; each struct has
-/// one variant with its name and each enum at most 64, whose names differ, with at most 32 fields each, which stand alone
-/// and have names; and what derives `Copy` has fields that are Copy and no `Drop` impl. So its program is well typed where
-/// its items are but for heads and closures.
+/// Of the items of a text that is accepted: equal types have one number, with `bool` and `()` among them, and no type
+/// holds itself; each head of a body has parameters of types that may stand there, and a result that stands alone; each
+/// closure has captures that stand alone and a body, whose head begins with the closure and goes on with types that stand
+/// alone; each struct has one variant with its name and each enum at most 64, whose names differ, with at most 32 fields
+/// each, which stand alone and have names; what derives `Copy` has fields that are Copy and no `Drop` impl; methods of
+/// traits take `&self` or `&mut self` and have names that differ; no two impls are of one trait and one struct or enum;
+/// and there is a `main`. So its program is well typed where what is left of its items is so.
 pub fn law_of_items()
     ensures types { TypesDiffer }
+    ensures finite { TypesAreFinite }
     ensures heads { HeadsAreTyped }
     ensures closures { ClosuresAreTyped }
     ensures adts { AdtsAreTyped }
+    ensures traits { TraitsAreTyped }
+    ensures impls { ImplsDiffer }
+    ensures main { HasMain }
     ensures programs { RestIsEnough }
 {}
 

@@ -90,7 +90,7 @@ adds_none s = adds_stays (stays_refl s)
 adds_both : {f g : Tape} {s t u : State} → Adds f s t → Adds g t u → Adds (f ⨾ g) s u
 adds_both p q = record { order = order_both p.order q.order; met = met_both p.met q.met }
 
-abbrev Keeps : {A : Type 0} → Tape → State → Result (A × State) Broken → Type 0
+abbrev pub Keeps : {A : Type 0} → Tape → State → Result (A × State) Broken → Type 0
 Keeps f s r = Walked (λ a t. Adds f s t) r
 
 -- one such check after another
@@ -182,7 +182,7 @@ main_keeps at name params (Some sig) s = by (rules.is_main_head name params sig 
     by true = walk_ends (adds_none s)
     by false = record { so = tt }
 
-item_keeps : (env : Env) (before : rules.Before) (i : Syn) (s : State) → Keeps no_closure s (rules.item_rules env before i s)
+pub item_keeps : (env : Env) (before : rules.Before) (i : Syn) (s : State) → Keeps no_closure s (rules.item_rules env before i s)
 item_keeps env before (syn at (StructItem ds name kind fs)) s =
     then_ (fields_keep (rules.in_impl env (adt_named s.items name.1)) [] (list_of fs) s) λ _ t. walk_obeyed Rule.T19 at
     (nat_le (rules.count_of fs) 32) _ λ _. walk_ends (adds_none t)
@@ -233,9 +233,9 @@ function_inner env at n params answer nothing s =
     walk (params_walk env (types.written_param (bodies.all_rules env)) (λ p t. written_param_still (bodies.all_rules
     env) p t) params [] s) λ ps t w1. walk (answer_still env answer t) λ a u e. record { so = tt }
 
-module _ (env : Env) (params : Syns) (answer : MaybeSyn) (block : MaybeSyn) where
+module _ (env : Env) (name : Word) (params : Syns) (answer : MaybeSyn) (block : MaybeSyn) where
   abbrev head : Head
-  head = record { around = bodies.all_rules env; params = params; answer = answer }
+  head = record { around = bodies.all_rules env; name = name; params = params; answer = answer }
 
   added_text : (s v : State) → IsAdded s.next_body (IsOf (bodies.all_rules env) (head_legal legal_param params answer) params answer [] (closures_if_any
       (bodies.all_rules env) block) (record s { next_body = suc s.next_body; bodies = []; next_node = 0; breaks = [] }))
@@ -298,7 +298,7 @@ module _ (env : Env) (params : Syns) (answer : MaybeSyn) (block : MaybeSyn) wher
 
 fn_keeps : (env : Env) (f : Syn) (s : State) → Keeps (function_text (bodies.all_rules env) f) s (rules.fn_rules env f s)
 fn_keeps env (syn at (FnItem name params answer block)) s =
-    then_ (function_keeps env params answer block at s) λ _ t. walk_ends (adds_none t)
+    then_ (function_keeps env name.1 params answer block at s) λ _ t. walk_ends (adds_none t)
 fn_keeps env (syn at _) s = record { so = tt }
 
 all_fn_keep : (env : Env) (fs : List Syn) (s : State) → Keeps (functions_text (bodies.all_rules env) fs) s
@@ -311,7 +311,7 @@ same_number : (env : Env) (adts : List Adt) (name : Word) (s : State) → s.item
     (rules.in_impl env (adt_named s.items name)) ≡ around_impl (bodies.all_rules env) adts name
 same_number env adts name s e = λ i. record (bodies.all_rules env) { self_adt = position_of (λ adt. bytes_eq adt.name name) (e i) }
 
-bodies_keep : (env : Env) (adts : List Adt) (i : Syn) (s : State) → s.items.adts ≡ adts → Keeps (item_text (bodies.all_rules
+pub bodies_keep : (env : Env) (adts : List Adt) (i : Syn) (s : State) → s.items.adts ≡ adts → Keeps (item_text (bodies.all_rules
     env) adts i) s (rules.bodies_of env i s)
 bodies_keep env adts (syn at (ImplItem trait_ name methods)) s e =
     subst (λ around. Keeps (functions_text around (list_of methods)) s (rules.all_fn_rules (rules.in_impl env (adt_named

@@ -192,7 +192,7 @@ nothing_inside _ to h is = false≢true h
 scalar_at : (id : TyId) (ty : Ty) → type_at collected.no_items id ≡ Some ty → IsTrue (is_scalar ty)
 scalar_at id ty at = all_at (λ t. IsTrue (is_scalar t)) scalars id.0 ty scalars_are at
 
-ready_at_first : AreReady collected.no_items
+pub ready_at_first : AreReady collected.no_items
 ready_at_first = record {
   begins = λ n ty h. h;
   distinct = scalars_distinct;
@@ -221,12 +221,11 @@ ready_at_first = record {
 
 -- ---- the whole
 
-pub items_ready : (parts : Parts Pos) (end : Pos) (items : ItemTable) (p : ProgramTree) → collected.collected parts end ≡ Ok
-    items → rules.checked parts items ≡ Ok p → TellBodies (items_of parts) → AreReady items
-items_ready parts end items p is_collected is_checked tell =
-    by (collected.collecting (items_of parts) end (collected.starting_with collected.no_items)) (collecting_ready (items_of
-    parts) end (items_keep (collected.known_of (items_of parts)) (items_of parts) (legal_items _ walked_items is_checked)
-    legal_texts)) is_collected
+-- each item and each body that is listed for it keeps all rules, as it is written
+pub items_kept : (parts : Parts Pos) (end : Pos) (items : ItemTable) (p : ProgramTree) → collected.collected parts end ≡ Ok
+    items → rules.checked parts items ≡ Ok p → TellBodies (items_of parts) → All ItemKeeps (items_of parts)
+items_kept parts end items p is_collected is_checked tell =
+    items_keep (collected.known_of (items_of parts)) (items_of parts) (legal_items _ walked_items is_checked) legal_texts
   where
     walked_items : Walked (λ a t. All (λ i. IsTrue (item_legal i)) (item_syns (items_of parts))) (rules.all_items
         (rules.outermost (item_syns (items_of parts))) (record { methods = []; impls = [] }) (item_syns (items_of parts))
@@ -250,6 +249,12 @@ items_ready parts end items p is_collected is_checked tell =
         (words_collected (items_of parts) items.adts heads.adts) (items_of parts) tell)) (made_legal w.0.items (length
         items.closures) (length w.0.items.closures) (program_text items.adts parts []) w.1.met.new (w.1.met.made []))
 
+pub items_ready : (parts : Parts Pos) (end : Pos) (items : ItemTable) (p : ProgramTree) → collected.collected parts end ≡ Ok
+    items → rules.checked parts items ≡ Ok p → TellBodies (items_of parts) → AreReady items
+items_ready parts end items p is_collected is_checked tell =
+    by (collected.collecting (items_of parts) end (collected.starting_with collected.no_items)) (collecting_ready (items_of
+    parts) end (items_kept parts end items p is_collected is_checked tell)) is_collected
+  where
     by : (r : Result (Unit {0} × State) Broken) → Walked (λ a t. AreReady collected.no_items → AreReady t.items) r →
         collected.items_in r ≡ Ok items → AreReady items
     by (Ok a) w e = subst AreReady (ok_same a.1.items items e) (w.so ready_at_first)

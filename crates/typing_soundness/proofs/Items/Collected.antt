@@ -5,6 +5,10 @@ use Rattle.typing_rules.specs.Promises.{is_plain_name}
 use Rattle.std.specs.List.{list_any, position as position_of, filter_map}
 use Rattle.std.proofs.lemmas.Bool.{false≢true}
 use Rattle.std.proofs.lemmas.List.{append_assoc, append-nil}
+use Rattle.std.proofs.lemmas.List.Quantifiers.{position-Some}
+use Rattle.std.proofs.lemmas.Option.{slice_get-get_or}
+use Rattle.std.proofs.lemmas.Slice.Eq.{bytes_eq-Decides}
+use Rattle.std.specs.Str.{bytes_eq}
 use Rattle.mir_base.specs.declared.place_in_text.Pos.{Pos}
 use Rattle.mir_base.specs.declared.rule.Rule.{Rule}
 use Rattle.mir_ty.specs.AreItems.{AreDistinct}
@@ -24,7 +28,7 @@ use Rattle.typing_rules.specs.Written as types
 use Rattle.src_ast.specs.Syntax.{number_word, Word, Named, Receiver, ByValue, ByShared, ByUnique, Syn, syn, Shape, NamedType, GenericType, DynType, SelfType, ParensType, TupleType, ArrayType, NeverType, RefType, MoveOf, StructItem, EnumItem, VariantDecl, TraitItem, ImplItem, FnItem, ParamOf, SelfParam, Syns, no_syn, a_syn, list_of, MaybeSyn, nothing, just}
 use Rattle.typing_soundness.specs.Closures.{BodySyn, Function, Closure, Head, Tape}
 use Rattle.typing_soundness.specs.Met.{IsReceiver, MeansParam, MeanParams, MeansAnswer, HasTypes, AreMade, behind}
-use Rattle.typing_soundness.specs.Heads.{MeansIfAny, MeansClosureParam, MeanClosureParams, MeansClosureAnswer, AreHeadTypes, IsHeadOf, IsVariantOf, AreVariantsOf, IsAdtOf, AreAdtsOf, body_text, bodies_text}
+use Rattle.typing_soundness.specs.Heads.{owner_of, MeansIfAny, MeansClosureParam, MeanClosureParams, MeansClosureAnswer, AreHeadTypes, IsHeadOf, IsVariantOf, AreVariantsOf, IsAdtOf, AreAdtsOf, body_text, bodies_text}
 use Rattle.typing_soundness.specs.Types.{HaveTypes, NamesTy, Means, MeansForm, MeanAll}
 use Rattle.typing_soundness.specs.Walks.{Walked}
 use Rattle.typing_soundness.proofs.Items.Meanings.{have_refl, interned_means, written_given, param_given}
@@ -218,7 +222,7 @@ collects_both {f} {g} {is} {js} {a} {b} {c} {s} {t} {u} p q = record {
 -- ---- heads
 
 -- two facts of one check
-both_tell : {A : Type 0} {P Q : A → State → Type 0} (r : Result (A × State) Broken) → Walked P r → Walked Q r → Walked (λ
+pub both_tell : {A : Type 0} {P Q : A → State → Type 0} (r : Result (A × State) Broken) → Walked P r → Walked Q r → Walked (λ
     a t. P a t × Q a t) r
 both_tell (Ok a) h k = record { so = (h.so, k.so) }
 both_tell (Err e) h k = record { so = tt }
@@ -228,7 +232,7 @@ module _ (around : types.Around) where
   abbrev named : types.Around
   named = record around { has_limits = false }
 
-  param_collected : (p : Syn) (s : State) → Walked (λ ty t. SameWalk s t × Means around t.items p ty) (types.written_param
+  pub param_collected : (p : Syn) (s : State) → Walked (λ ty t. SameWalk s t × Means around t.items p ty) (types.written_param
       named p s)
   param_collected p s =
       walk_map (both_tell (types.written_param named p s) (written_param_still named p s) (param_given named p s)) λ ty t
@@ -261,7 +265,7 @@ module _ (around : types.Around) where
 
   -- ---- parameters and answers
 
-  receiver_collected : (own : TyId) (receiver : Receiver) (s : State) → Walked (λ ty t. SameWalk s t × IsReceiver t.items
+  pub receiver_collected : (own : TyId) (receiver : Receiver) (s : State) → Walked (λ ty t. SameWalk s t × IsReceiver t.items
       receiver own ty) (rules.receiver_ty own receiver s)
   receiver_collected own ByValue s = walk_ends (still s, refl)
   receiver_collected own ByShared s =
@@ -297,7 +301,7 @@ module _ (around : types.Around) where
         (param_later t.items u.items k.0.stays.types around first ty h.1, k.1),
       )
 
-  answer_collected : (answer : MaybeSyn) (s : State) → Walked (λ ty t. SameWalk s t × MeansAnswer around t.items answer ty)
+  pub answer_collected : (answer : MaybeSyn) (s : State) → Walked (λ ty t. SameWalk s t × MeansAnswer around t.items answer ty)
       (rules.answer_ty named answer s)
   answer_collected nothing s = walk_ends (still s, refl)
   answer_collected (just ty) s = type_collected ty s
@@ -307,7 +311,7 @@ module _ (around : types.Around) where
   closure_param_collected (syn at (ParamOf p ty)) s = or_unit_collected ty s
   closure_param_collected (syn at _) s = walk_ends (still s, tt)
 
-  closure_params_collected : (ps : Syns) (s : State) → Walked (λ tys t. SameWalk s t × MeanClosureParams around t.items ps
+  pub closure_params_collected : (ps : Syns) (s : State) → Walked (λ tys t. SameWalk s t × MeanClosureParams around t.items ps
       tys) (each_checked (rules.closure_param named) (list_of ps) s)
   closure_params_collected no_syn s = walk_ends (still s, tt)
   closure_params_collected (a_syn first rest) s =
@@ -316,7 +320,7 @@ module _ (around : types.Around) where
         (closure_param_later t.items u.items k.0.stays.types around first ty h.1, k.1),
       )
 
-  closure_answer_collected : (answer : MaybeSyn) (s : State) → Walked (λ ty t. SameWalk s t × MeansClosureAnswer around
+  pub closure_answer_collected : (answer : MaybeSyn) (s : State) → Walked (λ ty t. SameWalk s t × MeansClosureAnswer around
       t.items answer ty) (types.or_unit (rules.answer_ty named answer) s)
   closure_answer_collected nothing s = walk_ends (still s, refl)
   closure_answer_collected (just ty) s = or_unit_collected ty s
@@ -341,13 +345,14 @@ module _ (around : types.Around) where
     );
   }
 
-  sig_collected : (at : Pos) (name : Word) (params : Syns) (answer : MaybeSyn) (s : State) → Walked (λ sig t. SameWalk s
-      t × HasTypes t.items (record { around = around; params = params; answer = answer }) sig.params sig.result)
-      (rules.sig_of named (rules.own_ty at around.self_adt) name params answer s)
+  pub sig_collected : (at : Pos) (name : Word) (params : Syns) (answer : MaybeSyn) (s : State) → Walked (λ sig t. SameWalk s
+      t × HasTypes t.items (record { around = around; name = []; params = params; answer = answer }) sig.params sig.result × (sig.name ≡
+      name)) (rules.sig_of named (rules.own_ty at around.self_adt) name params answer s)
   sig_collected at name params answer s =
       walk (head_params_collected at params s) λ tys t h. walk (answer_collected answer t) λ ty u k. walk_ends (
         onward h.0 k.0,
         (params_later t.items u.items k.0.stays.types around params tys h.1, k.1),
+        refl,
       )
 
 -- what is known of all items, within an impl or outside
@@ -372,18 +377,22 @@ marked_behind n (w ∷ ws) =
 marked : (outer : Word) (n : ℕ) → is_plain_name (closure_name outer n) ≡ false
 marked outer n = ap not (marked_behind n outer)
 
-pub body_collected : (k : rules.Known) (owner : Option Word) (c : rules.Count) (b : Syn) (s : State) → Walked (λ d t. Collects
+-- the struct or enum of an impl is there
+abbrev pub IsOwner : rules.Known → Option Word → Type 0
+IsOwner k owner = owner_of (all_names k owner) ≡ owner
+
+pub body_collected : (k : rules.Known) (owner : Option Word) (own : IsOwner k owner) (c : rules.Count) (b : Syn) (s : State) → Walked (λ d t. Collects
     (body_text (all_names k owner) b) [] c.closures d.closures s t) (rules.body_sig k owner c b s)
-body_collected k owner c (syn at (FnItem name params answer block)) s =
+body_collected k owner own c (syn at (FnItem name params answer block)) s =
     walk (sig_collected (all_names k owner) at (full_name owner name.1) params answer s) λ sig t h. walk_ends (with_head
-    (all_names k owner) (Function (record { around = all_names k owner; params = params; answer = answer })) c.closures s
-    t sig h.0 (h.1, tt))
-body_collected k owner c (syn at (MoveOf captures params answer body)) s =
+    (all_names k owner) (Function (record { around = all_names k owner; name = name.1; params = params; answer = answer })) c.closures s
+    t sig h.0 (h.1, h.2 ∙ ap (λ o. full_name o name.1) (sym own)))
+body_collected k owner own c (syn at (MoveOf captures params answer body)) s =
     walk closure_collected λ _ t h. walk_ends (subst (λ n. Collects (body_text (all_names k owner) (syn at (MoveOf captures
     params answer body))) [] c.closures n s t) (omega arith) h)
   where
     head : Head
-    head = record { around = all_names k owner; params = params; answer = answer }
+    head = record { around = all_names k owner; name = []; params = params; answer = answer }
 
     name : Word
     name = closure_name c.outer (c.in_outer + 1)
@@ -409,12 +418,14 @@ body_collected k owner c (syn at (MoveOf captures params answer body)) s =
         walk params_given λ tys t h. walk (closure_answer_collected (all_names k owner) answer t) λ ty u g. walk_ends
         (with_head (all_names k owner) (Closure (record {
           around = all_names k owner;
+          name = [];
           params = params;
           answer = answer;
         })) c.closures s u (record { name = name; params = tys; result = ty }) (onward h.0 g.0) (
           (subst (λ xs. AreHeadTypes
               u.items c.closures (Closure (record {
                 around = all_names k owner;
+                name = [];
                 params = params;
                 answer = answer;
               })) xs ty) (sym h.3) (
@@ -424,13 +435,13 @@ body_collected k owner c (syn at (MoveOf captures params answer body)) s =
               )),
           marked c.outer (c.in_outer + 1),
         ))
-body_collected k owner c (syn at _) s = record { so = tt }
+body_collected k owner own c (syn at _) s = record { so = tt }
 
-pub bodies_collected : (k : rules.Known) (owner : Option Word) (c : rules.Count) (bs : List Syn) (s : State) → Walked (λ d t.
+pub bodies_collected : (k : rules.Known) (owner : Option Word) (own : IsOwner k owner) (c : rules.Count) (bs : List Syn) (s : State) → Walked (λ d t.
     Collects (bodies_text (all_names k owner) bs) [] c.closures d.closures s t) (rules.body_sigs k owner c bs s)
-bodies_collected k owner c [] s = walk_ends (collects_refl c.closures s)
-bodies_collected k owner c (b ∷ bs) s =
-    walk (body_collected k owner c b s) λ d t h. walk_map (bodies_collected k owner d bs t) λ e u g. collects_both h g
+bodies_collected k owner own c [] s = walk_ends (collects_refl c.closures s)
+bodies_collected k owner own c (b ∷ bs) s =
+    walk (body_collected k owner own c b s) λ d t h. walk_map (bodies_collected k owner own d bs t) λ e u g. collects_both h g
 
 -- ---- items
 
@@ -441,11 +452,11 @@ each_still f good [] s = walk_ends (still s)
 each_still f good (x ∷ xs) s =
     walk (good x s) λ y t e. walk (each_still f good xs t) λ ys u g. walk_ends (onward e g)
 
-obeyed_still : (rule : Rule) (at : Pos) (holds : Bool) (s : State) → Walked (Still s) (obeys rule at holds s)
+pub obeyed_still : (rule : Rule) (at : Pos) (holds : Bool) (s : State) → Walked (Still s) (obeys rule at holds s)
 obeyed_still rule at true s = walk_ends (still s)
 obeyed_still rule at false s = record { so = tt }
 
-derives_still : (ds : List Named) (s : State) → Walked (Still s) (rules.derives_known ds s)
+pub derives_still : (ds : List Named) (s : State) → Walked (Still s) (rules.derives_known ds s)
 derives_still [] s = walk_ends (still s)
 derives_still (d ∷ ds) s =
     walk_obeyed Rule.T01 d.0 (rules.is_derivable d.1) (rules.derives_known ds) λ _. derives_still ds s
@@ -461,7 +472,7 @@ names_counted : (k : ℕ) (fs : List Syn) → length (rules.names_from k fs) ≡
 names_counted k [] = refl
 names_counted k (f ∷ fs) = ap suc (names_counted (suc k) fs)
 
-variant_collected : (around : types.Around) (name : Word) (fields : Syns) (s : State) → Walked (λ v t. SameWalk s t × (v.name
+pub variant_collected : (around : types.Around) (name : Word) (fields : Syns) (s : State) → Walked (λ v t. SameWalk s t × (v.name
     ≡ name) × IsVariantOf fields v) (rules.variant_of around name fields s)
 variant_collected around name fields s =
     walk (each_counted (λ f. types.written around (rules.field_type f)) (λ f t. written_still around (rules.field_type f)
@@ -478,7 +489,7 @@ declared_collected around (syn at (VariantDecl name kind fields)) s =
     walk_map (variant_collected around name fields s) λ v t h. (h.0, (h.1, h.2))
 declared_collected around (syn at _) s = record { so = tt }
 
-variants_collected : (around : types.Around) (vs : Syns) (s : State) → Walked (λ xs t. SameWalk s t × AreVariantsOf vs xs)
+pub variants_collected : (around : types.Around) (vs : Syns) (s : State) → Walked (λ xs t. SameWalk s t × AreVariantsOf vs xs)
     (each_checked (rules.declared_variant around) (list_of vs) s)
 variants_collected around no_syn s = walk_ends (still s, tt)
 variants_collected around (a_syn first rest) s =
@@ -515,7 +526,7 @@ sig_still around self good name params answer s =
     walk (each_still (rules.param_ty around self) (param_still around self good) (list_of params) s) λ tys t e. walk
     (answer_ty_still around answer t) λ ty u g. walk_ends (onward e g)
 
-trait_head_still : (around : types.Around) (own : TyId) (h : Syn) (s : State) → Walked (Still s) (rules.trait_head around
+pub trait_head_still : (around : types.Around) (own : TyId) (h : Syn) (s : State) → Walked (Still s) (rules.trait_head around
     own h s)
 trait_head_still around own (syn at (FnItem name params answer block)) s = by (rules.has_receiver params)
   where
@@ -573,6 +584,39 @@ item_head_collected k n (syn at (ImplItem (Some trait_) name methods)) s =
     (obeyed_still Rule.T01 name.0 (is_some (types.number_of k.adts name.1)) s) λ _ t e. collects_still n e
 item_head_collected k n (syn at _) s = walk_ends (collects_refl n s)
 
+-- a name stands at its number
+same_word : (a b : Word) → bytes_eq a b ≡ true → a ≡ b
+same_word a b h = (bytes_eq-Decides a b).0 h
+
+pub word_at : (ws : List Word) (w : Word) (n : ℕ) → types.number_of ws w ≡ Some n → slice_get ws n ≡ Some w
+word_at ws w n h =
+    let at = position-Some (bytes_eq w) ws n [] h in
+    slice_get-get_or ws n [] at.0 ∙ ap Some (sym (same_word w _ at.1))
+
+is_owner : (k : rules.Known) (w : Word) → IsTrue (is_some (types.number_of k.adts w)) → IsOwner k (Some w)
+is_owner k w h = by (types.number_of k.adts w) refl h
+  where
+    by : (o : Option ℕ) → types.number_of k.adts w ≡ o → IsTrue (is_some o) → option_and_then (slice_get k.adts) o ≡ Some w
+    by (Some n) e h = word_at k.adts w n e
+    by None e h = absurd (false≢true h)
+
+obeyed_tells : {P : Type 0} (rule : Rule) (at : Pos) (b : Bool) (s : State) → (IsTrue b → P) → Walked (λ _ t. P) (obeys rule
+    at b s)
+obeyed_tells rule at true s h = walk_ends (h refl)
+obeyed_tells rule at false s h = record { so = tt }
+
+tells_so : {A : Type 0} {P : Type 0} (r : Result (A × State) Broken) → P → Walked (λ a t. P) r
+tells_so (Ok a) p = walk_ends p
+tells_so (Err e) p = record { so = tt }
+
+pub owner_known : (k : rules.Known) (i : Syn) (s : State) → Walked (λ _ t. IsOwner k (impl_owner i)) (rules.item_head k i s)
+owner_known k (syn at (ImplItem None name methods)) s =
+    obeyed_tells Rule.T01 name.0 (is_some (types.number_of k.adts name.1)) s (is_owner k name.1)
+owner_known k (syn at (ImplItem (Some trait_) name methods)) s =
+    walk_obeyed Rule.T01 trait_.0 (rules.is_drop trait_.1 || is_some (types.number_of k.traits trait_.1)) _ λ _.
+    obeyed_tells Rule.T01 name.0 (is_some (types.number_of k.adts name.1)) s (is_owner k name.1)
+owner_known k (syn at _) s = tells_so _ refl
+
 -- ---- the whole
 
 -- the bodies that are listed for all items, and the structs and enums
@@ -588,31 +632,37 @@ heads_collected : (k : rules.Known) (c : rules.Count) (is : List ItemSyn) (s : S
     (listed_text k is) (all_adts is) c.closures n s t) (rules.heads_collected k c is s)
 heads_collected k c [] s = walk_ends (c.closures, collects_refl c.closures s)
 heads_collected k c (i ∷ is) s =
-    walk (item_head_collected k c.closures i.item s) λ _ t h. walk (bodies_collected k (impl_owner i.item) c i.bodies t) λ
-    d u g. walk_map (heads_collected k d is u) λ _ v f. (f.0, collects_both h (collects_both g f.1))
+    walk (both_tell (rules.item_head k i.item s) (owner_known k i.item s) (item_head_collected k c.closures i.item s)) λ _ t
+    h. walk (bodies_collected k (impl_owner i.item) h.0 c i.bodies t) λ d u g. walk_map (heads_collected k d is u) λ _ v f. (
+      f.0,
+      collects_both h.1 (collects_both g f.1),
+    )
 
 -- what only makes types and impls
 pub record SameHeads (s t : State) : Type 0 where
   pub types : HaveTypes s.items t.items
   pub distinct : AreDistinct s.items.types → AreDistinct t.items.types
   pub adts : t.items.adts ≡ s.items.adts
+  pub traits : t.items.traits ≡ s.items.traits
   pub closures : t.items.closures ≡ s.items.closures
   pub heads : t.items.bodies ≡ s.items.bodies
 
-same_heads : {s t : State} → SameWalk s t → SameHeads s t
+pub same_heads : {s t : State} → SameWalk s t → SameHeads s t
 same_heads e = record {
   types = e.stays.types;
   distinct = e.stays.distinct;
   adts = e.stays.adts;
+  traits = e.stays.traits;
   closures = e.stays.closures;
   heads = e.stays.heads;
 }
 
-same_both : {s t u : State} → SameHeads s t → SameHeads t u → SameHeads s u
+pub same_both : {s t u : State} → SameHeads s t → SameHeads t u → SameHeads s u
 same_both p q = record {
   types = λ n ty h. q.types n ty (p.types n ty h);
   distinct = λ h. q.distinct (p.distinct h);
   adts = q.adts ∙ p.adts;
+  traits = q.traits ∙ p.traits;
   closures = q.closures ∙ p.closures;
   heads = q.heads ∙ p.heads;
 }
@@ -633,26 +683,27 @@ impl_same k (syn at (ImplItem (Some trait_) name methods)) s = by (rules.is_drop
           types = λ n ty h. h;
           distinct = λ h. h;
           adts = refl;
+          traits = refl;
           closures = refl;
           heads = refl;
         })
 impl_same k (syn at (ImplItem None name methods)) s = walk_ends (same_heads (still s))
 impl_same k (syn at _) s = walk_ends (same_heads (still s))
 
-impls_same : (k : rules.Known) (is : List Syn) (s : State) → Walked (λ _ t. SameHeads s t) (each_checked (rules.impl_of k)
+pub impls_same : (k : rules.Known) (is : List Syn) (s : State) → Walked (λ _ t. SameHeads s t) (each_checked (rules.impl_of k)
     is s)
 impls_same k [] s = walk_ends (same_heads (still s))
 impls_same k (i ∷ is) s =
     walk (impl_same k i s) λ _ t e. walk (impls_same k is t) λ _ u g. walk_ends (same_both e g)
 
-finite_still : (n : ℕ) (as_ : List (Pos × List Named)) (s : State) → Walked (Still s) (rules.all_finite n as_ s)
+pub finite_still : (n : ℕ) (as_ : List (Pos × List Named)) (s : State) → Walked (Still s) (rules.all_finite n as_ s)
 finite_still n [] s = walk_ends (still s)
 finite_still n (a ∷ as_) s =
     walk {f = λ _. rules.all_finite (suc n) as_} (walk (interned_still (Ty.Adt n) s (still s)) λ ty t e. walk_map
     (obeyed_still Rule.T09 a.0 (not (rules.holds t.items ty ty)) t) λ _ u g. onward e g) λ _ t e. walk_map (finite_still
     (suc n) as_ t) λ _ u g. onward e g
 
-derive_still : (n : ℕ) (as_ : List (Pos × List Named)) (s : State) → Walked (Still s) (rules.all_derive n as_ s)
+pub derive_still : (n : ℕ) (as_ : List (Pos × List Named)) (s : State) → Walked (Still s) (rules.all_derive n as_ s)
 derive_still n [] s = walk_ends (still s)
 derive_still n (a ∷ as_) s =
     walk (obeyed_still Rule.T10 a.0 (rules.may_derive s.items a.1 (slice_get s.items.adts n)) s) λ _ t e. walk_map

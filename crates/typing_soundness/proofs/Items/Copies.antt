@@ -34,21 +34,21 @@ use Rattle.typing_soundness.proofs.Walking.Steps.{walk, walk_map, walk_obeyed, w
 
 -- ---- what is asked at the end of the collection
 
-abbrev Derived : Type 0
+abbrev pub Derived : Type 0
 Derived = List (Pos × List Named)
 
-abbrev AreDerived : ItemTable → ℕ → Derived → Type 0
+abbrev pub AreDerived : ItemTable → ℕ → Derived → Type 0
 AreDerived items n [] = Unit {0}
 AreDerived items n (a ∷ as_) = IsTrue (rules.may_derive items a.1 (slice_get items.adts n)) × AreDerived items (suc n) as_
 
-all_derived : (n : ℕ) (as_ : Derived) (s : State) → Walked (λ _ t. (t.items ≡ s.items) × AreDerived s.items n as_)
+pub all_derived : (n : ℕ) (as_ : Derived) (s : State) → Walked (λ _ t. (t.items ≡ s.items) × AreDerived s.items n as_)
     (rules.all_derive n as_ s)
 all_derived n [] s = walk_ends (refl, tt)
 all_derived n (a ∷ as_) s =
     walk_obeyed Rule.T10 a.0 (rules.may_derive s.items a.1 (slice_get s.items.adts n)) _ λ h. walk_map (all_derived (suc n)
     as_ s) λ _ t k. (k.0, (h, k.1))
 
-abbrev derived_in : List ItemSyn → Derived
+abbrev pub derived_in : List ItemSyn → Derived
 derived_in is = filter_map rules.adt_item (item_syns is)
 
 collecting_derived : (is : List ItemSyn) (end : Pos) (s : State) → Walked (λ _ t. AreDerived t.items 0 (derived_in is))
@@ -73,7 +73,7 @@ derived_with (syn at (StructItem ds name kind fields)) is e = ap (λ as_. (at, d
 derived_with (syn at (EnumItem ds name variants)) is e = ap (λ as_. (at, ds) ∷ as_) e
 derived_with (syn at _) is e = e
 
-derived_of_text : (is : List ItemSyn) → filter_map rules.adt_item (all_adts is) ≡ derived_in is
+pub derived_of_text : (is : List ItemSyn) → filter_map rules.adt_item (all_adts is) ≡ derived_in is
 derived_of_text [] = refl
 derived_of_text (i ∷ is) = derived_with i.item is (derived_of_text is)
 

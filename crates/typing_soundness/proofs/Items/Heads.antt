@@ -45,7 +45,7 @@ abbrev tells_param : Option Ty → Bool
 tells_param o = is_some o && not (is_some (option_and_then dyn_in o))
 
 -- a type that is there and is no `dyn`, and no reference where some test holds
-abbrev IsMadeTy : ItemTable → Bool → TyId → Type 0
+abbrev pub IsMadeTy : ItemTable → Bool → TyId → Type 0
 IsMadeTy items test id =
     (ty : Ty) × (type_at items id ≡ Some ty) × (dyn_in ty ≡ None) × (IsTrue test → reference_in ty ≡ None)
 
@@ -54,7 +54,7 @@ alone_so : (items : ItemTable) (id : TyId) (ty : Ty) → type_at items id ≡ So
 alone_so items id ty at d r =
     ap tells_alone at ∙ ap (λ o. not (is_some o) && not (is_some (reference_in ty))) d ∙ ap (λ o. not (is_some o)) r
 
-param_so : (items : ItemTable) (id : TyId) (ty : Ty) → type_at items id ≡ Some ty → dyn_in ty ≡ None → IsTrue (is_param
+pub param_so : (items : ItemTable) (id : TyId) (ty : Ty) → type_at items id ≡ Some ty → dyn_in ty ≡ None → IsTrue (is_param
     items id)
 param_so items id ty at d = ap tells_param at ∙ ap (λ o. not (is_some o)) d
 
@@ -94,7 +94,7 @@ module _ (items : ItemTable) (all : AreReady items) (around : Around) where
   reference_made false inside id h = (Ty.Shared inside, h, refl, λ l. absurd (false≢true l))
 
   mutual
-    means_made : (e : Syn) (id : TyId) → Means around items e id → IsMadeTy items (legal e) id
+    pub means_made : (e : Syn) (id : TyId) → Means around items e id → IsMadeTy items (legal e) id
     means_made (syn at form) id h = form_made form id h
 
     form_made : (form : Shape) (id : TyId) → MeansForm around items form id → IsMadeTy items (legal_form form) id

@@ -35,7 +35,7 @@ use Rattle.typing_rules.proofs.Sound.Interned.{interned_sound}
 use Rattle.typing_rules.proofs.Sound.Later.{known_later, ready_later}
 use Rattle.typing_soundness.specs.Legal.{legal, legal_form, all_legal, legal_param, legal_param_form, param_legal, params_legal, answer_legal, head_legal, field_legal, fields_legal, variant_legal, variants_legal, trait_head_legal, trait_heads_legal, body_legal, item_legal}
 use Rattle.typing_soundness.specs.Walks.{Walked}
-use Rattle.typing_soundness.proofs.Items.Collected.{all_names, body_collected, bodies_collected, item_head_collected, names_still}
+use Rattle.typing_soundness.proofs.Items.Collected.{IsOwner, all_names, owner_known, body_collected, bodies_collected, item_head_collected, names_still}
 use Rattle.std.specs.List.{filter_map}
 use Rattle.typing_soundness.proofs.Bodies.Types.{IsPlain, IsParamTy, adt_plain, ref_param, plain_alone, plain_param, value_plain, unit_plain, written_plain, written_param_sound}
 use Rattle.typing_soundness.proofs.Walking.Lawful.{all_are_legal}
@@ -430,7 +430,7 @@ ready_with_body items sig all params result = record {
 abbrev pub Readies : {A : Type 0} → State → (A → State → Type 0) → Result (A × State) Broken → Type 0
 Readies s Q r = Walked (λ a t. AreReady s.items → AreReady t.items × Q a t) r
 
-ready_of : {A : Type 0} {s : State} (Q : ItemTable → A → Type 0) (r : Result (A × State) Broken) → Gives s (λ w a. Q
+pub ready_of : {A : Type 0} {s : State} (Q : ItemTable → A → Type 0) (r : Result (A × State) Broken) → Gives s (λ w a. Q
     w.items a) r → Readies s (λ a t. Q t.items a) r
 ready_of Q (Ok a) g = walk_ends (λ ready. ((g.so ready).0.ready ready, (g.so ready).1 a.1 (grows_refl a.1)))
 ready_of Q (Err e) g = record { so = tt }
@@ -688,26 +688,27 @@ both_ready : {A : Type 0} {P Q : A → State → Type 0} (r : Result (A × State
 both_ready (Ok a) h k = record { so = (h.so, k.so) }
 both_ready (Err e) h k = record { so = tt }
 
-bodies_ready : (k : rules.Known) (owner : Option Word) (c : rules.Count) (bs : List Syn) (s : State) → All (λ b. IsTrue
+bodies_ready : (k : rules.Known) (owner : Option Word) (own : IsOwner k owner) (c : rules.Count) (bs : List Syn) (s : State) → All (λ b. IsTrue
     (body_legal b)) bs → s.items.closures ≡ [] → Readies s Kept (rules.body_sigs k owner c bs s)
-bodies_ready k owner c [] s h none = walk_ends (λ ready. (ready, tt))
-bodies_ready k owner c (b ∷ bs) s h none =
-    walk (both_ready (rules.body_sig k owner c b s) (body_ready k owner c b s h.0 none) (body_collected k owner c b s)) λ d t
-    e. walk_map (bodies_ready k owner d bs t h.1 (e.1.closures ∙ none)) λ x u g ready. g (e.0 ready).0
+bodies_ready k owner own c [] s h none = walk_ends (λ ready. (ready, tt))
+bodies_ready k owner own c (b ∷ bs) s h none =
+    walk (both_ready (rules.body_sig k owner c b s) (body_ready k owner c b s h.0 none) (body_collected k owner own c b s)) λ d t
+    e. walk_map (bodies_ready k owner own d bs t h.1 (e.1.closures ∙ none)) λ x u g ready. g (e.0 ready).0
 
 -- ---- all items
 
 abbrev pub ItemKeeps : ItemSyn → Type 0
 ItemKeeps i = IsTrue (item_legal i.item) × All (λ b. IsTrue (body_legal b)) i.bodies
 
-heads_ready : (k : rules.Known) (c : rules.Count) (is : List ItemSyn) (s : State) → All ItemKeeps is → s.items.closures ≡ [] →
+pub heads_ready : (k : rules.Known) (c : rules.Count) (is : List ItemSyn) (s : State) → All ItemKeeps is → s.items.closures ≡ [] →
     Readies s Kept (rules.heads_collected k c is s)
 heads_ready k c [] s h none = walk_ends (λ ready. (ready, tt))
 heads_ready k c (i ∷ is) s h none =
-    walk (both_ready (rules.item_head k i.item s) (item_head_ready k i.item s h.0.0) (item_head_collected k c.closures i.item
-    s)) λ _ t e. walk (both_ready (rules.body_sigs k (impl_owner i.item) c i.bodies t) (bodies_ready k (impl_owner i.item) c
-    i.bodies t h.0.1 (e.1.closures ∙ none)) (bodies_collected k (impl_owner i.item) c i.bodies t)) λ d u f. walk_map
-    (heads_ready k d is u h.1 (f.1.closures ∙ (e.1.closures ∙ none))) λ x v g ready. g (f.0 (e.0 ready).0).0
+    walk (both_ready (rules.item_head k i.item s) (item_head_ready k i.item s h.0.0) (both_ready (rules.item_head k i.item s)
+    (owner_known k i.item s) (item_head_collected k c.closures i.item s))) λ _ t e. walk (both_ready (rules.body_sigs k
+    (impl_owner i.item) c i.bodies t) (bodies_ready k (impl_owner i.item) e.1.0 c i.bodies t h.0.1 (e.1.1.closures ∙ none))
+    (bodies_collected k (impl_owner i.item) e.1.0 c i.bodies t)) λ d u f. walk_map (heads_ready k d is u h.1 (f.1.closures ∙
+    (e.1.1.closures ∙ none))) λ x v g ready. g (f.0 (e.0 ready).0).0
 
 with_impl_ready : (items : ItemTable) (def : ImplDef) → AreReady items → AreReady (with_impl items def)
 with_impl_ready items def all = record {
@@ -743,20 +744,21 @@ impl_ready k (syn at (ImplItem (Some trait_) name methods)) s = by (rules.is_dro
 impl_ready k (syn at (ImplItem None name methods)) s = walk_ends (λ ready. (ready, tt))
 impl_ready k (syn at _) s = walk_ends (λ ready. (ready, tt))
 
-impls_ready : (k : rules.Known) (is : List Syn) (s : State) → Readies s Kept (each_checked (rules.impl_of k) is s)
+pub impls_ready : (k : rules.Known) (is : List Syn) (s : State) → Readies s Kept (each_checked (rules.impl_of k) is s)
 impls_ready k [] s = walk_ends (λ ready. (ready, tt))
 impls_ready k (i ∷ is) s =
     walk (impl_ready k i s) λ _ t e. walk (impls_ready k is t) λ _ u g. walk_ends (λ ready. g (e ready).0)
 
+pub is_finite_ready : (n : ℕ) (at : Pos) (s : State) → Readies s Kept (rules.is_finite n at s)
+is_finite_ready n at s =
+    ready_of (λ items u. Unit {0}) (rules.is_finite n at s) (bind (adt_plain n s) λ ty t g d. obeyed_ready Rule.T09 at (not
+    (rules.holds t.items ty ty)) t)
+
 finite_ready : (n : ℕ) (as_ : List (Pos × List Named)) (s : State) → Readies s Kept (rules.all_finite n as_ s)
 finite_ready n [] s = walk_ends (λ ready. (ready, tt))
 finite_ready n (a ∷ as_) s =
-    walk {f = λ _. rules.all_finite (suc n) as_} (ready_of (λ items u. Unit {0}) _ one) λ _ t e. walk_map (finite_ready (suc
-    n) as_ t) λ x u g ready. g (e ready).0
-  where
-    one : Gives s (λ w u. Unit {0}) (rules.is_finite n a.0 s)
-    one =
-        bind (adt_plain n s) λ ty t g d. obeyed_ready Rule.T09 a.0 (not (rules.holds t.items ty ty)) t
+    walk {f = λ _. rules.all_finite (suc n) as_} (is_finite_ready n a.0 s) λ _ t e. walk_map (finite_ready (suc n) as_ t) λ
+    x u g ready. g (e ready).0
 
 derive_ready : (n : ℕ) (as_ : List (Pos × List Named)) (s : State) → Readies s Kept (rules.all_derive n as_ s)
 derive_ready n [] s = walk_ends (λ ready. (ready, tt))
@@ -764,7 +766,7 @@ derive_ready n (a ∷ as_) s =
     walk (ready_of (λ items u. Unit {0}) _ (obeyed_ready Rule.T10 a.0 (rules.may_derive s.items a.1 (slice_get s.items.adts
     n)) s)) λ _ t e. walk_map (derive_ready (suc n) as_ t) λ x u g ready. g (e ready).0
 
-names_ready : (ns : List Named) (earlier : List Word) (s : State) → Readies s Kept (rules.names_differ ns earlier s)
+pub names_ready : (ns : List Named) (earlier : List Word) (s : State) → Readies s Kept (rules.names_differ ns earlier s)
 names_ready [] earlier s = walk_ends (λ ready. (ready, tt))
 names_ready (n ∷ ns) earlier s =
     walk (ready_of (λ items u. Unit {0}) _ (obeyed_ready Rule.T02 n.0 (not (is_among n.1 earlier || is_among n.1 built_in))

@@ -71,19 +71,23 @@ pub record Stays (s t : State) : Type 0 where
   pub types : HaveTypes s.items t.items
   pub distinct : AreDistinct s.items.types → AreDistinct t.items.types
   pub adts : t.items.adts ≡ s.items.adts
+  pub traits : t.items.traits ≡ s.items.traits
+  pub impls : t.items.impls ≡ s.items.impls
   pub heads : t.items.bodies ≡ s.items.bodies
   pub next_body : t.next_body ≡ s.next_body
   pub bodies : t.bodies ≡ s.bodies
   pub closures : t.items.closures ≡ s.items.closures
 
 pub stays_refl : (s : State) → Stays s s
-stays_refl s = record { types = λ n ty h. h; distinct = λ h. h; adts = refl; heads = refl; next_body = refl; bodies = refl; closures = refl }
+stays_refl s = record { types = λ n ty h. h; distinct = λ h. h; adts = refl; traits = refl; impls = refl; heads = refl; next_body = refl; bodies = refl; closures = refl }
 
 pub stays_both : {s t u : State} → Stays s t → Stays t u → Stays s u
 stays_both p q = record {
   types = λ n ty h. q.types n ty (p.types n ty h);
   distinct = λ h. q.distinct (p.distinct h);
   adts = q.adts ∙ p.adts;
+  traits = q.traits ∙ p.traits;
+  impls = q.impls ∙ p.impls;
   heads = q.heads ∙ p.heads;
   next_body = q.next_body ∙ p.next_body;
   bodies = q.bodies ∙ p.bodies;
@@ -267,7 +271,7 @@ other_occurs k n no_ = by (number_of n == k) refl
 
 -- a number is given out
 same_stays : (s : State) → Stays s (numbered s)
-same_stays s = record { types = λ n ty h. h; distinct = λ h. h; adts = refl; heads = refl; next_body = refl; bodies = refl; closures = refl }
+same_stays s = record { types = λ n ty h. h; distinct = λ h. h; adts = refl; traits = refl; impls = refl; heads = refl; next_body = refl; bodies = refl; closures = refl }
 
 -- the node that gets the next number
 pub walks_number : (s : State) (at : Pos) (ty : TyId) (by : Option Use) (form : Form) → Walks (λ rest. rest) s

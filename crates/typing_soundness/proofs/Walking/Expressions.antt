@@ -166,7 +166,7 @@ capture_stays env k (syn at (Ident name)) earlier s =
     taken_stays x =
         walk_obeyed Rule.T07 at (is_copy s.items x.ty || not (is_fixed s.items (in_own_guard env.variables) (place x) ||
         is_dyn s.items x.ty)) _ λ _. walk_obeyed Rule.T08 at (not (is_reference s.items x.ty)) _ λ _. walk_ends (record
-        { types = λ n ty h. h; distinct = λ h. h; adts = refl; heads = refl; next_body = refl; bodies = refl; closures = refl })
+        { types = λ n ty h. h; distinct = λ h. h; adts = refl; traits = refl; impls = refl; heads = refl; next_body = refl; bodies = refl; closures = refl })
 capture_stays env k (syn at _) earlier s = record { so = tt }
 
 captured_walks : (env : Env) (k : ℕ) (captures : Syns) (earlier : List Entry) (s : State) → Walked (λ c t. Walks no_closure s t
@@ -194,6 +194,7 @@ abbrev pub IsOf : types.Around → Bool → Syns → MaybeSyn → List TyId → 
 IsOf around is_legal params answer selves f s b t =
     ((tys : List TyId) × (types_of b ≡ selves ++ tys) × HasTypes t.items (record {
       around = around;
+      name = [];
       params = params;
       answer = answer;
     }) tys b.answer × IsTrue is_legal) × Met f s t
@@ -238,7 +239,7 @@ inner_walks {f} env at n ty captures params answer block good s =
         record { pattern = used (rows.taking s.items ty) (a_node_of s.next_node at ty (tree.Binding [])); ty = ty }
 
     first_stays : (s : State) → Stays s (numbered s)
-    first_stays s = record { types = λ k x h. h; distinct = λ h. h; adts = refl; heads = refl; next_body = refl; bodies = refl; closures = refl }
+    first_stays s = record { types = λ k x h. h; distinct = λ h. h; adts = refl; traits = refl; impls = refl; heads = refl; next_body = refl; bodies = refl; closures = refl }
 
 -- a body of its own in a walk, of which something is so
 pub record IsAdded (n : ℕ) (Q : BodyTree → State → Type 0) (s t : State) : Type 0 where
@@ -333,7 +334,7 @@ closure_met : {f : Tape} (n : ℕ) (s t u v : State) (around : types.Around) (pa
       bodies = [];
       next_node = 0;
       breaks = [];
-    })) u v → Met (λ rest. Closure (record { around = around; params = params; answer = answer }) ∷ f rest) s v
+    })) u v → Met (λ rest. Closure (record { around = around; name = []; params = params; answer = answer }) ∷ f rest) s v
 closure_met {f} n s t u v around params answer ty def at_n stays types_u distinct_u adts_u heads_u bodies_u closures_u is_ty added =
     record {
       types = λ n x h. later n x (inner.types n x (types_u n x (stays.types n x h)));
@@ -355,7 +356,7 @@ closure_met {f} n s t u v around params answer ty def at_n stays types_u distinc
     later = subst (HaveTypes added.inner.items) (sym added.items) (λ n x h. h)
 
     head : Head
-    head = record { around = around; params = params; answer = answer }
+    head = record { around = around; name = []; params = params; answer = answer }
 
     -- its first parameter is the closure
     self : type_at v.items ty ≡ Some (Ty.Closure (length s.items.closures))
@@ -394,7 +395,7 @@ closure_met {f} n s t u v around params answer ty def at_n stays types_u distinc
 
 closure_walks : {f : Tape} (env : Env) (at : Pos) (captures params : Syns) (answer : MaybeSyn) (block : Env → Typer) →
     ((inner : Env) → bodies.all_rules inner ≡ bodies.all_rules env → WalksTyper f (block inner)) → WalksTyper (λ rest.
-    Closure (record { around = bodies.all_rules env; params = params; answer = answer }) ∷ f rest) (bodies.closure env at
+    Closure (record { around = bodies.all_rules env; name = []; params = params; answer = answer }) ∷ f rest) (bodies.closure env at
     captures params answer block)
 closure_walks {f} env at captures params answer block good want s =
     walk (both_walk (bodies.captured env 0 captures [] s') (captured_walks env 0 captures [] s') (captured_stays env 0

@@ -478,7 +478,7 @@ break_walks {f} at to value good want s =
       breaks = t.breaks ++ (loop, ty_carried v) ∷
           [];
     })
-    broken_off t loop v = record { types = λ n ty h. h; distinct = λ h. h; adts = refl; heads = refl; next_body = refl; bodies = refl; closures = refl }
+    broken_off t loop v = record { types = λ n ty h. h; distinct = λ h. h; adts = refl; traits = refl; impls = refl; heads = refl; next_body = refl; bodies = refl; closures = refl }
 
     carries : (v : MaybeNode) (loop : ℕ) (t : State) → Walks f s t (nodes_of (node s.next_node at never None (Break loop
         v))) → Walks f s (record t { breaks = t.breaks ++ (loop, ty_carried v) ∷ [] }) (nodes_of (node s.next_node at
