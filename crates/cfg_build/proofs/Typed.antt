@@ -290,13 +290,14 @@ inside_names items None body params h = node_names _ _ body.block h.0
 inside_names items (Some def) body [] h = absurd (untrue h)
 inside_names items (Some def) body (self ∷ params) h = node_names _ _ body.block h.0
 
-bodies_name : (items : ItemTable) (n : ℕ) (sigs : List Sig) (bodies : List BodyTree) → Holds (are_bodies items n sigs bodies) → (i : ℕ) (tree : BodyTree) → slice_get bodies i ≡ Some tree → NamesItsLoops tree
-bodies_name items n [] [] h i tree e = absurd (none-some tree e)
-bodies_name items n [] (body ∷ bodies) h i tree e = absurd (untrue h)
-bodies_name items n (sig ∷ sigs) [] h i tree e = absurd (none-some tree e)
-bodies_name items n (sig ∷ sigs) (body ∷ bodies) h zero tree e =
+-- each jump of a body that is well typed names a loop around it
+pub bodies_name_loops : (items : ItemTable) (n : ℕ) (sigs : List Sig) (bodies : List BodyTree) → Holds (are_bodies items n sigs bodies) → (i : ℕ) (tree : BodyTree) → slice_get bodies i ≡ Some tree → NamesItsLoops tree
+bodies_name_loops items n [] [] h i tree e = absurd (none-some tree e)
+bodies_name_loops items n [] (body ∷ bodies) h i tree e = absurd (untrue h)
+bodies_name_loops items n (sig ∷ sigs) [] h i tree e = absurd (none-some tree e)
+bodies_name_loops items n (sig ∷ sigs) (body ∷ bodies) h zero tree e =
     subst NamesItsLoops (same_Some body tree e) (inside_names items (closure_with items n) body body.params h.0.1.1.1.1.1.1)
-bodies_name items n (sig ∷ sigs) (body ∷ bodies) h (suc i) tree e = bodies_name items (suc n) sigs bodies h.1 i tree e
+bodies_name_loops items n (sig ∷ sigs) (body ∷ bodies) h (suc i) tree e = bodies_name_loops items (suc n) sigs bodies h.1 i tree e
 
 pub well_typed_names_loops : WellTypedNamesItsLoops
-well_typed_names_loops program typed = bodies_name program.items 0 program.items.bodies program.bodies typed.1
+well_typed_names_loops program typed = bodies_name_loops program.items 0 program.items.bodies program.bodies typed.1

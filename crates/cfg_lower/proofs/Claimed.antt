@@ -19,6 +19,8 @@ use Rattle.cfg_build.proofs.FormSizes.{lowered_is_small}
 use Rattle.cfg_build.proofs.Typed.{well_typed_names_loops}
 use Rattle.lowered_graphs.specs.Lowerable.{IsLowerable}
 use Rattle.lowered_graphs.proofs.Whole.{graphs_are_well_formed}
+use Rattle.lowered_paths.specs.Refused.{MeetsItsRefusals}
+use Rattle.lowered_paths.proofs.Law.{lowered-paths-meet}
 use Rattle.cfg_lower.specs.Claims.{EachBody, HasOrderedEdges, IsPrepared, IsSmall, RunsAsItsSource, WalksAsItRunsFreely}
 
 -- one body more
@@ -77,6 +79,11 @@ module _ (program : ProgramTree) (graph : Graph) (same : graph ≡ graph_of prog
 
   pub formed : WellTyped program → IsLowerable program → IsWellFormed graph
   formed typed low = of_graph IsWellFormed (graphs_are_well_formed program typed low)
+
+  pub meet : WellTyped program → EachBody (MeetsItsRefusals program.items) program graph
+  meet typed = of_graph (EachBody (MeetsItsRefusals program.items) program)
+      (each (MeetsItsRefusals program.items) program
+      (λ n tree is. lowered-paths-meet program.items tree (well_typed_names_loops program typed n tree is)))
 
   pub small : EachBody IsSmall program graph
   small = of_graph (EachBody IsSmall program) (each IsSmall program (λ n tree is. lowered_is_small program.items tree))
