@@ -1,0 +1,6 @@
+pub mod Changed
+pub mod Finding
+pub mod Following
+pub mod Lists
+pub mod Rooms
+pub mod Wrap

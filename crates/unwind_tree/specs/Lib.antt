@@ -1,0 +1,4 @@
+pub mod Laws
+pub mod Rooms
+pub mod Roomy
+pub mod Trees
