@@ -1,5 +1,5 @@
 -- Where a destination is pending.
-use Rattle.std.proofs.Common.{◌≡◌, ◌∙◌, ◌+◌, ◌<◌, ◌≤◌, ◌==◌, ℕ, suc, nat_lt, Bool, true, false, List, [], ◌∷◌, ◌++◌, length, take, drop, map, Option, Some, None, slice_get, slice_set, refl, sym, ap, subst, true≢false, arith}
+use Rattle.std.proofs.Common.{◌≡◌, ◌∙◌, ◌+◌, ◌==◌, ℕ, suc, nat_lt, Bool, true, false, List, [], ◌∷◌, ◌++◌, take, drop, Option, Some, None, slice_get, slice_set, refl, sym, ap, subst, true≢false, arith}
 use Rattle.std.specs.List.{position, list_any}
 use Rattle.std.specs.Option.{option_map, is_some}
 use Rattle.std.specs.Prelude.{get_or}
@@ -10,7 +10,7 @@ use Rattle.std.proofs.lemmas.Option.{none-some, slice_get-map}
 use Rattle.unwind_tree.proofs.Rooms.{some_same}
 use Rattle.cfg_graph.proofs.Rests.{position-any}
 use Rattle.mir_base.specs.declared.place_in_text.Key.{Key}
-use Rattle.unwind_tree.specs.Rooms.{seen, seen_all, has_key, IsAbsentFrom, IsFoundAt, IsTakenOut, IsTakenFrom}
+use Rattle.unwind_tree.specs.Rooms.{seen, seen_all, has_key, IsAbsentFrom, IsFoundAt, IsTakenFrom}
 use Rattle.unwind_tree.specs.Trees.{OpenScope, IsPending}
 use Rattle.unwind_tree.specs.declared.scope.Pending.{Pending}
 use Rattle.unwind_tree.specs.declared.scope.Scope.{Scope}

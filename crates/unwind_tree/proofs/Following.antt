@@ -1,10 +1,10 @@
 -- The tree that follows the scopes of a run.
-use Rattle.std.proofs.Common.{◌≡◌, ◌∙◌, ◌+◌, ◌-◌, ◌<◌, ◌≤◌, ℕ, zero, suc, Bool, true, false, nat_lt, List, [], ◌∷◌, ◌++◌, map, take, drop, length, refl, sym, ap, append_assoc, arith}
+use Rattle.std.proofs.Common.{◌≡◌, ◌∙◌, ◌+◌, ◌-◌, ◌≤◌, ℕ, zero, suc, Bool, true, false, nat_lt, List, [], ◌∷◌, ◌++◌, take, drop, length, refl, sym, ap, append_assoc, arith}
 use Rattle.std.proofs.lemmas.Bool.Decides.{nat_tests}
 use Rattle.std.proofs.lemmas.List.{map-append}
 use Rattle.cfg_graph.specs.declared.place.Place.{Place}
-use Rattle.src_meaning.specs.Scopes.{Entry, Scope, Scopes, all_entries}
-use Rattle.unwind_tree.specs.Laws.{entries_of, placed, FollowsScope, Follows, none_open, one_more, FollowsScopes}
+use Rattle.src_meaning.specs.Scopes.{Entry, Scopes, all_entries}
+use Rattle.unwind_tree.specs.Laws.{entries_of, placed, Follows, none_open, one_more, FollowsScopes}
 use Rattle.unwind_tree.specs.Trees.{OpenScope, dropped, awaiting, left_by_exit, left_by_panic}
 use Rattle.unwind_tree.specs.declared.scheduled.Scheduled.{Scheduled}
 use Rattle.unwind_tree.specs.declared.scope.Pending.{Pending}

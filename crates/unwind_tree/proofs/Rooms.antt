@@ -1,10 +1,10 @@
 -- Scopes with room, as one of them changes.
-use Rattle.std.proofs.Common.{◌≡◌, ◌∙◌, ◌+◌, ◌-◌, ◌<◌, ◌≤◌, ◌==◌, ℕ, zero, suc, nat_lt, Bool, true, false, List, [], ◌∷◌, ◌++◌, length, map, take, drop, Option, Some, None, slice_set, slice_get, refl, sym, ap, subst, arith, if◌then◌else◌}
+use Rattle.std.proofs.Common.{◌≡◌, ◌∙◌, ◌+◌, ◌<◌, ◌≤◌, ◌==◌, ℕ, zero, suc, nat_lt, Bool, true, false, List, [], ◌∷◌, ◌++◌, length, take, Some, slice_set, slice_get, refl, sym, ap, subst, arith, if◌then◌else◌}
 use Rattle.std.proofs.lemmas.List.{take-take}
 use Rattle.std.proofs.lemmas.Option.{none-some}
 use Rattle.std.proofs.lemmas.Bool.Decides.{nat_tests}
 use Rattle.unwind_tree.specs.Rooms.{seen, seen_all, goes_into, going, awaited, room_of, IsRoomy}
-use Rattle.unwind_tree.specs.Trees.{OpenScope, changed_at, left_by_exit}
+use Rattle.unwind_tree.specs.Trees.{OpenScope, changed_at}
 use Rattle.unwind_tree.specs.declared.scope.Pending.{Pending}
 use Rattle.unwind_tree.specs.declared.scope.Scope.{Scope}
 

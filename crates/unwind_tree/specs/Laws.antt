@@ -1,5 +1,5 @@
 -- A tree that follows the scopes of a run, scope by scope, and what both drop.
-use Rattle.std.specs.Prelude.{◌≡◌, ℕ, ◌≤◌, ◌-◌, List, [], ◌∷◌, ◌++◌, drop, length, map, take}
+use Rattle.std.specs.Prelude.{◌≡◌, ℕ, ◌-◌, List, [], ◌∷◌, ◌++◌, drop, length, map, take}
 use Rattle.cfg_graph.specs.declared.place.Place.{Place}
 use Rattle.src_meaning.specs.Scopes as run
 use Rattle.src_meaning.specs.Scopes.{Entry, Scope, Scopes, all_entries}

@@ -1,5 +1,5 @@
 -- Entries with room for more: what is pending for a scope becomes its entry without taking memory.
-use Rattle.std.specs.Prelude.{◌≡◌, ℕ, zero, suc, ◌+◌, ◌-◌, ◌==◌, ◌≤◌, Bool, List, [], ◌∷◌, ◌++◌, map, take, slice_get, slice_set, Option, Some, None, if◌then◌else◌}
+use Rattle.std.specs.Prelude.{◌≡◌, ℕ, zero, suc, ◌+◌, ◌-◌, ◌==◌, ◌≤◌, Bool, List, [], ◌∷◌, ◌++◌, map, take, slice_get, slice_set, Some, None, if◌then◌else◌}
 use Rattle.std.specs.List.{position}
 use Rattle.mir_base.specs.declared.place_in_text.Key.{Key}
 use Rattle.unwind_tree.specs.Roomy.{Roomy}

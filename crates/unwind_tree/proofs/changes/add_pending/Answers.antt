@@ -1,4 +1,4 @@
-use Rattle.std.proofs.Common.{◌≡◌, refl}
+use Rattle.std.proofs.Common.{refl}
 use Rattle.unwind_tree.proofs.Wrap.{always}
 use Rattle.unwind_tree.proofs.changes.add_pending.Goals as goal
 

@@ -1,4 +1,4 @@
-use Rattle.std.proofs.Common.{◌≡◌, ◌<◌, refl, subst}
+use Rattle.std.proofs.Common.{◌<◌, refl, subst}
 use Rattle.unwind_tree.proofs.Rooms.{room_at, room_within}
 use Rattle.unwind_tree.proofs.changes.fill.Goals as goal
 

@@ -1,6 +1,5 @@
-use Rattle.std.proofs.Common.{◌≡◌, refl, rules}
+use Rattle.std.proofs.Common.{refl}
 use Rattle.std.proofs.lemmas.Result.{on_ok_weaker, on_err_weaker}
-use Rattle.unwind_tree.specs.declared.scope.Scope.{Scope}
 use Rattle.unwind_tree.proofs.changes.make_room.Goals as goal
 
 pub returns-clause-made : goal.returns-clause-made

@@ -1,4 +1,4 @@
-use Rattle.std.proofs.Common.{rules, ◌≡◌, ◌<◌, ◌-◌, ◌∙◌, Some, slice_get, refl, sym, ap, length, arith}
+use Rattle.std.proofs.Common.{◌≡◌, ◌<◌, ◌-◌, ◌∙◌, refl, sym, ap, length, arith}
 use Rattle.std.specs.List.{position}
 use Rattle.std.proofs.lemmas.Option.{slice_get_read}
 use Rattle.unwind_tree.specs.Rooms.{has_key}

@@ -1,6 +1,6 @@
-use Rattle.std.proofs.Common.{rules, ◌≡◌, ◌∙◌, ◌<◌, sym, ap, subst}
-use Rattle.unwind_tree.specs.Rooms.{seen_all, room_of}
-use Rattle.unwind_tree.specs.Trees.{OpenScope, IsPending, IsCompleted}
+use Rattle.std.proofs.Common.{rules, ◌≡◌, sym, subst}
+use Rattle.unwind_tree.specs.Rooms.{seen_all}
+use Rattle.unwind_tree.specs.Trees.{IsPending, IsCompleted}
 use Rattle.unwind_tree.proofs.Changed.{taken_out_roomy, taken_out_spare, completed_seen, filled_roomy}
 use Rattle.unwind_tree.proofs.Finding.{is_not_absent}
 use Rattle.unwind_tree.proofs.Rooms.{has_room_there}

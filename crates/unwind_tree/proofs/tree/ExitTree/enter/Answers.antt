@@ -1,4 +1,4 @@
-use Rattle.std.proofs.Common.{◌≡◌, sym, subst}
+use Rattle.std.proofs.Common.{sym, subst}
 use Rattle.unwind_tree.specs.Rooms.{IsRoomy}
 use Rattle.unwind_tree.proofs.Rooms.{entered_roomy}
 use Rattle.unwind_tree.proofs.tree.ExitTree.enter.Goals as goal

@@ -1,7 +1,6 @@
-use Rattle.std.proofs.Common.{rules, ◌≡◌, ◌∙◌, ◌-◌, map, take, length, refl, sym, ap, subst}
+use Rattle.std.proofs.Common.{rules, ◌≡◌, ◌∙◌, ◌-◌, take, length, sym, ap, subst}
 use Rattle.std.specs.List.{take-map}
 use Rattle.unwind_tree.specs.Rooms.{seen, seen_all, IsRoomy}
-use Rattle.unwind_tree.specs.Trees.{OpenScope}
 use Rattle.unwind_tree.proofs.Rooms.{taken_roomy, length_seen}
 use Rattle.unwind_tree.proofs.tree.ExitTree.leave.Goals as goal
 
