@@ -1,3 +1,3 @@
 mod Done
-mod Law
+pub mod Law
 mod Listed

@@ -394,11 +394,11 @@ static DAMAGED_ROWS: [(usize, &str, &str); 7] = [
 /// A text with another line in the place of one of its lines, counted from 1.
 fn with_line(alloc: Global, text: &str, number: usize, line: &str) -> Result<String, AllocError> {
     let mut all = String::new(alloc);
-    let mut at = 0_usize;
+    let mut left = number;
     for was in text.lines() {
-        at += 1;
-        all.push_str(if at == number { line } else { was })?;
+        all.push_str(if left == 1 { line } else { was })?;
         all.push_str("\n")?;
+        left = left.saturating_sub(1);
     }
     Ok(all)
 }
@@ -406,11 +406,11 @@ fn with_line(alloc: Global, text: &str, number: usize, line: &str) -> Result<Str
 #[test]
 fn damaged_listings(rt: HostRuntime) -> Result<(), Fail> {
     let alloc = rt.alloc();
-    for (number, line, written) in &DAMAGED_ROWS {
-        let text = with_line(alloc, LISTING, *number, line)?;
+    for (number, line, written) in DAMAGED_ROWS {
+        let text = with_line(alloc, LISTING, number, line)?;
         let outcome = outcome(alloc, "exec", text.as_bytes())?;
         assert_eq!(rt; outcome.status, 1);
-        assert_eq!(rt; outcome.written.as_str(), *written);
+        assert_eq!(rt; outcome.written.as_str(), written);
     }
     Ok(())
 }
