@@ -1,6 +1,6 @@
 -- Names of items: words, without a blank or a mark in them; the name of a struct or an enum is without the mark of
 -- closures' names, and not `dyn`, which is a keyword (The Rust Reference, "Identifiers", "Keywords").
-use Rattle.std.specs.Prelude.{◌≡◌, Bool, ◌&&◌, not, codes, IsTrue, Ok, true}
+use Rattle.std.specs.Prelude.{Bool, ◌&&◌, not, codes, IsTrue, true}
 use Rattle.std.specs.List.{list_all}
 use Rattle.std.specs.Str.{bytes_eq}
 use Rattle.mir_base.specs.declared.place_in_text.Pos.{Pos}

@@ -1,5 +1,5 @@
 -- Names of items are in the table as they are in the text.
-use Rattle.std.proofs.Common.{◌≡◌, ℕ, suc, Bool, true, false, ◌&&◌, ◌||◌, not, nat_le, if◌then◌else◌, List, [], ◌∷◌, ◌++◌, length, slice_get, Option, Some, None, Result, Ok, Err, IsTrue, refl, ap, sym, subst, ◌∙◌}
+use Rattle.std.proofs.Common.{◌≡◌, ℕ, suc, Bool, true, false, ◌||◌, not, nat_le, if◌then◌else◌, List, [], ◌∷◌, ◌++◌, length, slice_get, Option, Some, None, Result, Ok, Err, IsTrue, refl, sym, subst, ◌∙◌}
 use Rattle.std.specs.Prelude.{codes, is_some, option_and_then}
 use Rattle.std.specs.List.{list_all, filter_map, position as position_of}
 use Rattle.std.proofs.lemmas.List.Folds.{list_all-append}
@@ -13,20 +13,16 @@ use Rattle.mir_ty.specs.declared.ty.Ty.{Ty}
 use Rattle.mir_ty.specs.declared.ty.TyId.{TyId}
 use Rattle.mir_ty.specs.ItemTable.{ItemTable}
 use Rattle.src_tree.specs.Layout.{Parts}
-use Rattle.typed_tree.specs.Tree.{ProgramTree}
 use Rattle.well_typed.specs.Claim.{Claim, Holds, each}
 use Rattle.well_typed.specs.Items.{is_equal}
 use Rattle.well_typed.specs.Names.{is_word, is_among, built_in}
 use Rattle.well_typed.proofs.ClaimLemmas.{and_true, true_left}
 use Rattle.typing_rules.specs.Check.{Check, State, Broken, and_then, obeys, known, each_checked, interned, interned_at}
 use Rattle.typing_rules.specs.Collected as rules
-use Rattle.typing_rules.specs.Items.{ItemSyn, items_of, item_syns, impl_owner, full_name, closure_name, body_paths}
-use Rattle.typing_rules.specs.Program as checking
-use Rattle.typing_rules.specs.Promises.{Extends}
+use Rattle.typing_rules.specs.Items.{ItemSyn, items_of, item_syns, impl_owner, full_name, body_paths}
 use Rattle.typing_rules.specs.Written as types
-use Rattle.src_ast.specs.Syntax.{Word, Named, Receiver, ByValue, ByShared, ByUnique, Syn, syn, Shape, NamedType, GenericType, DynType, SelfType, ParensType, TupleType, ArrayType, NeverType, RefType, MoveOf, StructItem, EnumItem, FieldDecl, VariantDecl, TraitItem, ImplItem, FnItem, ParamOf, SelfParam, Syns, no_syn, a_syn, list_of, MaybeSyn, nothing, just}
+use Rattle.src_ast.specs.Syntax.{Word, Named, Receiver, ByValue, ByShared, ByUnique, Syn, syn, Shape, NamedType, GenericType, DynType, SelfType, ParensType, TupleType, ArrayType, NeverType, RefType, MoveOf, StructItem, EnumItem, VariantDecl, TraitItem, ImplItem, FnItem, ParamOf, SelfParam, Syns, no_syn, a_syn, list_of, MaybeSyn, nothing, just}
 use Rattle.typing_soundness.specs.Named.{is_type_name, variant_named, head_named, item_named, adt_named, trait_named, HasNames, NamesAreWords}
-use Rattle.typing_soundness.specs.Program.{IsAccepted}
 use Rattle.typing_soundness.specs.Walks.{Walked}
 use Rattle.typing_soundness.proofs.Bodies.Program.{bodies_typed}
 use Rattle.typing_soundness.proofs.Items.Accepting.{are_collected}
