@@ -12,7 +12,7 @@ use crate::joining::{close_exit, join, leave_behind, one_has_end};
 use crate::words::build_word;
 use cfg_graph::{Kind, Term};
 use code_blocks::{Blocks, LoopWay, Ways, branch_by, if_true, in_loop, panic, tests};
-use code_scopes::{after, change, copied, enter};
+use code_scopes::{after, change, depth, enter};
 use code_spans::{has_end, two_before, word_at};
 use mir_base::{Key, NoMemory, NodeId, Why};
 use scope_code::{Change, Condition, Op};
@@ -20,7 +20,7 @@ use std::alloc::Global;
 
 /// The blocks of the code that ends with a word, before what is open.
 ///
-/// It is as deep as code nests. Each change of scopes and each scope costs a copy of the scopes around.
+/// It is as deep as code nests. Scopes are made in the arena, and never copied.
 ///
 /// # Errors
 ///
@@ -72,9 +72,7 @@ fn build_from(
     ensures { OnOk result ((c : plain.Code) (start : ℕ) → OneAt at.entry c start end →
         IsBuilt at.entry (plain.From (change_of by.now) c) blocks.old blocks.new) }
 {
-    let mut scopes = copied(alloc, at.scopes)?;
-    change(alloc, by, &mut scopes)?;
-    let scopes = scopes.as_slice();
+    let scopes = change(at.arena, by, at.scopes)?;
     build_one(alloc, Setting { scopes, ..at }, end, blocks)
 }
 
@@ -94,9 +92,7 @@ fn build_behind(
     if !has_end(at.code, one) {
         return Ok(());
     }
-    let mut scopes = copied(alloc, at.scopes)?;
-    after(alloc, at.code, one, &mut scopes)?;
-    let scopes = scopes.as_slice();
+    let scopes = after(at.arena, at.code, one, at.scopes)?;
     build(alloc, Setting { scopes, ..at }, another, blocks)
 }
 
@@ -128,9 +124,7 @@ fn build_scope(
     ensures { OnOk result ((c : plain.Code) (start : ℕ) → OneAt at.entry c start end →
         IsBuilt at.entry (plain.InScope node.0 for_temporaries c) blocks.old blocks.new) }
 {
-    let mut scopes = copied(alloc, at.scopes)?;
-    enter(alloc, node, for_temporaries, &mut scopes)?;
-    let scopes = scopes.as_slice();
+    let scopes = enter(at.arena, node, for_temporaries, at.scopes)?;
     let inner = Setting { scopes, ..at };
     leave_behind(alloc, inner, end, blocks)?;
     build_one(alloc, inner, end, blocks)
@@ -191,13 +185,14 @@ fn build_loop(
     ensures { OnOk result ((turn : plain.Code) (start : ℕ) → StandsAt at.entry (plain.Loops id.0 turn) start end →
         IsBuilt at.entry (plain.Loops id.0 turn) blocks.old blocks.new) }
 {
+    let base = depth(at.scopes)?;
     let is_left = has_end(at.code, end);
     let exit = blocks.next_number()?;
     close_exit(alloc, is_left, blocks)?;
     let turn = blocks.reserve()?;
     let way = LoopWay {
         id,
-        base: at.scopes.len(),
+        base,
         exit,
         turn,
         is_left,

@@ -10,7 +10,7 @@ ghost use Rattle.body_blocks.specs.Builds.{StandsAt, OneAt, IsBuiltBehind, frame
 use crate::Setting;
 use cfg_graph::Kind;
 use code_blocks::{Blocks, leave};
-use code_scopes::{after, copied};
+use code_scopes::after;
 use code_spans::{Two, has_end};
 use mir_base::NoMemory;
 use std::alloc::Global;
@@ -69,7 +69,6 @@ pub fn leave_behind(
     if !has_end(at.code, inner) {
         return Ok(());
     }
-    let mut scopes = copied(alloc, at.scopes)?;
-    after(alloc, at.code, inner, &mut scopes)?;
-    leave(alloc, at.frame, scopes.as_slice(), blocks)
+    let scopes = after(at.arena, at.code, inner, at.scopes)?;
+    leave(alloc, at.frame, scopes, blocks)
 }

@@ -1,13 +1,16 @@
+use bumpalo::Bump;
 use code_blocks::Ways;
 use code_lines::Frame;
-use code_scopes::Scope;
+use code_scopes::Scopes;
 use code_spans::Spans;
 
-/// What code is built in: the body, its words, where jumps go, and the scopes before the code, the innermost last.
+/// What code is built in: the body, its words, where jumps go, the arena in which scopes are made, and the scopes before
+/// the code.
 #[derive(Clone, Copy)]
 pub struct Setting<'a> {
     pub frame: Frame<'a>,
     pub code: Spans<'a>,
     pub ways: Ways<'a>,
-    pub scopes: &'a [Scope],
+    pub arena: &'a Bump,
+    pub scopes: &'a Scopes<'a>,
 }

@@ -27,7 +27,7 @@ pub fn build_word(
         Op::Exits { node, exit: to } => exit(alloc, frame, *node, *to, at.ways, scopes, blocks),
         Op::Panics { node, why } => panic(alloc, frame, *node, *why, scopes, blocks),
         Op::Replaces { node, place, key } => {
-            replace(alloc, frame, *node, place, *key, scopes, blocks)
+            replace(alloc, at.arena, frame, *node, place, *key, scopes, blocks)
         }
         Op::Drops(key) => drop_under(alloc, frame, *key, scopes, blocks),
         _ => Ok(()),

@@ -13,14 +13,15 @@ use crate::parts::{add_parts, add_tys};
 use body_blocks::{Setting, build};
 use body_code::body_code;
 use body_locals::locals;
+use bumpalo::Bump;
 use cfg_graph::{Body, Kind, Term};
 use code_blocks::{Blocks, Made, Ways};
 use code_lines::Frame;
-use code_scopes::Scope;
+use code_scopes::{Scopes, change, enter};
 use code_spans::{Spans, marks_of};
 use mir_base::{Key, List, NoMemory, NodeId};
 use mir_ty::Items;
-use scope_code::Entry;
+use scope_code::{Change, Entry, ScopeAt};
 use std::alloc::Global;
 use std::mem;
 use typed_tree::{Param, TBody};
@@ -33,22 +34,19 @@ pub struct LoweredBody {
 }
 
 /// The scope of the result, which is pending in it.
-fn answer_scope(alloc: Global, body: &TBody) -> Result<List<Scope>, NoMemory>
-    ensures { IfOk result (λ scopes. (f : build.Frame) → scopes_of scopes ≡ low.answer_scope f (body_of body.now)) }
+fn answer_scope<'a>(bump: &'a Bump, body: &TBody) -> Result<&'a Scopes<'a>, NoMemory>
+    ensures { IfOk result (λ scopes. (f : build.Frame) → scopes_of scopes.now ≡ low.answer_scope f (body_of body.now)) }
 {
-    let mut pending = List::new(alloc);
-    pending.push(Entry {
-        key: Key(body.block.id.0),
-        ty: body.result,
-    })?;
-    let mut scopes = List::new(alloc);
-    scopes.push(Scope {
-        node: body.block.id,
-        for_temporaries: false,
-        entries: List::new(alloc),
-        pending,
-    })?;
-    Ok(scopes)
+    let by = Change::Pends(
+        ScopeAt::Innermost,
+        Entry {
+            key: Key(body.block.id.0),
+            ty: body.result,
+        },
+    );
+    let none: &'a Scopes<'a> = bump.try_alloc(Scopes::NoScope)?;
+    let scopes = enter(bump, body.block.id, false, none)?;
+    change(bump, &by, scopes)
 }
 
 /// Block 0 is given out, and block 1 returns.
@@ -73,7 +71,8 @@ fn build_entire(
         building_of blocks.new ≡ low.built (frame_of frame.entry) (body_of body.now)) }
 {
     start(alloc, body.block.id, blocks)?;
-    let scopes = answer_scope(alloc, body)?;
+    let arena = Bump::new(alloc);
+    let scopes = answer_scope(&arena, body)?;
     let at = Setting {
         frame,
         code,
@@ -81,7 +80,8 @@ fn build_entire(
             returns: 1,
             loops: &[],
         },
-        scopes: scopes.as_slice(),
+        arena: &arena,
+        scopes,
     };
     build(alloc, at, code.words.len().saturating_sub(1), blocks)?;
     blocks.fill(alloc, Kind::Plain, 0)

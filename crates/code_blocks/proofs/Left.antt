@@ -1,26 +1,49 @@
 -- One scope more is left.
-use Rattle.std.proofs.Common.{◌≡◌, ◌∙◌, ◌++◌, ◌∷◌, ◌≤◌, ℕ, Bool, true, not, List, [], length, map, sym, ap, subst}
-use Rattle.std.proofs.lemmas.Bool.{le-ltb}
-use Rattle.std.proofs.lemmas.List.{length-reverse, length-map}
+use Rattle.std.proofs.Common.{◌≡◌, ◌∙◌, ◌∷◌, ◌≤◌, ◌<◌, ◌-◌, ℕ, suc, Bool, true, false, not, length, refl, sym, ap, arith}
+use Rattle.std.proofs.lemmas.Bool.{le-ltb, lt-ltb}
 use Rattle.std.specs.Prelude.{nat_lt}
 use Rattle.cfg_build.specs.Build.{Frame, Rest, Building, leaves_one, leaves_to, drop_all, ending}
 use Rattle.cfg_code.specs.Spots.{Way}
 use Rattle.cfg_graph.specs.declared.terminator.Term.{Term}
+use Rattle.src_meaning.specs.Scopes as scopes
 use Rattle.src_meaning.specs.Scopes.{Scopes, needing_drop}
-use Rattle.code_scopes.specs.Scoped.{entries_of, scope_of, scopes_of}
-use Rattle.code_scopes.proofs.Lists.{scopes_last}
-use Rattle.code_scopes.specs.declared.scope.Scope.{Scope}
 
-so_many : (all : List Scope) → length (scopes_of all) ≡ length all
-so_many all = length-reverse (map scope_of all) ∙ length-map all scope_of
+one_less : (count base : ℕ) (S : Scopes) (scope : scopes.Scope) → count ≡ length (scope ∷ S) - base → (count ≡ 0 → ⊥) → count - 1 ≡ length S - base
+one_less count base S scope is some =
+    let all : length (scope ∷ S) ≡ suc (length S) = refl in
+    omega arith
 
-pub leaves_more : (f : Frame) (node : ℕ) (way : Way) (base : ℕ) (all around : List Scope) (scope : Scope) (built after : Rest × Building) (s : Building) → way.base ≡ base → all ≡ around ++ scope ∷ [] → base ≤ length around → built ≡ leaves_to f node way (scopes_of around) s → after ≡ drop_all f (needing_drop f.items (entries_of scope.entries)) (scopes_of around) built.0 built.1 → after ≡ leaves_to f node way (scopes_of all) s
-leaves_more f node way base all around scope built after s based is stay made dropped =
-    let S : Scopes = scopes_of around in
-    let more : Rest × Building = let rest = leaves_to f node way S s in drop_all f (needing_drop f.items (entries_of scope.entries)) S rest.0 rest.1 in
-    let split : scopes_of all ≡ scope_of scope ∷ S = ap scopes_of is ∙ scopes_last around scope in
-    let below : way.base ≤ length S = subst (λ (n : ℕ). way.base ≤ n) (sym (so_many around)) (subst (λ (n : ℕ). n ≤ length around) (sym based) stay) in
-    let test : not (nat_lt (length S) way.base) ≡ true = ap not (le-ltb (length S) way.base below) in
-    dropped ∙ ap (λ (b : Rest × Building). drop_all f (needing_drop f.items (entries_of scope.entries)) S b.0 b.1) made
-    ∙ ap (λ (b : Bool). leaves_one f b more (ending (Term.Goto way.block) node, s)) (sym test)
-    ∙ ap (λ (ss : Scopes). leaves_to f node way ss s) (sym split)
+enough : (count base : ℕ) (S : Scopes) (scope : scopes.Scope) → count ≡ length (scope ∷ S) - base → (count ≡ 0 → ⊥) → base ≤ length S
+enough count base S scope is some =
+    let all : length (scope ∷ S) ≡ suc (length S) = refl in
+    omega arith
+
+too_few : (count base : ℕ) (S : Scopes) (scope : scopes.Scope) → count ≡ length (scope ∷ S) - base → count ≡ 0 → length S < base
+too_few count base S scope is none =
+    let all : length (scope ∷ S) ≡ suc (length S) = refl in
+    omega arith
+
+module _ (f : Frame) (node : ℕ) (way : Way) (count : ℕ) (all : Scopes) (scope : scopes.Scope) (S : Scopes) (s : Building) (was : all ≡ scope ∷ S) (so_many : count ≡ length all - way.base) where
+  so : count ≡ length (scope ∷ S) - way.base
+  so = so_many ∙ ap (λ (w : Scopes). length w - way.base) was
+
+  abbrev more : Rest × Building
+  more = let rest = leaves_to f node way S s in drop_all f (needing_drop f.items scope.entries) S rest.0 rest.1
+
+  by_test : (b : Bool) (after : Rest × Building) → not (nat_lt (length S) way.base) ≡ b → after ≡ leaves_one f b more (ending (Term.Goto way.block) node, s) → after ≡ leaves_to f node way all s
+  by_test b after test is =
+      is ∙ ap (λ (t : Bool). leaves_one f t more (ending (Term.Goto way.block) node, s)) (sym test)
+      ∙ ap (λ (w : Scopes). leaves_to f node way w s) (sym was)
+
+  -- how many are left in the scopes around
+  pub one_fewer : (count ≡ 0 → ⊥) → count - 1 ≡ length S - way.base
+  one_fewer some = one_less count way.base S scope so some
+
+  pub left_more : (built after : Rest × Building) → (count ≡ 0 → ⊥) → built ≡ leaves_to f node way S s → after ≡ drop_all f (needing_drop f.items scope.entries) S built.0 built.1 → after ≡ leaves_to f node way all s
+  left_more built after some made dropped =
+      by_test true after (ap not (le-ltb (length S) way.base (enough count way.base S scope so some)))
+      (dropped ∙ ap (λ (b : Rest × Building). drop_all f (needing_drop f.items scope.entries) S b.0 b.1) made)
+
+  pub left_none : (after : Rest × Building) → count ≡ 0 → after ≡ (ending (Term.Goto way.block) node, s) → after ≡ leaves_to f node way all s
+  left_none after none is =
+      by_test false after (ap not (lt-ltb (length S) way.base (too_few count way.base S scope so none))) is

@@ -10,9 +10,10 @@ ghost use Rattle.code_blocks.specs.Building.{built_of, rest_of, building_of, way
 
 use crate::blocks::Blocks;
 use crate::ways::Ways;
+use bumpalo::Bump;
 use cfg_graph::{Kind, Operand, Place, Stmt, Term, Unwind};
 use code_lines::{Frame, is_last, place, statement, terminator, whole_place};
-use code_scopes::{Scope, copied, panic_drops, take};
+use code_scopes::{Scopes, panic_drops, take};
 use mir_base::{Key, NoMemory, NodeId, Why};
 use scope_code::Action;
 use std::alloc::Global;
@@ -23,11 +24,11 @@ fn done(
     frame: Frame,
     node: NodeId,
     action: &Action,
-    scopes: &[Scope],
+    scopes: &Scopes,
     blocks: &mut Blocks,
 ) -> Result<(), NoMemory>
     ensures { OnOk result (built_of blocks.new ≡ build.done (frame_of frame.entry) node.0
-        (build.done_by (frame_of frame.entry) (effect_of node.0 action.now)) (scopes_of scopes.now)
+        (build.done_by (frame_of frame.entry) (effect_of node.0 action.now)) (scopes_of scopes.entry.now)
         (rest_of blocks.old.rest) (building_of blocks.old)) }
 {
     if let Action::Stmt(stmt) = action {
@@ -57,12 +58,12 @@ pub fn act(
     node: NodeId,
     action: &Action,
     ways: Ways,
-    scopes: &[Scope],
+    scopes: &Scopes,
     blocks: &mut Blocks,
 ) -> Result<(), NoMemory>
     ensures { OnOk result (built_of blocks.new ≡
         (build.act (frame_of frame.entry) node.0 (effect_of node.0 action.now)).build (ways_of ways.entry)
-        (scopes_of scopes.now) (rest_of blocks.old.rest) (building_of blocks.old)) }
+        (scopes_of scopes.entry.now) (rest_of blocks.old.rest) (building_of blocks.old)) }
 {
     if is_last(alloc, frame, action)? {
         blocks.end(alloc, Term::Goto(ways.returns), node);
@@ -80,11 +81,11 @@ pub fn panic(
     frame: Frame,
     node: NodeId,
     why: Why,
-    scopes: &[Scope],
+    scopes: &Scopes,
     blocks: &mut Blocks,
 ) -> Result<(), NoMemory>
     ensures { OnOk result (built_of blocks.new ≡ build.unwinding (frame_of frame.entry) (Term.Panic why) node.0
-        (build.panic_drops (frame_of frame.entry) (scopes_of scopes.now)) (building_of blocks.old)) }
+        (build.panic_drops (frame_of frame.entry) (scopes_of scopes.entry.now)) (building_of blocks.old)) }
 {
     let drops = panic_drops(alloc, frame.items, scopes)?;
     let unwind = blocks.unwind_to(alloc, frame, drops.as_slice())?;
@@ -101,11 +102,11 @@ pub fn drop_under(
     alloc: Global,
     frame: Frame,
     key: Key,
-    scopes: &[Scope],
+    scopes: &Scopes,
     blocks: &mut Blocks,
 ) -> Result<(), NoMemory>
     ensures { OnOk result (built_of blocks.new ≡ build.drop_one (frame_of frame.entry) (site_of_key key.0)
-        (build.panic_drops (frame_of frame.entry) (scopes_of scopes.now)) (rest_of blocks.old.rest) (building_of blocks.old)) }
+        (build.panic_drops (frame_of frame.entry) (scopes_of scopes.entry.now)) (rest_of blocks.old.rest) (building_of blocks.old)) }
 {
     let drops = panic_drops(alloc, frame.items, scopes)?;
     blocks.drop_one(alloc, frame, key, drops.as_slice())
@@ -133,20 +134,20 @@ fn store(
 }
 
 /// What a panic drops once what stands under a key is taken.
-fn unwind_without(
+fn unwind_without<'a>(
     alloc: Global,
+    bump: &'a Bump,
     frame: Frame,
     key: Key,
-    scopes: &[Scope],
+    scopes: &'a Scopes<'a>,
     blocks: &mut Blocks,
 ) -> Result<u32, NoMemory>
     ensures { IfOk result (λ number. (number, building_of blocks.new) ≡ build.chain (frame_of frame.entry)
-        (build.panic_drops (frame_of frame.entry) (build.taken (frame_of frame.entry) (key.0 ∷ []) (scopes_of scopes.now)))
+        (build.panic_drops (frame_of frame.entry) (build.taken (frame_of frame.entry) (key.0 ∷ []) (scopes_of scopes.entry.now)))
         (building_of blocks.old)) }
 {
-    let mut without = copied(alloc, scopes)?;
-    take(alloc, &[key], &mut without)?;
-    let drops = panic_drops(alloc, frame.items, without.as_slice())?;
+    let without = take(bump, &[key], scopes)?;
+    let drops = panic_drops(alloc, frame.items, without)?;
     blocks.chain(alloc, frame, drops.as_slice())
 }
 
@@ -155,22 +156,23 @@ fn unwind_without(
 /// # Errors
 ///
 /// [`NoMemory`] where memory is wanted.
-pub fn replace(
+pub fn replace<'a>(
     alloc: Global,
+    bump: &'a Bump,
     frame: Frame,
     node: NodeId,
     to: &Place,
     key: Key,
-    scopes: &[Scope],
+    scopes: &'a Scopes<'a>,
     blocks: &mut Blocks,
 ) -> Result<(), NoMemory>
     ensures { OnOk result (built_of blocks.new ≡ build.replaces_from (frame_of frame.entry)
-        (record { node = node.0; place = named to.now }) key.0 (scopes_of scopes.now)
+        (record { node = node.0; place = named to.now }) key.0 (scopes_of scopes.entry.now)
         (rest_of blocks.old.rest) (building_of blocks.old)) }
 {
     store(alloc, frame, node, to, key, blocks)?;
     let then = blocks.close(alloc, Kind::Plain)?;
-    let down = unwind_without(alloc, frame, key, scopes, blocks)?;
+    let down = unwind_without(alloc, bump, frame, key, scopes, blocks)?;
     blocks.end(alloc, Term::Goto(down), node);
     store(alloc, frame, node, to, key, blocks)?;
     let unwind = Unwind::Block(blocks.close(alloc, Kind::Cleanup)?);

@@ -2,17 +2,18 @@
 ghost use Rattle.std.specs.Prelude.{◌≡◌, ◌∷◌, ◌++◌, [], OnOk};
 ghost use Rattle.cfg_build.specs.Build as build;
 ghost use Rattle.code_lines.specs.Framed.{frame_of};
-ghost use Rattle.code_scopes.specs.Scoped.{entries_of, scopes_of};
+ghost use Rattle.code_scopes.specs.Scoped.{entries_of, held, scopes_of};
 ghost use Rattle.mir_ty.specs.Facts.{needs_drop};
 ghost use Rattle.scope_code.specs.View.{entry_of};
 ghost use Rattle.src_meaning.specs.Forms.{site_of_key};
+ghost use Rattle.src_meaning.specs.Scopes as plain;
 ghost use Rattle.src_meaning.specs.Scopes.{needing_drop};
 ghost use Rattle.code_blocks.specs.Building.{built_of, rest_of, building_of, drop_next};
 
 use crate::blocks::Blocks;
 use cfg_graph::{Kind, Term};
 use code_lines::{Frame, whole_place};
-use code_scopes::{Scope, panic_drops};
+use code_scopes::{Entries, Scopes, panic_drops};
 use mir_base::{Key, List, NoMemory, NodeId};
 use scope_code::Entry;
 use std::alloc::Global;
@@ -60,23 +61,43 @@ impl Blocks {
         Ok(())
     }
 
-    /// Entries are dropped, the youngest, which is the last, first; after a panic the rest of them and what is in the
-    /// scopes around.
+    /// Entries are dropped, the youngest first, and those that are below them; the code of the oldest is built first.
+    fn drop_each(
+        &mut self,
+        alloc: Global,
+        frame: Frame,
+        entries: &Entries,
+        below: &mut List<Entry>,
+    ) -> Result<(), NoMemory>
+        ensures { OnOk result ((entries_of below.new ≡
+            needing_drop frame.entry.items.now (held entries.entry.now) ++ entries_of below.old)
+            × ((S : plain.Scopes) → entries_of below.old ≡ build.panic_drops (frame_of frame.entry) S →
+            built_of self.new ≡ build.drop_all (frame_of frame.entry)
+            (needing_drop frame.entry.items.now (held entries.entry.now)) S
+            (rest_of self.old.rest) (building_of self.old))) }
+    {
+        match entries {
+            Entries::NoEntry => Ok(()),
+            Entries::Youngest(entry, older) => {
+                self.drop_each(alloc, frame, older, below)?;
+                self.drop_next(alloc, frame, entry, below)
+            }
+        }
+    }
+
+    /// Entries are dropped, the youngest first; after a panic the rest of them and what is in the scopes around.
     pub fn drop_all(
         &mut self,
         alloc: Global,
         frame: Frame,
-        entries: &[Entry],
-        around: &[Scope],
+        entries: &Entries,
+        around: &Scopes,
     ) -> Result<(), NoMemory>
         ensures { OnOk result (built_of self.new ≡ build.drop_all (frame_of frame.entry)
-            (needing_drop frame.entry.items.now (entries_of entries.now)) (scopes_of around.now)
+            (needing_drop frame.entry.items.now (held entries.entry.now)) (scopes_of around.entry.now)
             (rest_of self.old.rest) (building_of self.old)) }
     {
         let mut below = panic_drops(alloc, frame.items, around)?;
-        for entry in entries {
-            self.drop_next(alloc, frame, entry, &mut below)?;
-        }
-        Ok(())
+        self.drop_each(alloc, frame, entries, &mut below)
     }
 }

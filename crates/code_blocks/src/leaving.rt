@@ -1,5 +1,5 @@
 //! Scopes are left.
-ghost use Rattle.std.specs.Prelude.{◌≡◌, OnOk};
+ghost use Rattle.std.specs.Prelude.{◌≡◌, ◌-◌, OnOk, length};
 ghost use Rattle.cfg_build.specs.Build as build;
 ghost use Rattle.code_lines.specs.Framed.{frame_of};
 ghost use Rattle.code_scopes.specs.Scoped.{scopes_of};
@@ -11,7 +11,7 @@ use crate::blocks::Blocks;
 use crate::ways::{Way, Ways, way_for};
 use cfg_graph::Term;
 use code_lines::Frame;
-use code_scopes::Scope;
+use code_scopes::{Scopes, depth};
 use mir_base::{NoMemory, NodeId};
 use scope_code::Exit;
 use std::alloc::Global;
@@ -20,15 +20,46 @@ use std::alloc::Global;
 pub fn leave(
     alloc: Global,
     frame: Frame,
-    scopes: &[Scope],
+    scopes: &Scopes,
     blocks: &mut Blocks,
 ) -> Result<(), NoMemory>
-    ensures { OnOk result (built_of blocks.new ≡ build.leave_from (frame_of frame.entry) (scopes_of scopes.now)
+    ensures { OnOk result (built_of blocks.new ≡ build.leave_from (frame_of frame.entry) (scopes_of scopes.entry.now)
         (rest_of blocks.old.rest) (building_of blocks.old)) }
 {
-    match scopes.split_last() {
-        Some((scope, around)) => blocks.drop_all(alloc, frame, scope.entries.as_slice(), around),
-        None => Ok(()),
+    match scopes {
+        Scopes::Innermost(scope, around) => blocks.drop_all(alloc, frame, &scope.entries, around),
+        Scopes::NoScope => Ok(()),
+    }
+}
+
+/// The innermost scopes are left, so many of them, and then a block is entered.
+fn leave_some(
+    alloc: Global,
+    frame: Frame,
+    node: NodeId,
+    block: u32,
+    count: usize,
+    scopes: &Scopes,
+    blocks: &mut Blocks,
+) -> Result<(), NoMemory>
+    ensures { OnOk result ((plain : spots.Way) → plain.block ≡ block →
+        count ≡ length (scopes_of scopes.entry.now) - plain.base →
+        built_of blocks.new ≡
+        build.leaves_to (frame_of frame.entry) node.0 plain (scopes_of scopes.entry.now) (building_of blocks.old)) }
+{
+    match scopes {
+        Scopes::Innermost(scope, around) => {
+            if count == 0 {
+                blocks.end(alloc, Term::Goto(block), node);
+                return Ok(());
+            }
+            leave_some(alloc, frame, node, block, count - 1, around, blocks)?;
+            blocks.drop_all(alloc, frame, &scope.entries, around)
+        }
+        Scopes::NoScope => {
+            blocks.end(alloc, Term::Goto(block), node);
+            Ok(())
+        }
     }
 }
 
@@ -38,23 +69,15 @@ fn leave_to(
     frame: Frame,
     node: NodeId,
     way: Way,
-    scopes: &[Scope],
+    scopes: &Scopes,
     blocks: &mut Blocks,
 ) -> Result<(), NoMemory>
     ensures { OnOk result ((plain : spots.Way) → plain.base ≡ way.base → plain.block ≡ way.block →
         built_of blocks.new ≡
-        build.leaves_to (frame_of frame.entry) node.0 plain (scopes_of scopes.now) (building_of blocks.old)) }
+        build.leaves_to (frame_of frame.entry) node.0 plain (scopes_of scopes.entry.now) (building_of blocks.old)) }
 {
-    match scopes.split_last() {
-        Some((scope, around)) if around.len() >= way.base => {
-            leave_to(alloc, frame, node, way, around, blocks)?;
-            blocks.drop_all(alloc, frame, scope.entries.as_slice(), around)
-        }
-        _ => {
-            blocks.end(alloc, Term::Goto(way.block), node);
-            Ok(())
-        }
-    }
+    let count = depth(scopes)?.saturating_sub(way.base);
+    leave_some(alloc, frame, node, way.block, count, scopes, blocks)
 }
 
 /// Scopes are left as far as a jump says.
@@ -68,11 +91,11 @@ pub fn exit(
     node: NodeId,
     to: Exit,
     ways: Ways,
-    scopes: &[Scope],
+    scopes: &Scopes,
     blocks: &mut Blocks,
 ) -> Result<(), NoMemory>
     ensures { OnOk result (built_of blocks.new ≡ build.leaves_to (frame_of frame.entry) node.0
-        (build.way_of (exit_of to) (ways_of ways.entry)) (scopes_of scopes.now) (building_of blocks.old)) }
+        (build.way_of (exit_of to) (ways_of ways.entry)) (scopes_of scopes.entry.now) (building_of blocks.old)) }
 {
     leave_to(alloc, frame, node, way_for(to, ways), scopes, blocks)
 }

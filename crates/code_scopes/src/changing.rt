@@ -1,16 +1,16 @@
-//! Changes of scopes.
-ghost use Rattle.std.specs.Prelude.{◌≡◌, ◌∷◌, ◌++◌, [], IfOk, OnOk};
+//! Changes of scopes. Each makes new scopes of those that change, in an arena, and shares the others.
+ghost use Rattle.std.specs.Prelude.{◌≡◌, ◌∷◌, IfOk};
 ghost use Rattle.cfg_build.specs.Build as build;
 ghost use Rattle.scope_code.specs.Code.{change_in, changed_by};
 ghost use Rattle.scope_code.specs.View.{entry_of, at_of, change_of, keys_seen};
 ghost use Rattle.src_meaning.specs.Scopes as plain;
-ghost use Rattle.code_scopes.specs.Scoped.{entries_of, scope_of, scopes_of, how_of};
+ghost use Rattle.code_scopes.specs.Scoped.{scope_of, scopes_of, how_of};
 
-use crate::Scope;
-use crate::copies::copied_entries;
-use mir_base::{Key, List, NoMemory, NodeId};
+use crate::entries::{pushed, without_key, without_keys};
+use crate::scope::{Entries, Scope, Scopes};
+use bumpalo::Bump;
+use mir_base::{Key, NoMemory, NodeId};
 use scope_code::{Change, Entry, ScopeAt};
-use std::alloc::Global;
 
 /// What happens to an entry of a scope.
 #[derive(Clone, Copy)]
@@ -25,130 +25,127 @@ pub enum How {
     Leaves,
 }
 
-/// An entry is put behind others, unless it has a key.
-fn add_without(key: Key, entry: &Entry, left: &mut List<Entry>) -> Result<(), NoMemory>
-    ensures { OnOk result (entries_of left.new ≡ plain.without_key key.0 (entry_of entry.now ∷ []) ++ entries_of left.old) }
+/// A scope, the innermost, in others.
+fn inside<'a>(
+    bump: &'a Bump,
+    scope: Scope<'a>,
+    around: &'a Scopes<'a>,
+) -> Result<&'a Scopes<'a>, NoMemory>
+    ensures { IfOk result (λ all. scopes_of all.now ≡ scope_of scope.entry ∷ scopes_of around.entry.now) }
 {
-    if entry.key == key {
-        return Ok(());
-    }
-    left.push(*entry)
-}
-
-/// The entries but those with a key.
-fn without_key(alloc: Global, entries: &[Entry], key: Key) -> Result<List<Entry>, NoMemory>
-    ensures { IfOk result (λ left. entries_of left ≡ plain.without_key key.0 (entries_of entries.now)) }
-{
-    let mut left = List::new(alloc);
-    for entry in entries {
-        add_without(key, entry, &mut left)?;
-    }
-    Ok(left)
-}
-
-/// The entries but those with one of these keys.
-fn without_keys(alloc: Global, entries: &[Entry], keys: &[Key]) -> Result<List<Entry>, NoMemory>
-    ensures { IfOk result (λ left. entries_of left ≡ plain.without_keys (keys_seen keys.now) (entries_of entries.now)) }
-{
-    let mut left = copied_entries(alloc, entries)?;
-    for key in keys {
-        left = without_key(alloc, left.as_slice(), *key)?;
-    }
-    Ok(left)
+    let all: &'a Scopes<'a> = bump.try_alloc(Scopes::Innermost(scope, around))?;
+    Ok(all)
 }
 
 /// An entry of a scope changes.
-fn changed(alloc: Global, how: How, entry: Entry, scope: &mut Scope) -> Result<(), NoMemory>
-    ensures { OnOk result (scope_of scope.new ≡ how_of how (entry_of entry) (scope_of scope.old)) }
+fn changed<'a>(
+    bump: &'a Bump,
+    how: How,
+    entry: Entry,
+    scope: Scope<'a>,
+) -> Result<Scope<'a>, NoMemory>
+    ensures { IfOk result (λ other. scope_of other ≡ how_of how (entry_of entry) (scope_of scope.entry)) }
 {
     match how {
-        How::Pends => scope.pending.push(entry),
-        How::Enters => scope.entries.push(entry),
+        How::Pends => {
+            let pending = pushed(bump, entry, scope.pending)?;
+            Ok(Scope { pending, ..scope })
+        }
+        How::Enters => {
+            let entries = pushed(bump, entry, scope.entries)?;
+            Ok(Scope { entries, ..scope })
+        }
         How::Leaves => {
-            scope.pending = without_key(alloc, scope.pending.as_slice(), entry.key)?;
-            Ok(())
+            let pending = without_key(bump, entry.key, scope.pending)?;
+            Ok(Scope { pending, ..scope })
         }
         How::Completes => {
-            scope.pending = without_key(alloc, scope.pending.as_slice(), entry.key)?;
-            scope.entries.push(entry)
+            let pending = without_key(bump, entry.key, scope.pending)?;
+            let entries = pushed(bump, entry, scope.entries)?;
+            Ok(Scope {
+                entries,
+                pending,
+                ..scope
+            })
         }
     }
 }
 
 /// An entry of the innermost scope changes.
-fn innermost(
-    alloc: Global,
+fn innermost<'a>(
+    bump: &'a Bump,
     how: How,
     entry: Entry,
-    scopes: &mut List<Scope>,
-) -> Result<(), NoMemory>
-    ensures { OnOk result (scopes_of scopes.new ≡ plain.innermost (how_of how (entry_of entry)) (scopes_of scopes.old)) }
+    scopes: &'a Scopes<'a>,
+) -> Result<&'a Scopes<'a>, NoMemory>
+    ensures { IfOk result (λ all. scopes_of all.now ≡ plain.innermost (how_of how (entry_of entry)) (scopes_of scopes.entry.now)) }
 {
-    match scopes.pop() {
-        Some(mut scope) => {
-            changed(alloc, how, entry, &mut scope)?;
-            scopes.push(scope)
+    match scopes {
+        Scopes::Innermost(scope, around) => {
+            let other = changed(bump, how, entry, *scope)?;
+            inside(bump, other, around)
         }
-        None => Ok(()),
+        Scopes::NoScope => Ok(scopes),
     }
 }
 
 /// An entry of the scope around the innermost changes.
-fn around_innermost(
-    alloc: Global,
+fn around_innermost<'a>(
+    bump: &'a Bump,
     how: How,
     entry: Entry,
-    scopes: &mut List<Scope>,
-) -> Result<(), NoMemory>
-    ensures { OnOk result (scopes_of scopes.new ≡
-        plain.around_innermost (how_of how (entry_of entry)) (scopes_of scopes.old)) }
+    scopes: &'a Scopes<'a>,
+) -> Result<&'a Scopes<'a>, NoMemory>
+    ensures { IfOk result (λ all. scopes_of all.now ≡
+        plain.around_innermost (how_of how (entry_of entry)) (scopes_of scopes.entry.now)) }
 {
-    match scopes.pop() {
-        Some(scope) => {
-            innermost(alloc, how, entry, scopes)?;
-            scopes.push(scope)
+    match scopes {
+        Scopes::Innermost(scope, around) => {
+            let others = innermost(bump, how, entry, around)?;
+            inside(bump, *scope, others)
         }
-        None => Ok(()),
+        Scopes::NoScope => Ok(scopes),
     }
 }
 
 /// An entry of the nearest scope for temporaries changes.
-fn nearest_temporary(
-    alloc: Global,
+fn nearest_temporary<'a>(
+    bump: &'a Bump,
     how: How,
     entry: Entry,
-    scopes: &mut List<Scope>,
-) -> Result<(), NoMemory>
-    ensures { OnOk result (scopes_of scopes.new ≡
-        plain.nearest_temporary (how_of how (entry_of entry)) (scopes_of scopes.old)) }
+    scopes: &'a Scopes<'a>,
+) -> Result<&'a Scopes<'a>, NoMemory>
+    ensures { IfOk result (λ all. scopes_of all.now ≡
+        plain.nearest_temporary (how_of how (entry_of entry)) (scopes_of scopes.entry.now)) }
 {
-    match scopes.pop() {
-        Some(mut scope) => {
+    match scopes {
+        Scopes::Innermost(scope, around) => {
             if scope.for_temporaries {
-                changed(alloc, how, entry, &mut scope)?;
+                let other = changed(bump, how, entry, *scope)?;
+                inside(bump, other, around)
             } else {
-                nearest_temporary(alloc, how, entry, scopes)?;
+                let others = nearest_temporary(bump, how, entry, around)?;
+                inside(bump, *scope, others)
             }
-            scopes.push(scope)
         }
-        None => Ok(()),
+        Scopes::NoScope => Ok(scopes),
     }
 }
 
 /// An entry of a scope changes.
-fn change_at(
-    alloc: Global,
+fn change_at<'a>(
+    bump: &'a Bump,
     at: ScopeAt,
     how: How,
     entry: Entry,
-    scopes: &mut List<Scope>,
-) -> Result<(), NoMemory>
-    ensures { OnOk result (scopes_of scopes.new ≡ change_in (at_of at) (how_of how (entry_of entry)) (scopes_of scopes.old)) }
+    scopes: &'a Scopes<'a>,
+) -> Result<&'a Scopes<'a>, NoMemory>
+    ensures { IfOk result (λ all. scopes_of all.now ≡ change_in (at_of at) (how_of how (entry_of entry)) (scopes_of scopes.entry.now)) }
 {
     match at {
-        ScopeAt::Innermost => innermost(alloc, how, entry, scopes),
-        ScopeAt::AroundInnermost => around_innermost(alloc, how, entry, scopes),
-        ScopeAt::NearestTemporary => nearest_temporary(alloc, how, entry, scopes),
+        ScopeAt::Innermost => innermost(bump, how, entry, scopes),
+        ScopeAt::AroundInnermost => around_innermost(bump, how, entry, scopes),
+        ScopeAt::NearestTemporary => nearest_temporary(bump, how, entry, scopes),
     }
 }
 
@@ -157,29 +154,30 @@ fn change_at(
 /// # Errors
 ///
 /// [`NoMemory`] where memory is wanted.
-pub fn enter(
-    alloc: Global,
+pub fn enter<'a>(
+    bump: &'a Bump,
     node: NodeId,
     for_temporaries: bool,
-    scopes: &mut List<Scope>,
-) -> Result<(), NoMemory>
-    ensures { OnOk result (scopes_of scopes.new ≡ plain.with_scope node.0 for_temporaries (scopes_of scopes.old)) }
+    scopes: &'a Scopes<'a>,
+) -> Result<&'a Scopes<'a>, NoMemory>
+    ensures { IfOk result (λ all. scopes_of all.now ≡ plain.with_scope node.0 for_temporaries (scopes_of scopes.entry.now)) }
 {
-    scopes.push(Scope {
+    let scope = Scope {
         node,
         for_temporaries,
-        entries: List::new(alloc),
-        pending: List::new(alloc),
-    })
+        entries: Entries::NoEntry,
+        pending: Entries::NoEntry,
+    };
+    inside(bump, scope, scopes)
 }
 
-/// The innermost scope is left.
-pub fn leave(scopes: &mut List<Scope>)
-    ensures { (frame : build.Frame) → scopes_of scopes.new ≡ build.outer frame (scopes_of scopes.old) }
+/// The scopes around the innermost.
+pub fn leave<'a>(scopes: &'a Scopes<'a>) -> &'a Scopes<'a>
+    ensures { (frame : build.Frame) → scopes_of result.now ≡ build.outer frame (scopes_of scopes.entry.now) }
 {
-    match scopes.pop() {
-        Some(scope) => drop(scope),
-        None => {}
+    match scopes {
+        Scopes::Innermost(_, around) => around,
+        Scopes::NoScope => scopes,
     }
 }
 
@@ -188,45 +186,58 @@ pub fn leave(scopes: &mut List<Scope>)
 /// # Errors
 ///
 /// [`NoMemory`] where memory is wanted.
-pub fn take(alloc: Global, keys: &[Key], scopes: &mut List<Scope>) -> Result<(), NoMemory>
-    ensures { OnOk result (scopes_of scopes.new ≡
-        plain.innermost (plain.without_operands (keys_seen keys.now)) (scopes_of scopes.old)) }
+pub fn take<'a>(
+    bump: &'a Bump,
+    keys: &[Key],
+    scopes: &'a Scopes<'a>,
+) -> Result<&'a Scopes<'a>, NoMemory>
+    ensures { IfOk result (λ all. scopes_of all.now ≡
+        plain.innermost (plain.without_operands (keys_seen keys.now)) (scopes_of scopes.entry.now)) }
 {
-    match scopes.pop() {
-        Some(mut scope) => {
-            scope.entries = without_keys(alloc, scope.entries.as_slice(), keys)?;
-            scopes.push(scope)
+    match scopes {
+        Scopes::Innermost(scope, around) => {
+            let entries = without_keys(bump, keys, scope.entries)?;
+            inside(bump, Scope { entries, ..*scope }, around)
         }
-        None => Ok(()),
+        Scopes::NoScope => Ok(scopes),
     }
 }
 
 /// The name of a `let`, pending in the innermost scope, is an entry of the one around it.
-fn name(alloc: Global, entry: Entry, scopes: &mut List<Scope>) -> Result<(), NoMemory>
-    ensures { OnOk result (scopes_of scopes.new ≡ plain.around_innermost (plain.with_entry (entry_of entry))
-        (plain.innermost (plain.without_pending (entry_of entry)) (scopes_of scopes.old))) }
+fn name<'a>(
+    bump: &'a Bump,
+    entry: Entry,
+    scopes: &'a Scopes<'a>,
+) -> Result<&'a Scopes<'a>, NoMemory>
+    ensures { IfOk result (λ all. scopes_of all.now ≡ plain.around_innermost (plain.with_entry (entry_of entry))
+        (plain.innermost (plain.without_pending (entry_of entry)) (scopes_of scopes.entry.now))) }
 {
-    innermost(alloc, How::Leaves, entry, scopes)?;
-    around_innermost(alloc, How::Enters, entry, scopes)
+    let others = innermost(bump, How::Leaves, entry, scopes)?;
+    around_innermost(bump, How::Enters, entry, others)
 }
 
-/// Scopes change. It costs and takes memory by the entries of the scope that changes, for each operand that is taken.
+/// The scopes after a change. It costs, and takes memory in the arena, by the scopes up to the one that changes and by
+/// the entries there that are younger than one that goes.
 ///
 /// # Errors
 ///
 /// [`NoMemory`] where memory is wanted.
-pub fn change(alloc: Global, by: &Change, scopes: &mut List<Scope>) -> Result<(), NoMemory>
-    ensures { OnOk result (scopes_of scopes.new ≡ changed_by (change_of by.now) (scopes_of scopes.old)) }
+pub fn change<'a>(
+    bump: &'a Bump,
+    by: &Change,
+    scopes: &'a Scopes<'a>,
+) -> Result<&'a Scopes<'a>, NoMemory>
+    ensures { IfOk result (λ all. scopes_of all.now ≡ changed_by (change_of by.now) (scopes_of scopes.entry.now)) }
 {
     match by {
         Change::NewScope {
             node,
             for_temporaries,
-        } => enter(alloc, *node, *for_temporaries, scopes),
-        Change::Pends(at, entry) => change_at(alloc, *at, How::Pends, *entry, scopes),
-        Change::Completes(at, entry) => change_at(alloc, *at, How::Completes, *entry, scopes),
-        Change::Enters(at, entry) => change_at(alloc, *at, How::Enters, *entry, scopes),
-        Change::Names(entry) => name(alloc, *entry, scopes),
-        Change::Takes(keys) => take(alloc, keys.as_slice(), scopes),
+        } => enter(bump, *node, *for_temporaries, scopes),
+        Change::Pends(at, entry) => change_at(bump, *at, How::Pends, *entry, scopes),
+        Change::Completes(at, entry) => change_at(bump, *at, How::Completes, *entry, scopes),
+        Change::Enters(at, entry) => change_at(bump, *at, How::Enters, *entry, scopes),
+        Change::Names(entry) => name(bump, *entry, scopes),
+        Change::Takes(keys) => take(bump, keys.as_slice(), scopes),
     }
 }

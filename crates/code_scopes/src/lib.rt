@@ -1,15 +1,17 @@
 //! The scopes of code as it is lowered: what each holds, how it changes, what a panic drops (the rustc development guide,
 //! "MIR construction", on scopes; The Rust Reference, "Destructors").
-#![tactic(auto, using(crate::proofs::Lists::entries_last, crate::proofs::Lists::scopes_last))]
+//!
+//! Scopes are made in an arena and never change: a change makes new ones, which share all that stays the same.
+#![tactic(auto, using(crate::proofs::Lists::entries_last))]
 
 mod afterwards;
 mod changing;
-mod copies;
 mod dropping;
+mod entries;
 mod scope;
 
 pub use afterwards::after;
 pub use changing::{change, enter, leave, take};
-pub use copies::{copied, copied_entries};
 pub use dropping::panic_drops;
-pub use scope::Scope;
+pub use entries::copied_entries;
+pub use scope::{Entries, Scope, Scopes, depth};

@@ -126,7 +126,7 @@ build_one-returns-in-Some t c =
 pub build_from-returns : goal.build_from-returns
 build_from-returns t c =
     let f : Frame = frame_at c.args.at in
-    let changed : scopes_of c.as_slice-scopes.result.now ≡ plain.changed_by (change_of c.args.by.now) (scopes_of c.args.at.scopes.now) = search rules in
+    let changed : scopes_of c.in_ok-scopes.scopes.now ≡ plain.changed_by (change_of c.args.by.now) (scopes_of c.args.at.scopes.now) = c.in_ok-scopes.ensures in
     on_ok_weaker c.build_one.result
     (λ made code start one. made code start one
     ∙ ap (λ (S : Scopes). (lowers f code).build (ways_of c.args.at.ways) S (rest_of c.args.blocks.now.rest) (building_of c.args.blocks.now)) changed)
@@ -142,14 +142,12 @@ build_behind-returns-then-not-has_end t c = λ one another start first second.
 pub build_behind-returns : goal.build_behind-returns
 build_behind-returns t c =
     let f : Frame = frame_at c.args.at in
-    let behind : c.as_slice-scopes.result.now ≡ c.after.new.scopes = search rules in
-    let before : scopes_of c.in_ok-scopes.scopes ≡ scopes_of c.args.at.scopes.now = search rules in
     let holds : c.has_end.result ≡ true = search rules in
     on_ok_weaker c.build.result
     (λ made one another start first second.
     let has_end : (lowers f one).has_end ≡ true = sym (c.has_end.ensures f one start first) ∙ holds in
-    let scopes : scopes_of c.as_slice-scopes.result.now ≡ (lowers f one).after (scopes_of c.args.at.scopes.now) =
-    ap scopes_of behind ∙ c.in_ok-after.ensures f one start first ∙ ap (λ (S : Scopes). (lowers f one).after S) before in
+    let scopes : scopes_of c.in_ok-scopes.scopes.now ≡ (lowers f one).after (scopes_of c.args.at.scopes.now) =
+    c.in_ok-scopes.ensures f one start first in
     made another (suc c.args.one) second
     ∙ ap (λ (S : Scopes). (lowers f another).build (ways_of c.args.at.ways) S (rest_of c.args.blocks.now.rest) (building_of c.args.blocks.now)) scopes
     ∙ behind_true (lowers f one).has_end (lowers f one) (lowers f another) (ways_of c.args.at.ways) (scopes_of c.args.at.scopes.now)
@@ -177,11 +175,11 @@ build_both-returns-in_ok-build_behind-in-Some t c =
 pub build_scope-returns : goal.build_scope-returns
 build_scope-returns t c =
     let f : Frame = frame_at c.args.at in
-    let entered : scopes_of c.as_slice-scopes.result.now ≡ with_scope c.args.node.0 c.args.for_temporaries (scopes_of c.args.at.scopes.now) = search rules in
+    let entered : scopes_of c.in_ok-scopes.scopes.now ≡ with_scope c.args.node.0 c.args.for_temporaries (scopes_of c.args.at.scopes.now) = c.in_ok-scopes.ensures in
     on_ok_weaker c.build_one.result
     (λ made code start one.
     let W = ways_of c.args.at.ways in
-    let S : Scopes = scopes_of c.as_slice-scopes.result.now in
+    let S : Scopes = scopes_of c.in_ok-scopes.scopes.now in
     one_after (lowers f code) (build.leave f) W S (rest_of c.args.blocks.now.rest) (building_of c.args.blocks.now)
     (built_of c.leave_behind.new.blocks) (built_of c.build_one.new.blocks) (c.in_ok-leave_behind.ensures code start one) (made code start one)
     ∙ ap (λ (S : Scopes). build.then_build (lowers f code).has_end (lowers f code) (build.leave f) W S (rest_of c.args.blocks.now.rest) (building_of c.args.blocks.now)) entered)
@@ -235,12 +233,11 @@ build_loop-returns t c =
     let S : Scopes = scopes_of c.args.at.scopes.now in
     let k : Rest = rest_of c.args.blocks.now.rest in
     let b : Building = building_of c.args.blocks.now in
-    let base : length c.args.at.scopes.now ≡ length S =
-    sym (length-reverse (map scope_of c.args.at.scopes.now) ∙ length-map c.args.at.scopes.now scope_of) in
+    let base : c.in_ok-base.base ≡ length S = c.in_ok-base.ensures in
     on_ok_weaker c.build_turn.result
     (λ made turn start stands.
     looped f c.args.id.0 turn (ways_of c.args.at.ways) S k b
-    (length c.args.at.scopes.now) c.in_ok-exit.exit c.in_ok-turn.turn c.has_end-is_left.result
+    c.in_ok-base.base c.in_ok-exit.exit c.in_ok-turn.turn c.has_end-is_left.result
     (building_of c.close_exit.new.blocks) (building_of c.reserve.new.self) (built_of c.build_turn.new.blocks)
     (c.has_end-is_left.ensures f (plain.Loops c.args.id.0 turn) start stands)
     base c.in_ok-exit.ensures c.in_ok-close_exit.ensures c.in_ok-turn.ensures.0

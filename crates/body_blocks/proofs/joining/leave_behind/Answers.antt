@@ -31,15 +31,13 @@ returns c =
     let words : List Op = map op_of c.args.at.code.words.now in
     let marks : List Mark = c.args.at.code.marks.now in
     let ends : c.args.end ≡ suc c.in-Some.inner = search rules in
-    let behind : c.as_slice.result.now ≡ c.after.new.scopes = search rules in
     on_ok_weaker c.leave.result
     (λ made code start one.
     let stands : Stands f words marks code start c.in-Some.inner =
     subst (λ (d : ℕ). Stands f words marks code start d) (before_is c.args.end one.0 c.in-Some.inner one.1.0 ends) one.1.1 in
     let has_end : (lowers f code).has_end ≡ true = sym (c.has_end.ensures f code start stands) ∙ search rules in
-    let before : scopes_of c.in_ok-scopes.scopes ≡ scopes_of c.args.at.scopes.now = search rules in
-    let scopes : scopes_of c.as_slice.result.now ≡ (lowers f code).after (scopes_of c.args.at.scopes.now) =
-    ap scopes_of behind ∙ c.in_ok-after.ensures f code start stands ∙ ap (λ (S : Scopes). (lowers f code).after S) before in
+    let scopes : scopes_of c.in_ok-scopes.scopes.now ≡ (lowers f code).after (scopes_of c.args.at.scopes.now) =
+    c.in_ok-scopes.ensures f code start stands in
     made
     ∙ ap (λ (S : Scopes). build.leave_from f S (rest_of c.args.blocks.now.rest) (building_of c.args.blocks.now)) scopes
     ∙ behind_true (lowers f code).has_end (lowers f code) (build.leave f) (ways_of c.args.at.ways) (scopes_of c.args.at.scopes.now)

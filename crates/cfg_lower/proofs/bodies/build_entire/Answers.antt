@@ -20,12 +20,11 @@ pub returns : goal.returns
 returns c =
     let f : Frame = frame_of c.args.frame in
     let tree : BodyTree = body_of c.args.body.now in
-    let behind : c.as_slice.result.now ≡ c.in_ok-scopes.scopes = search rules in
-    let scopes : scopes_of c.as_slice.result.now ≡ low.answer_scope f tree = ap scopes_of behind ∙ c.in_ok-scopes.ensures f in
+    let scopes : scopes_of c.in_ok-scopes.scopes.now ≡ low.answer_scope f tree = c.in_ok-scopes.ensures f in
     let key : answer_key tree ≡ c.args.body.now.block.id.0 = search (rules, the_lemmas) in
     let last : length c.args.code.words.now - 1 ≡ c.saturating_sub.result = search rules in
     on_ok_weaker c.fill.result
-    (λ filled whole begins. entire f tree (scopes_of c.as_slice.result.now) (built_of c.start.new.blocks) (built_of c.build.new.blocks) (built_of c.fill.new.self)
+    (λ filled whole begins. entire f tree (scopes_of c.in_ok-scopes.scopes.now) (built_of c.start.new.blocks) (built_of c.build.new.blocks) (built_of c.fill.new.self)
     scopes (c.in_ok-start.ensures begins ∙ ap begun (sym key)) (c.in_ok-build.ensures (entire_function f.items tree) 0
     (subst (λ (e : ℕ). Stands f (map op_of c.args.code.words.now) c.args.code.marks.now (entire_function f.items tree) 0 e) last whole))
     (ap (λ (r : Rest × Building). r.1) filled)) c.fill.ensures

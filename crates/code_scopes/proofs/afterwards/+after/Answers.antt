@@ -1,6 +1,6 @@
 use Rattle.std.proofs.Common.{rules, ◌≡◌, ◌∙◌, ℕ, suc, Bool, true, false, List, Some, map, slice_get, refl, sym, ap, subst}
 use Rattle.std.proofs.lemmas.Option.{none-some}
-use Rattle.std.proofs.lemmas.Result.{on_ok_weaker}
+use Rattle.std.proofs.lemmas.Result.{IfOk-weaker}
 use Rattle.cfg_build.specs.Build as build
 use Rattle.cfg_build.specs.Codes.{lowers}
 use Rattle.scope_code.specs.View.{op_of, change_of, condition_of}
@@ -11,6 +11,8 @@ use Rattle.code_spans.specs.declared.marks.Mark.{Mark}
 use Rattle.code_spans.specs.Spans.{Stands}
 use Rattle.src_meaning.specs.Scopes.{Scopes}
 use Rattle.code_scopes.specs.Scoped.{scopes_of}
+use Rattle.code_scopes.specs.declared.scope.Scopes.{Scopes as Held}
+use Rattle.std.specs.Borrow.{Bor}
 use Rattle.code_scopes.proofs.Behind.{word_at, of_change, of_leave, of_replaced, of_from, of_scope, of_both, of_either, stays, before_is, found_first, found_second}
 use Rattle.code_scopes.proofs.afterwards.+after.Goals as goal
 
@@ -19,9 +21,9 @@ after-returns-in-Changes t c =
     let ws : List words.Op = c.args.code.words.now in
     let at : slice_get (map op_of ws) c.args.end ≡ Some (op_of (words.Op.Changes c.in-Changes.by)) =
     word_at ws c.args.end c.in-Some.word.now (words.Op.Changes c.in-Changes.by) (sym c.in-Some.ensures) c.in-Changes.is in
-    on_ok_weaker c.change.result
-    (λ made f code start stands. of_change f (map op_of ws) c.args.code.marks.now code start c.args.end stands
-    (scopes_of c.args.scopes.now) (scopes_of c.change.new.scopes) (change_of c.in-Changes.by) at made) c.change.ensures
+    IfOk-weaker c.change.result _ _
+    (λ (behind : Bor Held) made f code start stands. of_change f (map op_of ws) c.args.code.marks.now code start c.args.end stands
+    (scopes_of c.args.scopes.now) (scopes_of behind.now) (change_of c.in-Changes.by) at made) c.change.ensures
 
 pub after-returns-in-Leaves : goal.after-returns-in-Leaves
 after-returns-in-Leaves t c = λ f code start stands.
@@ -29,54 +31,54 @@ after-returns-in-Leaves t c = λ f code start stands.
     let at : slice_get (map op_of ws) c.args.end ≡ Some (op_of words.Op.Leaves) =
     word_at ws c.args.end c.in-Some.word.now words.Op.Leaves (sym c.in-Some.ensures) c.in-Leaves.is in
     of_leave f (map op_of ws) c.args.code.marks.now code start c.args.end stands
-    (scopes_of c.args.scopes.now) (scopes_of c.leave.new.scopes) at (c.leave.ensures f)
+    (scopes_of c.args.scopes.now) (scopes_of c.leave.result.now) at (c.leave.ensures f)
 
-pub after-returns-in_ok-change-in-From : goal.after-returns-in_ok-change-in-From
-after-returns-in_ok-change-in-From t c =
+pub after-returns-in_ok-changed-in-From : goal.after-returns-in_ok-changed-in-From
+after-returns-in_ok-changed-in-From t c =
     let ws : List words.Op = c.args.code.words.now in
     let at : slice_get (map op_of ws) c.args.end ≡ Some (op_of (words.Op.From c.in-From.by)) =
     word_at ws c.args.end c.in-Some.word.now (words.Op.From c.in-From.by) (sym c.in-Some.ensures) c.in-From.is in
-    on_ok_weaker c.after_one.result
-    (λ made f code start stands. of_from f (map op_of ws) c.args.code.marks.now code start c.args.end stands
-    (scopes_of c.args.scopes.now) (scopes_of c.after_one.new.scopes) (change_of c.in-From.by) (scopes_of c.change-in-From.new.scopes) at
-    c.in_ok-change-in-From.ensures (λ inner one. made f inner start one)) c.after_one.ensures
+    IfOk-weaker c.after_one.result _ _
+    (λ (behind : Bor Held) made f code start stands. of_from f (map op_of ws) c.args.code.marks.now code start c.args.end stands
+    (scopes_of c.args.scopes.now) (scopes_of behind.now) (change_of c.in-From.by) (scopes_of c.in_ok-changed-in-From.changed.now) at
+    c.in_ok-changed-in-From.ensures (λ inner one. made f inner start one)) c.after_one.ensures
 
-pub after-returns-in_ok-after_one-in-InScope : goal.after-returns-in_ok-after_one-in-InScope
-after-returns-in_ok-after_one-in-InScope t c = λ f code start stands.
+pub after-returns-in_ok-behind-in-InScope : goal.after-returns-in_ok-behind-in-InScope
+after-returns-in_ok-behind-in-InScope t c = λ f code start stands.
     let ws : List words.Op = c.args.code.words.now in
     let at : slice_get (map op_of ws) c.args.end ≡ Some (op_of (words.Op.InScope c.in-InScope.node c.in-InScope.for_temporaries)) =
     word_at ws c.args.end c.in-Some.word.now (words.Op.InScope c.in-InScope.node c.in-InScope.for_temporaries) (sym c.in-Some.ensures) c.in-InScope.is in
     of_scope f (map op_of ws) c.args.code.marks.now code start c.args.end stands
-    (scopes_of c.args.scopes.now) (scopes_of c.leave-in-InScope.new.scopes) c.in-InScope.node.0 c.in-InScope.for_temporaries
-    (scopes_of c.enter.new.scopes) (scopes_of c.after_one-in-InScope.new.scopes) at c.in_ok-enter-in-InScope.ensures
-    (λ inner one. c.in_ok-after_one-in-InScope.ensures f inner start one) (c.leave-in-InScope.ensures f)
+    (scopes_of c.args.scopes.now) (scopes_of c.leave-in-InScope.result.now) c.in-InScope.node.0 c.in-InScope.for_temporaries
+    (scopes_of c.in_ok-inner-in-InScope.inner.now) (scopes_of c.in_ok-behind-in-InScope.behind.now) at c.in_ok-inner-in-InScope.ensures
+    (λ inner one. c.in_ok-behind-in-InScope.ensures f inner start one) (c.leave-in-InScope.ensures f)
 
 pub after-returns-in-Replaces : goal.after-returns-in-Replaces
 after-returns-in-Replaces t c =
     let ws : List words.Op = c.args.code.words.now in
     let at : slice_get (map op_of ws) c.args.end ≡ Some (op_of (words.Op.Replaces c.in-Replaces.node c.in-Replaces.place c.in-Replaces.key)) =
     word_at ws c.args.end c.in-Some.word.now (words.Op.Replaces c.in-Replaces.node c.in-Replaces.place c.in-Replaces.key) (sym c.in-Some.ensures) c.in-Replaces.is in
-    on_ok_weaker c.take.result
-    (λ made f code start stands. of_replaced f (map op_of ws) c.args.code.marks.now code start c.args.end stands
-    (scopes_of c.args.scopes.now) (scopes_of c.take.new.scopes) (record { node = c.in-Replaces.node.0; place = named c.in-Replaces.place }) c.in-Replaces.key.0 at made) c.take.ensures
+    IfOk-weaker c.take.result _ _
+    (λ (behind : Bor Held) made f code start stands. of_replaced f (map op_of ws) c.args.code.marks.now code start c.args.end stands
+    (scopes_of c.args.scopes.now) (scopes_of behind.now) (record { node = c.in-Replaces.node.0; place = named c.in-Replaces.place }) c.in-Replaces.key.0 at made) c.take.ensures
 
 pub after-returns-in-Then : goal.after-returns-in-Then
 after-returns-in-Then t c =
     let ws : List words.Op = c.args.code.words.now in
     let at : slice_get (map op_of ws) c.args.end ≡ Some (op_of words.Op.Then) =
     word_at ws c.args.end c.in-Some.word.now words.Op.Then (sym c.in-Some.ensures) c.in-Then.is in
-    on_ok_weaker c.after_both.result
-    (λ made f code start stands. of_both f (map op_of ws) c.args.code.marks.now code start c.args.end stands
-    (scopes_of c.args.scopes.now) (scopes_of c.after_both.new.scopes) at (λ one another two. made f one another start two)) c.after_both.ensures
+    IfOk-weaker c.after_both.result _ _
+    (λ (behind : Bor Held) made f code start stands. of_both f (map op_of ws) c.args.code.marks.now code start c.args.end stands
+    (scopes_of c.args.scopes.now) (scopes_of behind.now) at (λ one another two. made f one another start two)) c.after_both.ensures
 
 pub after-returns-in-Branches : goal.after-returns-in-Branches
 after-returns-in-Branches t c =
     let ws : List words.Op = c.args.code.words.now in
     let at : slice_get (map op_of ws) c.args.end ≡ Some (op_of (words.Op.Branches c.in-Branches.node c.in-Branches.on)) =
     word_at ws c.args.end c.in-Some.word.now (words.Op.Branches c.in-Branches.node c.in-Branches.on) (sym c.in-Some.ensures) c.in-Branches.is in
-    on_ok_weaker c.after_either.result
-    (λ made f code start stands. of_either f (map op_of ws) c.args.code.marks.now code start c.args.end stands
-    (scopes_of c.args.scopes.now) (scopes_of c.after_either.new.scopes) c.in-Branches.node.0 (condition_of c.in-Branches.on) at (λ one another two. made f one another start two)) c.after_either.ensures
+    IfOk-weaker c.after_either.result _ _
+    (λ (behind : Bor Held) made f code start stands. of_either f (map op_of ws) c.args.code.marks.now code start c.args.end stands
+    (scopes_of c.args.scopes.now) (scopes_of behind.now) c.in-Branches.node.0 (condition_of c.in-Branches.on) at (λ one another two. made f one another start two)) c.after_either.ensures
 
 pub after-returns-in_default-word : goal.after-returns-in_default-word
 after-returns-in_default-word t c = λ f code start stands.
@@ -97,23 +99,23 @@ after_either-returns-in-None t c = λ f one another start two.
     let found = c.in-None.ensures.two f one another start two in
     absurd (none-some found.0 found.1.0)
 
-pub after_both-returns-in_ok-after-in-Some : goal.after_both-returns-in_ok-after-in-Some
-after_both-returns-in_ok-after-in-Some t c =
+pub after_both-returns-in_ok-between-in-Some : goal.after_both-returns-in_ok-between-in-Some
+after_both-returns-in_ok-between-in-Some t c =
     let ws : List Op = map op_of c.args.code.words.now in
     let marks : List Mark = c.args.code.marks.now in
-    on_ok_weaker c.after-in-Some.result
-    (λ made f one another start two.
+    IfOk-weaker c.after-in-Some.result _ _
+    (λ (behind : Bor Held) made f one another start two.
     let found = c.in-Some.ensures.two f one another start two in
     made f another (suc c.in-Some.two.one) (found_second f ws marks one another start c.in-Some.two found)
     ∙ ap (λ (S : Scopes). (lowers f another).after S)
-    (c.in_ok-after-in-Some.ensures f one start (found_first f ws marks one another start c.in-Some.two found))) c.after-in-Some.ensures
+    (c.in_ok-between-in-Some.ensures f one start (found_first f ws marks one another start c.in-Some.two found))) c.after-in-Some.ensures
 
 pub after_either-returns-then-has_end : goal.after_either-returns-then-has_end
 after_either-returns-then-has_end t c =
     let ws : List Op = map op_of c.args.code.words.now in
     let marks : List Mark = c.args.code.marks.now in
-    on_ok_weaker c.after.result
-    (λ made f one another start two.
+    IfOk-weaker c.after.result _ _
+    (λ (behind : Bor Held) made f one another start two.
     let found = c.in-Some.ensures.two f one another start two in
     let stands : Stands f ws marks one start c.in-Some.two.one = found_first f ws marks one another start c.in-Some.two found in
     let ends : true ≡ (lowers f one).has_end = sym c.if-has_end.true ∙ c.has_end.ensures f one start stands in
@@ -124,8 +126,8 @@ pub after_either-returns-else-has_end : goal.after_either-returns-else-has_end
 after_either-returns-else-has_end t c =
     let ws : List Op = map op_of c.args.code.words.now in
     let marks : List Mark = c.args.code.marks.now in
-    on_ok_weaker c.after-else-has_end.result
-    (λ made f one another start two.
+    IfOk-weaker c.after-else-has_end.result _ _
+    (λ (behind : Bor Held) made f one another start two.
     let found = c.in-Some.ensures.two f one another start two in
     let stands : Stands f ws marks one start c.in-Some.two.one = found_first f ws marks one another start c.in-Some.two found in
     let ends : false ≡ (lowers f one).has_end = sym c.if-has_end.false ∙ c.has_end.ensures f one start stands in
@@ -137,6 +139,6 @@ after_one-returns-in-Some t c =
     let ws : List Op = map op_of c.args.code.words.now in
     let marks : List Mark = c.args.code.marks.now in
     let ends : c.args.end ≡ suc c.in-Some.inner = search rules in
-    on_ok_weaker c.after.result
-    (λ made f code start one. made f code start
+    IfOk-weaker c.after.result _ _
+    (λ (behind : Bor Held) made f code start one. made f code start
     (subst (λ (d : ℕ). Stands f ws marks code start d) (before_is c.args.end one.0 c.in-Some.inner one.1.0 ends) one.1.1)) c.after.ensures
