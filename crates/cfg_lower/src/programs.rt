@@ -16,7 +16,7 @@ use body_nodes::all_nodes;
 use cfg_graph::{Body, Graph};
 use mir_base::{List, NoMemory};
 use mir_ty::Items;
-use place_words::Names;
+use place_words::{Names, rise};
 use std::alloc::Global;
 use typed_tree::{TBody, Typed};
 use use_sites::{Site, body_sites};
@@ -47,6 +47,7 @@ fn add_sites(
         items,
         locals: found.as_slice(),
         nodes: nodes.as_slice(),
+        rise: rise(nodes.as_slice()),
     };
     let blocks = lowered.body.blocks.as_slice();
     body_sites(

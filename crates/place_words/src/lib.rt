@@ -5,4 +5,4 @@ mod names;
 mod steps;
 mod types;
 
-pub use names::{Names, node_with, place_name};
+pub use names::{Names, node_with, place_name, rise};

@@ -1,5 +1,5 @@
 //! Places by the names of variables.
-ghost use Rattle.std.specs.Prelude.{◌≡◌, ◌++◌, ℕ, IfOk, OnOk, map, option_map, slice_get};
+ghost use Rattle.std.specs.Prelude.{◌≡◌, ◌++◌, ◌≤◌, ℕ, true, Some, IfSome, IfOk, OnOk, map, option_map, slice_get};
 ghost use Rattle.std.specs.Option.{option_copied};
 ghost use Rattle.std.specs.String.{string_bytes};
 ghost use Rattle.cfg_graph.specs.Places.{named, named_step};
@@ -7,6 +7,7 @@ ghost use Rattle.typed_tree.specs.Nodes.{first_with};
 ghost use Rattle.typed_tree.specs.View.{tree_of, tree_found};
 ghost use Rattle.body_locals.specs.View.{entry_of, keys, tys};
 ghost use Rattle.body_nodes.specs.Listed.{trees};
+ghost use Rattle.place_words.specs.Told.{AreTold, rise_from};
 ghost use Rattle.place_words.specs.Words as words;
 
 use crate::steps::{put, put_steps};
@@ -18,12 +19,28 @@ use std::alloc::Global;
 use typed_tree::{Form, Node};
 
 /// What names of places are made of: the items of a program, the locals of a body in the order of their numbers, and
-/// the nodes of the body in text order.
+/// the nodes of the body in text order, and whether the numbers of these rise ([`rise`]).
 #[derive(Clone, Copy)]
 pub struct Names<'a> {
     pub items: &'a Items,
     pub locals: &'a [Local],
     pub nodes: &'a [&'a Node],
+    pub rise: bool,
+}
+
+/// Whether the numbers of nodes rise.
+pub fn rise(nodes: &[&Node]) -> bool
+    ensures { result ≡ rise_from 0 (trees nodes.now) }
+{
+    let mut least: u64 = 0;
+    for node in nodes {
+        let number = node.id.0 as u64;
+        if number < least {
+            return false;
+        }
+        least = number + 1;
+    }
+    true
 }
 
 /// The key of a local.
@@ -40,8 +57,38 @@ fn ty_of(locals: &[Local], local: u32) -> Option<TyId>
     Some(locals.get(local as usize)?.ty)
 }
 
-/// The first node with a number.
-pub fn node_with<'a>(nodes: &'a [&'a Node], number: u32) -> Option<&'a Node>
+/// Where to look for a node with a number, from a place on back to the first.
+fn back_to(nodes: &[&Node], from: usize, number: u32) -> usize
+    ensures { result ≤ from }
+{
+    let mut at = from;
+    while at > 0 {
+        match nodes.get(at) {
+            Some(node) if node.id.0 <= number => return at,
+            _ => at -= 1,
+        }
+    }
+    at
+}
+
+/// The node with a number, where the numbers of nodes rise: as far behind the first as its number is above the first's,
+/// or, where numbers are left out, before that.
+fn node_near<'a>(nodes: &'a [&'a Node], number: u32) -> Option<&'a Node>
+    ensures { IfSome result (λ node. rise_from 0 (trees nodes.now) ≡ true →
+        first_with number (trees nodes.now) ≡ Some (tree_of node.now)) }
+{
+    let first = nodes.first()?;
+    let guess = number.checked_sub(first.id.0)? as usize;
+    let last = nodes.len().saturating_sub(1);
+    let node = nodes.get(back_to(nodes, guess.min(last), number))?;
+    if node.id.0 != number {
+        return None;
+    }
+    Some(*node)
+}
+
+/// The first node with a number, looked for among all.
+fn first_node<'a>(nodes: &'a [&'a Node], number: u32) -> Option<&'a Node>
     ensures { tree_found result ≡ first_with number (trees nodes.now) }
 {
     for node in nodes {
@@ -50,6 +97,20 @@ pub fn node_with<'a>(nodes: &'a [&'a Node], number: u32) -> Option<&'a Node>
         }
     }
     None
+}
+
+/// The first node with a number. Where the numbers of nodes rise it costs a step, and one for each number that is left
+/// out before it; else a step for each node at most.
+pub fn node_with<'a>(names: Names<'a>, number: u32) -> Option<&'a Node>
+    requires { AreTold names }
+    ensures { tree_found result ≡ first_with number (trees names.entry.nodes.now) }
+{
+    if names.rise {
+        if let Some(node) = node_near(names.nodes, number) {
+            return Some(node);
+        }
+    }
+    first_node(names.nodes, number)
 }
 
 /// The name that a node gives to a variable.
@@ -64,13 +125,14 @@ fn put_binding(out: &mut String, node: &Node) -> Result<(), NoMemory>
 
 /// The name of the variable whose local this is; nothing for a temporary.
 fn put_local(out: &mut String, names: Names, local: u32) -> Result<(), NoMemory>
+    requires { AreTold names }
     ensures { OnOk result (string_bytes out.new ≡ string_bytes out.old
         ++ words.local_name names.entry.items.now (map entry_of names.entry.locals.now) (trees names.entry.nodes.now) local) }
 {
     let Some(key) = key_of(names.locals, local) else {
         return Ok(());
     };
-    match node_with(names.nodes, key.0) {
+    match node_with(names, key.0) {
         Some(node) => put_binding(out, node),
         None => Ok(()),
     }
@@ -112,6 +174,7 @@ fn captured_name<'a>(names: Names<'a>, local: u32, part: u32) -> Option<&'a Name
 
 /// The name of a local, and steps.
 fn put_whole(out: &mut String, names: Names, local: u32, steps: &[Step]) -> Result<(), NoMemory>
+    requires { AreTold names }
     ensures { OnOk result (string_bytes out.new ≡ string_bytes out.old
         ++ words.whole_words names.entry.items.now (map entry_of names.entry.locals.now) (trees names.entry.nodes.now) local
         (map named_step steps.now)) }
@@ -122,6 +185,7 @@ fn put_whole(out: &mut String, names: Names, local: u32, steps: &[Step]) -> Resu
 
 /// A place by its steps: the first part of a closure's value may be a captured variable.
 fn put_place(out: &mut String, names: Names, local: u32, steps: &[Step]) -> Result<(), NoMemory>
+    requires { AreTold names }
     ensures { OnOk result (string_bytes out.new ≡ string_bytes out.old
         ++ words.words_from names.entry.items.now (map entry_of names.entry.locals.now) (trees names.entry.nodes.now) local
         (map named_step steps.now)) }
@@ -137,12 +201,14 @@ fn put_place(out: &mut String, names: Names, local: u32, steps: &[Step]) -> Resu
     put_steps(out, names.items, ty, rest)
 }
 
-/// A place in words. It costs a step for each node of the body at most, and for each step of the place.
+/// A place in words. It costs a step for each step of the place, and what [`node_with`] costs; where the first step is a
+/// part, also a step for each node.
 ///
 /// # Errors
 ///
 /// [`NoMemory`] where memory is wanted.
 pub fn place_name(alloc: Global, names: Names, place: &Place) -> Result<Name, NoMemory>
+    requires { AreTold names }
     ensures { IfOk result (λ name. name ≡ words.place_words names.entry.items.now (map entry_of names.entry.locals.now)
         (trees names.entry.nodes.now) (named place.now)) }
 {

@@ -3,6 +3,7 @@ ghost use Rattle.std.specs.Prelude.{◌≡◌, ◌++◌, [], OnOk, Some, map, sl
 ghost use Rattle.std.specs.Option.{unwrap_or};
 ghost use Rattle.cfg_build.specs.Lower as low;
 ghost use Rattle.typed_tree.specs.Tree.{BodyTree};
+ghost use Rattle.place_words.specs.Told.{AreTold};
 ghost use Rattle.use_sites.specs.Lines.{AreOf};
 ghost use Rattle.use_sites.specs.Listed as listed;
 ghost use Rattle.use_sites.specs.Listed.{ids_of, nodes_of_body};
@@ -44,6 +45,7 @@ fn add_block(
     ids: &[NodeId],
     sites: &mut List<Site>,
 ) -> Result<(), NoMemory>
+    requires { AreTold names }
     ensures { OnOk result ((tree : BodyTree) → AreOf names.entry tree →
         slice_get (low.body_of names.entry.items.now tree).blocks block ≡ Some one.now →
         unwrap_or (slice_get (nodes_of_body names.entry.items.now tree) block) [] ≡ ids_of ids.now →
@@ -68,7 +70,7 @@ fn add_block(
 }
 
 /// The sites of a body, whose blocks and the nodes of whose lines these are, in the order of its blocks and lines. For
-/// each line that uses a place it costs a step for each node of the body at most.
+/// each line that uses a place it costs a step, and one for each number that is left out among those of the nodes before.
 ///
 /// # Errors
 ///
@@ -81,6 +83,7 @@ pub fn body_sites(
     ids: &[List<NodeId>],
     sites: &mut List<Site>,
 ) -> Result<(), NoMemory>
+    requires { AreTold names }
     ensures { OnOk result ((tree : BodyTree) → AreOf names.entry tree →
         blocks.now ≡ (low.body_of names.entry.items.now tree).blocks →
         map ids_of ids.now ≡ nodes_of_body names.entry.items.now tree →

@@ -5,6 +5,7 @@ ghost use Rattle.body_locals.specs.View.{entry_of};
 ghost use Rattle.body_nodes.specs.Listed.{trees};
 ghost use Rattle.cfg_build.specs.Sites as plain;
 ghost use Rattle.cfg_graph.specs.declared.terminator.Term as term;
+ghost use Rattle.place_words.specs.Told.{AreTold};
 ghost use Rattle.use_sites.specs.Lines as lines;
 ghost use Rattle.use_sites.specs.Listed.{placed};
 
@@ -26,6 +27,7 @@ pub struct LineAt {
 
 /// A place in words; none where there is no place.
 fn words_of(alloc: Global, names: Names, place: Option<&Place>) -> Result<Name, NoMemory>
+    requires { AreTold names }
     ensures { IfOk result (λ name. name ≡ lines.words_of names.entry.items.now (map entry_of names.entry.locals.now)
         (trees names.entry.nodes.now) (option_copied place.entry)) }
 {
@@ -62,6 +64,7 @@ fn add_use(
     place: Option<&Place>,
     sites: &mut List<Site>,
 ) -> Result<(), NoMemory>
+    requires { AreTold names }
     ensures { OnOk result (sites.new ≡ sites.old ++ record {
       body = at.body;
       block = at.block;
@@ -92,6 +95,7 @@ pub fn add_stmt(
     stmt: &Stmt,
     sites: &mut List<Site>,
 ) -> Result<(), NoMemory>
+    requires { AreTold names }
     ensures { OnOk result (sites.new ≡ sites.old ++ placed at.body at.block at.line
         (lines.of_stmt names.entry.items.now (map entry_of names.entry.locals.now) (trees names.entry.nodes.now) id stmt.now)) }
 {
@@ -99,7 +103,7 @@ pub fn add_stmt(
     let Some(_first) = places.first else {
         return Ok(());
     };
-    let Some(node) = node_with(names.nodes, id) else {
+    let Some(node) = node_with(names, id) else {
         return Ok(());
     };
     let by = use_by_stmt(stmt, node.by);
@@ -123,6 +127,7 @@ pub fn add_term(
     term: &Term,
     sites: &mut List<Site>,
 ) -> Result<(), NoMemory>
+    requires { AreTold names }
     ensures { OnOk result (sites.new ≡ sites.old ++ placed at.body at.block at.line
         (lines.of_term names.entry.items.now (map entry_of names.entry.locals.now) (trees names.entry.nodes.now) id term.now)) }
 {
@@ -130,7 +135,7 @@ pub fn add_term(
     let Some(_first) = places.first else {
         return Ok(());
     };
-    let Some(node) = node_with(names.nodes, id) else {
+    let Some(node) = node_with(names, id) else {
         return Ok(());
     };
     let by = use_by_term(node.by);
