@@ -59,11 +59,12 @@ fn start(alloc: Global, id: NodeId, blocks: &mut Blocks) -> Result<(), NoMemory>
 }
 
 /// All blocks of a body whose code stands at these words, over no block yet.
-fn build_entire(
+fn build_entire<'a>(
     alloc: Global,
-    frame: Frame,
+    frame: Frame<'a>,
     body: &TBody,
-    code: Spans,
+    code: Spans<'a>,
+    arena: &'a Bump,
     blocks: &mut Blocks,
 ) -> Result<(), NoMemory>
     ensures { OnOk result (IsWhole (frame_of frame.entry) (body_of body.now) code.entry →
@@ -71,8 +72,7 @@ fn build_entire(
         building_of blocks.new ≡ low.built (frame_of frame.entry) (body_of body.now)) }
 {
     start(alloc, body.block.id, blocks)?;
-    let arena = Bump::new(alloc);
-    let scopes = answer_scope(&arena, body)?;
+    let scopes = answer_scope(arena, body)?;
     let at = Setting {
         frame,
         code,
@@ -80,7 +80,7 @@ fn build_entire(
             returns: 1,
             loops: &[],
         },
-        arena: &arena,
+        arena,
         scopes,
     };
     build(alloc, at, code.words.len().saturating_sub(1), blocks)?;
@@ -103,7 +103,8 @@ fn build_body(
         words: code.ops.as_slice(),
         marks: marks.as_slice(),
     };
-    build_entire(alloc, frame, body, spans, blocks)
+    let arena = Bump::new(alloc);
+    build_entire(alloc, frame, body, spans, &arena, blocks)
 }
 
 /// All blocks of a body.

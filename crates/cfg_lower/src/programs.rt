@@ -43,11 +43,12 @@ fn add_sites(
 {
     let found = locals(alloc, items, body)?;
     let nodes = all_nodes(alloc, body)?;
+    let all = nodes.as_slice();
     let names = Names {
         items,
         locals: found.as_slice(),
-        nodes: nodes.as_slice(),
-        rise: rise(nodes.as_slice()),
+        nodes: all,
+        rise: rise(all),
     };
     let blocks = lowered.body.blocks.as_slice();
     body_sites(
