@@ -4,16 +4,16 @@ use Rattle.std.specs.Prelude.{option_map, slice_get}
 use Rattle.std.proofs.lemmas.Option.{slice_get-map}
 use Rattle.bad_uses.specs.Reaches.{MeetsNone}
 use Rattle.cfg_build.specs.Lower.{body_of, graph_of}
-use Rattle.cfg_build.proofs.Typed.{well_typed_names_loops}
+use Rattle.cfg_build.specs.Laws.{AllNameTheirLoops}
 use Rattle.cfg_graph.specs.declared.graph.Graph.{Graph}
 use Rattle.cfg_lower.specs.declared.programs.Lowered.{Lowered}
 use Rattle.lowered_paths.proofs.Law.{lowered-paths-meet}
 use Rattle.src_meaning.specs.Programs.{IsAccepted}
 use Rattle.typed_tree.specs.Tree.{BodyTree, ProgramTree}
-use Rattle.well_typed.specs.Program.{WellTyped}
 use Rattle.mir_pipeline.specs.Graphs.{HasNoGraph, IsAcceptedOf, IsLoweredOf, IsNotAccepted, RefusesUses, UsesStand}
+use Rattle.mir_pipeline.proofs.Programs.{name_their_loops}
 use Rattle.mir_pipeline.specs.declared.refusal.Refusal.{Refusal}
-use Rattle.mir_pipeline.specs.declared.refusal.Refusal.TheVariants.{Lex, Syntax, TooDeep, Broken, Faulty, U1, U2, Unplaced, Memory}
+use Rattle.mir_pipeline.specs.declared.refusal.Refusal.TheVariants.{Lex, Syntax, TooDeep, Broken, Faulty, U1, U2, Memory}
 
 stands_in : (program : ProgramTree) → UsesStand (graph_of program) → (n : ℕ) (tree : BodyTree) → slice_get program.bodies n ≡ Some tree →
     MeetsNone program.items (body_of program.items tree)
@@ -21,15 +21,14 @@ stands_in program stand n tree there =
     stand n (body_of program.items tree)
     (slice_get-map (body_of program.items) program.bodies n ∙ ap (option_map (body_of program.items)) there)
 
-source_stands : (program : ProgramTree) (graph : Graph) → graph ≡ graph_of program → UsesStand graph → WellTyped program → IsAccepted program
-source_stands program graph same stand typed n tree list there =
-    (lowered-paths-meet program.items tree (well_typed_names_loops program typed n tree there)).accepted
-    (stands_in program (subst UsesStand same stand) n tree there) list
+source_stands : (program : ProgramTree) (graph : Graph) → graph ≡ graph_of program → UsesStand graph → AllNameTheirLoops program → IsAccepted program
+source_stands program graph same stand named n tree list there =
+    (lowered-paths-meet program.items tree (named n tree there)).accepted (stands_in program (subst UsesStand same stand) n tree there) list
 
 pub is_accepted : (text : List ℕ) (lowered same : Lowered) → IsLoweredOf text lowered → (same ≡ lowered) × UsesStand lowered.graph → IsAcceptedOf text same
 is_accepted text lowered same (program, p, g) (is, stand) =
     subst (IsAcceptedOf text) (sym is)
-    (program, p, record { lowered_is = g; uses = stand; source = source_stands program lowered.graph g.graph stand })
+    (program, p, record { lowered_is = g; uses = stand; source = source_stands program lowered.graph g.graph stand (name_their_loops text program p) })
 
 pub has_no_graph : (text : List ℕ) (r : Refusal) → HasNoGraph text r → IsNotAccepted text r
 has_no_graph text (Lex code at) h = h
@@ -39,7 +38,6 @@ has_no_graph text (Broken rule at) h = h
 has_no_graph text (Faulty fault) h = h
 has_no_graph text (U1 bad site) h = absurd h
 has_no_graph text (U2 bad site) h = absurd h
-has_no_graph text (Unplaced body block line) h = absurd h
 has_no_graph text Memory h = h
 
 pub has_bad_use : (text : List ℕ) (lowered : Lowered) (r : Refusal) → IsLoweredOf text lowered → RefusesUses lowered r → IsNotAccepted text r
@@ -50,5 +48,4 @@ has_bad_use text lowered (Broken rule at) l h = absurd h
 has_bad_use text lowered (Faulty fault) l h = absurd h
 has_bad_use text lowered (U1 bad site) l h = (lowered, l, h)
 has_bad_use text lowered (U2 bad site) l h = (lowered, l, h)
-has_bad_use text lowered (Unplaced body block line) l h = (lowered, l, h)
 has_bad_use text lowered Memory l h = tt

@@ -4,5 +4,7 @@ pub mod Faulty
 pub mod Fewer
 pub mod Finding
 pub mod FirstBad
+pub mod Programs
 pub mod Refusals
+pub mod Sited
 pub mod Unread

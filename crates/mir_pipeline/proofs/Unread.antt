@@ -6,7 +6,7 @@ use Rattle.src_tree.specs.declared.node.Tree.{Tree}
 use Rattle.mir_pipeline.specs.Programs.{program_in, HasNoProgram}
 use Rattle.mir_pipeline.specs.Trees.{IsTreeOf, IsRefused, of_rule}
 use Rattle.mir_pipeline.specs.declared.refusal.Refusal.{Refusal}
-use Rattle.mir_pipeline.specs.declared.refusal.Refusal.TheVariants.{Lex, Syntax, TooDeep, Broken, Faulty, U1, U2, Unplaced, Memory}
+use Rattle.mir_pipeline.specs.declared.refusal.Refusal.TheVariants.{Lex, Syntax, TooDeep, Broken, Faulty, U1, U2, Memory}
 
 pub no_program : (text : List ℕ) (r : Refusal) → IsRefused text r → HasNoProgram text r
 no_program text (Lex code at) h = h
@@ -16,7 +16,6 @@ no_program text (Broken rule at) h = absurd h
 no_program text (Faulty fault) h = absurd h
 no_program text (U1 bad site) h = absurd h
 no_program text (U2 bad site) h = absurd h
-no_program text (Unplaced body block line) h = absurd h
 no_program text Memory h = tt
 
 pub broken_rule : (text : List ℕ) (tree : Tree) (e : RuleError) → IsTreeOf text tree → Refuses (program_in tree) e →

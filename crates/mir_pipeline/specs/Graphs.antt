@@ -1,5 +1,5 @@
 -- The raw graph of a text, the uses that it refuses, and why a text has no graph, or none that is accepted.
-use Rattle.std.specs.Prelude.{◌≡◌, ◌<◌, ◌==◌, ℕ, Bool, true, false, ◌&&◌, List, Option, Some, None, slice_get, ⊤, find, option_and_then}
+use Rattle.std.specs.Prelude.{◌≡◌, ◌<◌, ◌==◌, ℕ, Bool, true, false, ◌&&◌, List, Option, Some, slice_get, ⊤, find, is_some, option_and_then}
 use Rattle.std.specs.Option.{option_map_or}
 use Rattle.bad_uses.specs.Reaches.{MeetsNone}
 use Rattle.cfg_build.specs.Lower.{graph_of}
@@ -12,6 +12,7 @@ use Rattle.cfg_graph.specs.Moves.BadUses.{UseRule, U1, U2}
 use Rattle.cfg_graph.specs.WellFormed.Faults.{IsCounted, IsWellFormed, first_fault}
 use Rattle.cfg_lower.specs.Claims.{EachBody, RunsAsItsSource, WalksAsItRunsFreely}
 use Rattle.cfg_lower.specs.declared.programs.Lowered.{Lowered}
+use Rattle.lowered_paths.specs.Refused.{MeetsItsRefusals}
 use Rattle.move_errors.specs.Refusal.{IsRefused}
 use Rattle.move_errors.specs.declared.errors.BadUse.{BadUse}
 use Rattle.move_paths.specs.declared.uses.Use.{Use}
@@ -24,34 +25,6 @@ use Rattle.mir_pipeline.specs.Programs.{IsProgramOf, HasNoProgram}
 use Rattle.mir_pipeline.specs.declared.refusal.Refusal.{Refusal}
 use Rattle.mir_pipeline.specs.declared.refusal.Refusal.TheVariants as refusal
 use Rattle.mir_pipeline.specs.declared.uses.LineOfUse.{LineOfUse}
-
--- The raw graph of a program, with the sites of its uses. It is well formed, and its lists are short. Of a well typed
--- program it runs as the program does, up to the place where both are stuck, and each body walks as it runs freely.
-pub record IsGraphOf (program : ProgramTree) (lowered : Lowered) : Type 0 where
-  pub graph : lowered.graph ≡ graph_of program
-  pub sites : lowered.sites ≡ program_sites program
-  pub well_formed : IsWellFormed lowered.graph
-  pub counted : IsCounted lowered.graph
-  pub values : WellTyped program → RunsAsItsSource program lowered.graph
-  pub free : WellTyped program → EachBody (WalksAsItRunsFreely program.items) program lowered.graph
-
--- the raw graph of a text's program
-abbrev pub IsLoweredOf : List ℕ → Lowered → Type 0
-IsLoweredOf text lowered = (program : ProgramTree) × IsProgramOf text program × IsGraphOf program lowered
-
--- no path of any body meets a bad use
-abbrev pub UsesStand : Graph → Type 0
-UsesStand graph = (n : ℕ) (body : Body) → slice_get graph.bodies n ≡ Some body → MeetsNone graph.items body
-
--- The raw graph of an accepted program. Of a well typed one no list of choices reaches a refused use in any body of the
--- source.
-pub record IsAcceptedAs (program : ProgramTree) (lowered : Lowered) : Type 0 where
-  pub lowered_is : IsGraphOf program lowered
-  pub uses : UsesStand lowered.graph
-  pub source : WellTyped program → IsAccepted program
-
-abbrev pub IsAcceptedOf : List ℕ → Lowered → Type 0
-IsAcceptedOf text lowered = (program : ProgramTree) × IsProgramOf text program × IsAcceptedAs program lowered
 
 -- ---- the site of a bad use: that of its line; where an assignment drops what stood there, that of the store behind the
 -- drop
@@ -81,8 +54,6 @@ stands_at body at site = site.body == body && (site.block == at.block && site.li
 abbrev pub site_of : Lowered → BadUse → Option Site
 site_of lowered bad = find (stands_at bad.body (line_told lowered.graph bad)) lowered.sites
 
--- ---- refused uses
-
 -- a bad use of the first body that has one, along the least of the shortest lists of choices that reach one
 pub record IsFirstBad (graph : Graph) (rule : UseRule) (bad : BadUse) : Type 0 where
   pub body : Body
@@ -90,26 +61,60 @@ pub record IsFirstBad (graph : Graph) (rule : UseRule) (bad : BadUse) : Type 0 w
   pub refused : IsRefused graph.items body bad.body rule bad
   pub first : (n : ℕ) (earlier : Body) → n < bad.body → slice_get graph.bodies n ≡ Some earlier → MeetsNone graph.items earlier
 
+-- each bad use has a site
+abbrev pub AreSited : Lowered → Type 0
+AreSited lowered = (rule : UseRule) (bad : BadUse) → IsFirstBad lowered.graph rule bad → is_some (site_of lowered bad) ≡ true
+
+-- The raw graph of a program, with the sites of its uses. It is well formed, and its lists are short. It runs as the
+-- program does, up to the place where both are stuck; each body walks as it runs freely, its paths meet the refused uses
+-- of its free runs, and each bad use has a site.
+pub record IsGraphOf (program : ProgramTree) (lowered : Lowered) : Type 0 where
+  pub graph : lowered.graph ≡ graph_of program
+  pub sites : lowered.sites ≡ program_sites program
+  pub well_formed : IsWellFormed lowered.graph
+  pub counted : IsCounted lowered.graph
+  pub values : RunsAsItsSource program lowered.graph
+  pub free : EachBody (WalksAsItRunsFreely program.items) program lowered.graph
+  pub paths : EachBody (MeetsItsRefusals program.items) program lowered.graph
+  pub sited : AreSited lowered
+
+-- the raw graph of a text's program
+abbrev pub IsLoweredOf : List ℕ → Lowered → Type 0
+IsLoweredOf text lowered = (program : ProgramTree) × IsProgramOf text program × IsGraphOf program lowered
+
+-- no path of any body meets a bad use
+abbrev pub UsesStand : Graph → Type 0
+UsesStand graph = (n : ℕ) (body : Body) → slice_get graph.bodies n ≡ Some body → MeetsNone graph.items body
+
+-- The raw graph of an accepted program: no list of choices reaches a refused use in any body of the source.
+pub record IsAcceptedAs (program : ProgramTree) (lowered : Lowered) : Type 0 where
+  pub lowered_is : IsGraphOf program lowered
+  pub uses : UsesStand lowered.graph
+  pub source : IsAccepted program
+
+abbrev pub IsAcceptedOf : List ℕ → Lowered → Type 0
+IsAcceptedOf text lowered = (program : ProgramTree) × IsProgramOf text program × IsAcceptedAs program lowered
+
+-- ---- refused uses
+
 pub record IsBadAt (lowered : Lowered) (rule : UseRule) (bad : BadUse) (site : Site) : Type 0 where
   pub is_bad : IsFirstBad lowered.graph rule bad
   pub told : site_of lowered bad ≡ Some site
 
--- why the uses of a graph are refused; a bad use without a site is told apart
+-- why the uses of a graph are refused
 abbrev pub RefusesUses : Lowered → Refusal → Type 0
 RefusesUses lowered (refusal.U1 bad site) = IsBadAt lowered U1 bad site
 RefusesUses lowered (refusal.U2 bad site) = IsBadAt lowered U2 bad site
-RefusesUses lowered (refusal.Unplaced body block line) =
-    (rule : UseRule) × (bad : BadUse) × IsFirstBad lowered.graph rule bad × (site_of lowered bad ≡ None)
-    × (body ≡ bad.body) × (block ≡ bad.block) × (line ≡ bad.line)
 RefusesUses lowered refusal.Memory = ⊤
 RefusesUses lowered other = ⊥
 
 -- ---- why a text has no graph, and why it has none that is accepted
 
--- the graph of its program has a fault
+-- The graph of its program has a fault, so the program is not well typed. That there is no such text is not proved yet.
 abbrev pub HasFaultyGraph : List ℕ → GraphFault → Type 0
 HasFaultyGraph text fault =
     (program : ProgramTree) × IsProgramOf text program × (first_fault (graph_of program) ≡ Some fault)
+    × (¬ WellTyped program)
 
 abbrev pub HasNoGraph : List ℕ → Refusal → Type 0
 HasNoGraph text (refusal.Faulty fault) = HasFaultyGraph text fault
@@ -122,5 +127,4 @@ HasBadUse text why = (lowered : Lowered) × IsLoweredOf text lowered × RefusesU
 abbrev pub IsNotAccepted : List ℕ → Refusal → Type 0
 IsNotAccepted text (refusal.U1 bad site) = HasBadUse text (refusal.U1 bad site)
 IsNotAccepted text (refusal.U2 bad site) = HasBadUse text (refusal.U2 bad site)
-IsNotAccepted text (refusal.Unplaced body block line) = HasBadUse text (refusal.Unplaced body block line)
 IsNotAccepted text other = HasNoGraph text other

@@ -2,6 +2,7 @@
 ghost use Rattle.std.specs.Prelude.{◌≡◌, ◌<◌, ◌-◌, ◌^◌, IfOk, IfErr, OnOk, length};
 ghost use Rattle.std.specs.List.{list_all};
 ghost use Rattle.cfg_graph.specs.WellFormed.Faults.{IsCounted, IsWellFormed};
+ghost use Rattle.cfg_build.specs.Laws.{AllNameTheirLoops};
 ghost use Rattle.mir_pipeline.specs.Counts as counts;
 ghost use Rattle.typed_tree.specs.View.{program_of};
 ghost use Rattle.mir_pipeline.specs.Faults.{HasFault, HasFaultOf};
@@ -57,7 +58,8 @@ fn is_counted(graph: &Graph) -> bool
 
 /// Whether a graph has a fault.
 ///
-/// That the graph of a program has none is not proved yet. Once it is, nothing is looked at here.
+/// That the graph of a well typed program has none is proved, and not yet that the program of each text is well typed.
+/// Once it is, nothing is looked at here.
 #[tactic(auto, using(crate::proofs::Counted::is_counted))]
 fn judged(graph: &Graph) -> Result<(), Refusal>
     ensures stands { OnOk result (IsWellFormed graph.now × IsCounted graph.now) }
@@ -88,6 +90,7 @@ fn sound(lowered: Lowered) -> Result<Lowered, Refusal>
 
 /// The raw graph of a typed program, with the sites of its uses.
 fn graph_of(alloc: Global, typed: &Typed) -> Result<Lowered, Refusal>
+    requires { AllNameTheirLoops (program_of typed.now) }
     ensures graph { IfOk result (IsGraphOf (program_of typed.now)) }
     ensures fault { IfErr result (HasFaultOf (program_of typed.now)) }
 {
@@ -102,8 +105,8 @@ fn graph_of(alloc: Global, typed: &Typed) -> Result<Lowered, Refusal>
 ///
 /// # Errors
 ///
-/// As [`read_typed`] where the text has no typed program. [`Refusal::Faulty`] where the graph has a fault, of which it
-/// is not proved yet that there is none; never [`Refusal::U1`], [`Refusal::U2`] or [`Refusal::Unplaced`].
+/// As [`read_typed`] where the text has no typed program. [`Refusal::Faulty`] where the graph has a fault, which it has
+/// of no well typed program; never [`Refusal::U1`] or [`Refusal::U2`].
 #[tactic(auto, using(crate::proofs::Faulty::no_graph, crate::proofs::Faulty::faulty))]
 pub fn build_raw(alloc: Global, text: &[u8]) -> Result<Lowered, Refusal>
     requires { length text.now < 2 ^ 32 - 1 }

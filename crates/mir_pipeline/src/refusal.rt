@@ -25,16 +25,13 @@ pub enum Refusal {
     TooDeep { at: u32, pos: Pos },
     /// The tree breaks this rule of typing, and none before it.
     Broken { rule: Rule, at: Pos },
-    /// The raw graph of the program has this fault. That no graph of a program has one is not proved yet; once it is,
-    /// this variant goes.
+    /// The raw graph of the program has this fault, which that of a well typed program has not. That the program of a
+    /// text is well typed is not proved as a whole yet; once it is, this variant goes.
     Faulty(GraphFault),
     /// A place is used that is gone there, or a container or a part of it; with the site of the use in the text.
     U1 { bad: BadUse, site: Site },
     /// A place is stored into of which a container is gone there; with the site of the store in the text.
     U2 { bad: BadUse, site: Site },
-    /// A line of the raw graph has a bad use, and no site in the text. That each bad use has a site is not proved yet;
-    /// once it is, this variant goes.
-    Unplaced { body: u32, block: u32, line: u32 },
     /// Memory was wanted and could not be had.
     Memory,
 }
@@ -49,7 +46,6 @@ impl fmt::Display for Refusal {
             Refusal::Faulty(_) => "the graph of the program has a fault",
             Refusal::U1 { .. } => "the program uses what is gone",
             Refusal::U2 { .. } => "the program stores into a part of what is gone",
-            Refusal::Unplaced { .. } => "a use of what is gone has no place in the text",
             Refusal::Memory => "out of memory",
         };
         write!(f, "{text}")

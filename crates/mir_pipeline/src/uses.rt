@@ -1,11 +1,10 @@
 //! The uses of a graph that are refused.
-ghost use Rattle.std.specs.Prelude.{◌≡◌, ◌<◌, ◌-◌, ◌^◌, IfOk, IfErr, OnOk, find, length};
+ghost use Rattle.std.specs.Prelude.{◌≡◌, ◌<◌, ◌-◌, ◌^◌, Some, true, is_some, IfOk, IfErr, OnOk, find, length};
 ghost use Rattle.std.specs.Option.{option_copied};
 ghost use Rattle.cfg_graph.specs.WellFormed.Faults.{IsCounted, IsWellFormed};
 ghost use Rattle.mir_pipeline.specs.Graphs as graphs;
-ghost use Rattle.mir_pipeline.specs.Graphs.{IsAcceptedOf, IsFirstBad, IsNotAccepted, RefusesUses, UsesStand};
+ghost use Rattle.mir_pipeline.specs.Graphs.{AreSited, IsAcceptedOf, IsFirstBad, IsNotAccepted, RefusesUses, UsesStand};
 ghost use Rattle.mir_pipeline.specs.Faults.{HasFirstBad};
-ghost use Rattle.mir_pipeline.specs.declared.refusal.Refusal.TheVariants.{Unplaced};
 ghost use Rattle.cfg_graph.specs.Moves.BadUses.{U1, U2};
 
 use crate::graphs::build_raw;
@@ -114,52 +113,44 @@ fn site_at(sites: &[Site], body: u32, at: LineOfUse) -> Option<&Site>
     None
 }
 
-/// The site of a bad use, if it has one.
-fn site_of(alloc: Global, lowered: &Lowered, bad: &BadUse) -> Result<Option<Site>, NoMemory>
-    ensures { IfOk result (λ site. site ≡ graphs.site_of lowered.now bad.now) }
+/// The site of a bad use that has one.
+fn site_of(alloc: Global, lowered: &Lowered, bad: &BadUse) -> Result<Site, NoMemory>
+    requires { is_some (graphs.site_of lowered.now bad.now) ≡ true }
+    ensures { IfOk result (λ site. graphs.site_of lowered.now bad.now ≡ Some site) }
 {
     let at = line_told(&lowered.graph, bad);
     match site_at(lowered.sites.as_slice(), bad.body, at) {
-        Some(site) => Ok(Some(copy_of(alloc, site)?)),
-        None => Ok(None),
-    }
-}
-
-/// A bad use whose place in the text is not known.
-fn unplaced(bad: BadUse) -> Refusal
-    ensures { result ≡ Unplaced bad.body bad.block bad.line }
-{
-    Refusal::Unplaced {
-        body: bad.body,
-        block: bad.block,
-        line: bad.line,
+        Some(site) => copy_of(alloc, site),
+        None => unreachable!(),
     }
 }
 
 /// The refusal of a use of what is gone.
 fn of_use(alloc: Global, lowered: &Lowered, bad: BadUse) -> Refusal
+    requires sited { is_some (graphs.site_of lowered.now bad) ≡ true }
     ensures { IsFirstBad lowered.now.graph U1 bad → RefusesUses lowered.now result }
 {
     match site_of(alloc, lowered, &bad) {
-        Ok(Some(site)) => Refusal::U1 { bad, site },
-        Ok(None) => unplaced(bad),
+        Ok(site) => Refusal::U1 { bad, site },
         Err(NoMemory) => Refusal::Memory,
     }
 }
 
 /// The refusal of a store into a part of what is gone.
 fn of_store(alloc: Global, lowered: &Lowered, bad: BadUse) -> Refusal
+    requires sited { is_some (graphs.site_of lowered.now bad) ≡ true }
     ensures { IsFirstBad lowered.now.graph U2 bad → RefusesUses lowered.now result }
 {
     match site_of(alloc, lowered, &bad) {
-        Ok(Some(site)) => Refusal::U2 { bad, site },
-        Ok(None) => unplaced(bad),
+        Ok(site) => Refusal::U2 { bad, site },
         Err(NoMemory) => Refusal::Memory,
     }
 }
 
 fn told(alloc: Global, lowered: &Lowered, error: UseError) -> Refusal
-    ensures { HasFirstBad lowered.now.graph error → RefusesUses lowered.now result }
+    requires sited { AreSited lowered.now }
+    requires first { HasFirstBad lowered.now.graph error }
+    ensures { RefusesUses lowered.now result }
 {
     match error {
         UseError::U1(bad) => of_use(alloc, lowered, bad),
@@ -173,11 +164,12 @@ fn told(alloc: Global, lowered: &Lowered, error: UseError) -> Refusal
 /// # Errors
 ///
 /// [`Refusal::U1`] and [`Refusal::U2`] of the first body, in the order of numbers, of which a path meets a bad use: that
-/// which the least of the shortest lists of choices reaches, with its site in the text. [`Refusal::Unplaced`] where the
-/// use has no site, of which it is not proved yet that there is none. [`Refusal::Memory`] where memory is wanted.
+/// which the least of the shortest lists of choices reaches, with its site in the text. [`Refusal::Memory`] where memory
+/// is wanted.
 pub fn checked_uses(alloc: Global, lowered: &Lowered) -> Result<(), Refusal>
     requires well_formed { IsWellFormed lowered.now.graph }
     requires counted { IsCounted lowered.now.graph }
+    requires sited { AreSited lowered.now }
     ensures accepted { OnOk result (UsesStand lowered.now.graph) }
     ensures refused { IfErr result (λ refusal. RefusesUses lowered.now refusal) }
 {
@@ -191,6 +183,7 @@ pub fn checked_uses(alloc: Global, lowered: &Lowered) -> Result<(), Refusal>
 fn accepted(alloc: Global, lowered: Lowered) -> Result<Lowered, Refusal>
     requires well_formed { IsWellFormed lowered.graph }
     requires counted { IsCounted lowered.graph }
+    requires sited { AreSited lowered }
     ensures accepted { IfOk result (λ same. (same ≡ lowered) × UsesStand lowered.graph) }
     ensures refused { IfErr result (λ refusal. RefusesUses lowered refusal) }
 {

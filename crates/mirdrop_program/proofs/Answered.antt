@@ -2,10 +2,10 @@
 use Rattle.std.proofs.Common.{◌≡◌, ℕ, List, arith, ap, sym, ◌∙◌, subst}
 use Rattle.mir_base.specs.declared.trace.End.{End}
 use Rattle.mir_pipeline.specs.declared.refusal.Refusal.{Refusal}
-use Rattle.mir_pipeline.specs.declared.refusal.Refusal.TheVariants.{Lex, Syntax, TooDeep, Broken, Faulty, U1, U2, Unplaced, Memory}
+use Rattle.mir_pipeline.specs.declared.refusal.Refusal.TheVariants.{Lex, Syntax, TooDeep, Broken, Faulty, U1, U2, Memory}
 use Rattle.program_words.specs.declared.request.Command.{Command}
 use Rattle.program_words.specs.declared.request.Request.{Request}
-use Rattle.mirdrop_program.specs.Owed.{Owed, owed_by, OwedByCheck, OwedByRaw, OwedByRun, OwedByExec, accepted, not_accepted, listed, listed_with_use, not_placed, no_graph, ran, not_run, executed, no_listing, end_status}
+use Rattle.mirdrop_program.specs.Owed.{Owed, owed_by, OwedByCheck, OwedByRaw, OwedByRun, OwedByExec, accepted, not_accepted, listed, listed_with_use, no_graph, ran, not_run, executed, no_listing, end_status}
 use Rattle.mirdrop_program.specs.Refusals.{refusal_status}
 
 -- the statuses of failures
@@ -39,7 +39,6 @@ refusal_is_answer (Broken rule at) = one_is_answer
 refusal_is_answer (Faulty fault) = seventy_is_answer
 refusal_is_answer (U1 bad site) = one_is_answer
 refusal_is_answer (U2 bad site) = one_is_answer
-refusal_is_answer (Unplaced body block line) = seventy_is_answer
 refusal_is_answer Memory = one_is_answer
 
 by_check : (text : List ℕ) (status : ℕ) (written : List ℕ) → OwedByCheck text status written → IsAnswer status
@@ -49,7 +48,6 @@ by_check text status written (not_accepted why is told) = refusal_is_answer why
 by_raw : (text : List ℕ) (status : ℕ) (written : List ℕ) → OwedByRaw text status written → IsAnswer status
 by_raw text status written (listed lowered is stand) = zero_is_answer
 by_raw text status written (listed_with_use lowered is why refuses of_use) = zero_is_answer
-by_raw text status written (not_placed lowered is why refuses told inside) = seventy_is_answer
 by_raw text status written (no_graph why is told) = refusal_is_answer why
 
 by_command : (command : Command) (request : Request) (text : List ℕ) (status : ℕ) (written : List ℕ) → owed_by command request text status written → IsAnswer status

@@ -5,10 +5,9 @@ use Rattle.cfg_graph.specs.declared.graph.Graph.{Graph}
 use Rattle.cfg_graph.specs.WellFormed.Faults.{IsCounted, IsCountedBody}
 use Rattle.mir_pipeline.specs.Graphs.{HasNoGraph, IsAcceptedOf, IsLoweredOf, IsNotAccepted, RefusesUses, UsesStand}
 use Rattle.mir_pipeline.specs.declared.refusal.Refusal.{Refusal}
-use Rattle.mir_pipeline.specs.declared.refusal.Refusal.TheVariants.{Lex, Syntax, TooDeep, Broken, Faulty, U1, U2, Unplaced, Memory}
 use Rattle.cfg_lower.specs.declared.programs.Lowered.{Lowered}
 use Rattle.mir_text.specs.Listing.{IsShortBody, IsShortGraph, listing}
-use Rattle.mirdrop_program.specs.Owed.{OwedByCheck, OwedByRaw, accepted, not_accepted, listed, listed_with_use, not_placed, no_graph, accepted_line, IsOfUse}
+use Rattle.mirdrop_program.specs.Owed.{OwedByCheck, OwedByRaw, accepted, not_accepted, listed, listed_with_use, no_graph, accepted_line, IsOfUse}
 use Rattle.mirdrop_program.specs.Refusals.{IsTold, refusal_lines, refusal_status}
 
 -- what is said of a status and of a text says it of what equals them
@@ -35,23 +34,6 @@ pub raw_with_use : (text : List ℕ) (lowered : Lowered) (why : Refusal) (status
     status ≡ 0 → written ≡ listing lowered.graph ++ refusal_lines why → OwedByRaw text status written
 raw_with_use text lowered why status written is refuses of_use s w =
     as_said (OwedByRaw text) status 0 written (listing lowered.graph ++ refusal_lines why) s w (listed_with_use lowered is why refuses of_use)
-
-unplaced : (text : List ℕ) (lowered : Lowered) (why : Refusal) → IsLoweredOf text lowered → RefusesUses lowered why → (IsOfUse why → ⊥) → IsTold why →
-    OwedByRaw text (refusal_status why) (refusal_lines why)
-unplaced text lowered (Lex code at) is refuses other told = absurd refuses
-unplaced text lowered (Syntax at pos) is refuses other told = absurd refuses
-unplaced text lowered (TooDeep at pos) is refuses other told = absurd refuses
-unplaced text lowered (Broken rule at) is refuses other told = absurd refuses
-unplaced text lowered (Faulty fault) is refuses other told = absurd refuses
-unplaced text lowered (U1 bad site) is refuses other told = absurd (other tt)
-unplaced text lowered (U2 bad site) is refuses other told = absurd (other tt)
-unplaced text lowered (Unplaced body block line) is refuses other told = not_placed lowered is (Unplaced body block line) refuses told refl
-unplaced text lowered Memory is refuses other told = absurd told
-
-pub raw_unplaced : (text : List ℕ) (lowered : Lowered) (why : Refusal) (status : ℕ) (written : List ℕ) → IsLoweredOf text lowered → RefusesUses lowered why → (IsOfUse why → ⊥) → IsTold why →
-    status ≡ refusal_status why → written ≡ refusal_lines why → OwedByRaw text status written
-raw_unplaced text lowered why status written is refuses other told s w =
-    as_said (OwedByRaw text) status (refusal_status why) written (refusal_lines why) s w (unplaced text lowered why is refuses other told)
 
 pub raw_refused : (text : List ℕ) (why : Refusal) (status : ℕ) (written : List ℕ) → HasNoGraph text why → IsTold why → status ≡ refusal_status why → written ≡ refusal_lines why →
     OwedByRaw text status written

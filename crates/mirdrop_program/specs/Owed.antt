@@ -46,8 +46,6 @@ module _ (text : List ℕ) where
         OwedByRaw 0 (listing lowered.graph)
     listed_with_use : (lowered : Lowered) → IsLoweredOf text lowered → (why : Refusal) → RefusesUses lowered why →
         IsOfUse why → OwedByRaw 0 (listing lowered.graph ++ refusal_lines why)
-    not_placed : (lowered : Lowered) → IsLoweredOf text lowered → (why : Refusal) → RefusesUses lowered why →
-        IsTold why → refusal_status why ≡ 70 → OwedByRaw 70 (refusal_lines why)
     no_graph : (why : Refusal) → HasNoGraph text why → IsTold why → OwedByRaw (refusal_status why) (refusal_lines why)
 
   -- `run`: the trace of its raw graph, where the program is accepted

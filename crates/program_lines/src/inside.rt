@@ -1,9 +1,9 @@
-//! What is wrong inside. It is not proved yet that these lines are never written.
+//! What is wrong inside. It is not proved yet that this line is never written.
 ghost use Rattle.std.specs.Prelude.{◌≡◌, ◌++◌, OnOk, codes, string_bytes};
 ghost use Rattle.std.specs.Fmt.{decimal};
 ghost use Rattle.program_lines.specs.Lines as lines;
 
-use crate::parts::{put, put_line_feed, put_numbered};
+use crate::parts::{put_line_feed, put_numbered};
 use std::alloc::AllocError;
 
 fn put_line_of_body(out: &mut String, body: u32, block: u32, line: u32) -> Result<(), AllocError>
@@ -26,18 +26,5 @@ pub fn put_fault_line(
     ensures { OnOk result (string_bytes out.new ≡ string_bytes out.old ++ lines.fault_line fault body block line) }
 {
     put_numbered(out, "fault: G", u32::from(fault))?;
-    put_line_of_body(out, body, block, line)
-}
-
-/// Puts the line of a bad use that has no place in the text.
-pub fn put_unplaced_line(
-    out: &mut String,
-    body: u32,
-    block: u32,
-    line: u32,
-) -> Result<(), AllocError>
-    ensures { OnOk result (string_bytes out.new ≡ string_bytes out.old ++ lines.unplaced_line body block line) }
-{
-    put(out, "fault: no place of")?;
     put_line_of_body(out, body, block, line)
 }

@@ -1,10 +1,10 @@
 use Rattle.std.proofs.lemmas.Result.{IfOk-weaker}
 use Rattle.typed_tree.specs.View.{program_of}
-use Rattle.mir_pipeline.proofs.Faulty.{is_graph}
+use Rattle.mir_pipeline.proofs.Sited.{is_graph}
 use Rattle.mir_pipeline.proofs.graphs.graph_of.Goals as goal
 
 pub returns-in-Ok-clause-graph : goal.returns-in-Ok-clause-graph
 returns-in-Ok-clause-graph c =
     IfOk-weaker c.sound.result _ _
-    (λ same is. is_graph (program_of c.args.typed.now) c.in-Ok.lowered same c.in-Ok.ensures.graph c.in-Ok.ensures.sites c.in-Ok.ensures.values c.in-Ok.ensures.free is)
+    (λ same is. is_graph (program_of c.args.typed.now) c.requires c.in-Ok.lowered same c.in-Ok.ensures.graph c.in-Ok.ensures.sites is)
     c.sound.ensures.same

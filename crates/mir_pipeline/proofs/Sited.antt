@@ -1,0 +1,118 @@
+-- What is known of the graph that is made of a program of a text; each bad use of it has a site.
+use Rattle.std.proofs.Common.{◌≡◌, ◌∙◌, ◌||◌, ℕ, Bool, true, false, if◌then◌else◌, List, [], ◌∷◌, Option, Some, None, slice_get, refl, ap, sym, subst}
+use Rattle.std.specs.Prelude.{find, is_some, option_and_then, option_map}
+use Rattle.std.proofs.lemmas.Option.{slice_get-map}
+use Rattle.std.specs.List.{list_any}
+use Rattle.cfg_build.proofs.Bodies.{lowered_runs_as_its_source, lowered_walks_as_it_runs_freely}
+use Rattle.cfg_build.specs.Laws.{AllNameTheirLoops}
+use Rattle.cfg_build.specs.Lower.{body_of, graph_of}
+use Rattle.cfg_graph.specs.declared.graph.Block.{Block}
+use Rattle.cfg_graph.specs.declared.graph.Body.{Body}
+use Rattle.cfg_graph.specs.declared.graph.Graph.{Graph}
+use Rattle.cfg_graph.specs.declared.terminator.Term.{Term}
+use Rattle.cfg_graph.specs.Moves.BadUses.{UseRule}
+use Rattle.cfg_graph.specs.WellFormed.Faults.{IsCounted, IsWellFormed}
+use Rattle.cfg_lower.specs.Claims.{EachBody, RunsAsItsSource, WalksAsItRunsFreely}
+use Rattle.cfg_lower.specs.declared.programs.Lowered.{Lowered}
+use Rattle.lowered_paths.specs.Refused.{MeetsItsRefusals}
+use Rattle.lowered_paths.proofs.Law.{lowered-paths-meet}
+use Rattle.lowered_uses.specs.Told as told
+use Rattle.lowered_uses.specs.Told.{Line, has_site}
+use Rattle.lowered_uses.proofs.Law.{lowered_uses_have_sites}
+use Rattle.move_errors.specs.Refusal.{named_use}
+use Rattle.move_errors.specs.declared.errors.BadUse.{BadUse}
+use Rattle.move_paths.specs.Uses.{use_of}
+use Rattle.move_paths.specs.declared.uses.Use.{Use}
+use Rattle.typed_tree.specs.Tree.{BodyTree, ProgramTree}
+use Rattle.use_sites.specs.Listed.{program_sites}
+use Rattle.use_sites.specs.declared.site.Site.{Site}
+use Rattle.mir_pipeline.specs.Graphs.{AreSited, IsFirstBad, IsGraphOf, behind_drop, told_by, is_drop, block_of, line_told, stands_at, site_of}
+use Rattle.mir_pipeline.specs.declared.uses.LineOfUse.{LineOfUse}
+
+-- ---- a bad use has a site
+found_where_any : (p : Site → Bool) (sites : List Site) → list_any p sites ≡ true → is_some (find p sites) ≡ true
+found_where_any p [] h = h
+found_where_any p (site ∷ sites) h = by_test (p site) h (found_where_any p sites)
+  where
+    by_test : (b : Bool) → (b || list_any p sites) ≡ true → (list_any p sites ≡ true → is_some (find p sites) ≡ true) →
+        is_some (if b then Some site else find p sites) ≡ true
+    by_test true h k = refl
+    by_test false h k = k h
+
+abbrev line_of : LineOfUse → Line
+line_of at = record { block = at.block; line = at.line }
+
+behind_same : (term : Term) (own : LineOfUse) → line_of (behind_drop term own) ≡ told.behind_drop term (line_of own)
+behind_same (Term.DropAt place next unwind) own = refl
+behind_same (Term.Goto block) own = refl
+behind_same (Term.If on if_true if_false) own = refl
+behind_same (Term.Case on variant if_true if_false) own = refl
+behind_same (Term.Math to op left right next unwind) own = refl
+behind_same (Term.Negate to of next unwind) own = refl
+behind_same (Term.Bounds index count next unwind) own = refl
+behind_same (Term.Call to body args next unwind) own = refl
+behind_same (Term.Virtual to trait_no method args next unwind) own = refl
+behind_same (Term.Ask to next unwind) own = refl
+behind_same (Term.Panic why unwind) own = refl
+behind_same Term.Return own = refl
+behind_same Term.Resume own = refl
+
+told_same : (by : Use) (block : Option Block) (own : LineOfUse) → line_of (told_by (is_drop by) block own) ≡ told.told_by (use_of by) block (line_of own)
+told_same Use.Copies block own = refl
+told_same Use.Moves block own = refl
+told_same Use.Borrows block own = refl
+told_same Use.Touches block own = refl
+told_same Use.Tests block own = refl
+told_same Use.Stores block own = refl
+told_same Use.Drops None own = refl
+told_same Use.Drops (Some block) own = behind_same block.term own
+told_same Use.Frees block own = refl
+
+module _ (program : ProgramTree) (named : AllNameTheirLoops program) where
+  abbrev graph : Graph
+  graph = graph_of program
+
+  line_same : (rule : UseRule) (bad : BadUse) (body : Body) → slice_get graph.bodies bad.body ≡ Some body →
+      line_of (line_told graph bad) ≡ told.line_told body (named_use rule bad).action
+  line_same rule bad body there =
+      let own : LineOfUse = record { block = bad.block; line = bad.line } in
+      told_same bad.by (block_of graph bad.body bad.block) own
+      ∙ ap (λ o. told.told_by (use_of bad.by) o (line_of own)) (ap (λ o. option_and_then (λ (found : Body). slice_get found.blocks bad.block) o) there)
+
+  has_one : (rule : UseRule) (bad : BadUse) → IsFirstBad graph rule bad → is_some (find (stands_at bad.body (line_told graph bad)) (program_sites program)) ≡ true
+  has_one rule bad first =
+      found_where_any (stands_at bad.body (line_told graph bad)) (program_sites program)
+      (ap (λ at. has_site program bad.body at) (line_same rule bad first.body first.there)
+      ∙ lowered_uses_have_sites program named bad.body first.body first.there bad.path first.refused.given (named_use rule bad) first.refused.reaches)
+
+sited : (program : ProgramTree) → AllNameTheirLoops program → (lowered : Lowered) → lowered.graph ≡ graph_of program → lowered.sites ≡ program_sites program → AreSited lowered
+sited program named lowered graph sites rule bad first =
+    (λ i. is_some (find (stands_at bad.body (line_told (graph i) bad)) (sites i)))
+    ∙ has_one program named rule bad (subst (λ g. IsFirstBad g rule bad) graph first)
+
+-- ---- what holds of each body of the graph of a program
+each : (P : BodyTree → Body → Type 0) (program : ProgramTree) → ((n : ℕ) (tree : BodyTree) → slice_get program.bodies n ≡ Some tree → P tree (body_of program.items tree)) →
+    EachBody P program (graph_of program)
+each P program holds n tree there =
+    (body_of program.items tree, (slice_get-map (body_of program.items) program.bodies n ∙ ap (option_map (body_of program.items)) there, holds n tree there))
+
+-- the graph that was made of a program, and has no fault
+pub is_graph : (program : ProgramTree) → AllNameTheirLoops program → (lowered same : Lowered) → lowered.graph ≡ graph_of program → lowered.sites ≡ program_sites program →
+    (same ≡ lowered) × IsWellFormed same.graph × IsCounted same.graph → IsGraphOf program same
+is_graph program named lowered same graph sites (is, well_formed, counted) =
+    let made = ap (λ (l : Lowered). l.graph) is ∙ graph in
+    let listed = ap (λ (l : Lowered). l.sites) is ∙ sites in
+    record {
+      graph = made;
+      sites = listed;
+      well_formed = well_formed;
+      counted = counted;
+      values = subst (RunsAsItsSource program) (sym made) (lowered_runs_as_its_source program named);
+      free =
+          subst (EachBody (WalksAsItRunsFreely program.items) program) (sym made)
+          (each (WalksAsItRunsFreely program.items) program (λ n tree there. lowered_walks_as_it_runs_freely program.items tree (named n tree there)));
+      paths =
+          subst (EachBody (MeetsItsRefusals program.items) program) (sym made)
+          (each (MeetsItsRefusals program.items) program (λ n tree there. lowered-paths-meet program.items tree (named n tree there)));
+      sited = sited program named same made listed;
+    }
