@@ -3,11 +3,7 @@ use Rattle.std.proofs.Common.{◌≡◌, ℕ, zero, suc, ◌+◌, ◌*◌, ◌/�
 use Rattle.std.specs.Fmt.{decimal, digits, digits_onto, digit_glyph}
 use Rattle.std.proofs.lemmas.Bool.{ltb-true}
 use Rattle.std.proofs.lemmas.Bool.Decides.{nat_tests}
-use Rattle.src_ast.specs.Syntax.{Word, number_word}
-
-abbrev spelled : ℕ → ℕ → Word → Word
-spelled zero n behind = behind
-spelled (suc more) n behind = if nat_lt n 10 then (48 + n) ∷ behind else spelled more (n / 10) ((48 + n % 10) ∷ behind)
+use Rattle.src_ast.specs.Syntax.{Word, number_word, digits as spelled}
 
 one_digit : (n : ℕ) → n < 10 → ((n / 10 == 0) ≡ true) × (n % 10 ≡ n)
 one_digit n h = (grind (arith, nat_tests), omega arith)
@@ -44,6 +40,33 @@ same_digits (suc k) j n behind h few = by (nat_lt n 10) refl (rest k j n behind 
         rw (more_digits n large) (ap (λ d. digits_onto k 10 false (n / 10) (d ∷ behind)) (glyph (n % 10) (omega arith))
         ∙ later large)
 
+less_rounds : (i n : ℕ) → 10 ≤ n → n ≤ suc i → n / 10 ≤ i
+less_rounds i n large few = omega arith
+
+small_so : (n : ℕ) → n < 10 → nat_lt n 10 ≡ true
+small_so n h = grind (arith, nat_tests)
+
+-- more rounds change nothing
+enough : (j i n : ℕ) (behind : Word) → n < 10 ^ suc j → n ≤ i → spelled (suc j) n behind ≡ spelled (suc i) n behind
+enough zero i n behind few most = rw (small_so n few) refl
+enough (suc j) i n behind few most = by (nat_lt n 10) refl (λ k large. enough j k (n / 10) ((48 + n % 10) ∷ behind)
+    (let power : 10 ^ suc (suc j) ≡ 10 ^ suc j * 10 = pow-suc 10 (suc j) in omega arith))
+  where
+    on : (i : ℕ) → 10 ≤ n → n ≤ i → ((k : ℕ) → 10 ≤ n → n / 10 ≤ k → spelled (suc j) (n / 10) ((48 + n % 10) ∷ behind) ≡ spelled
+        (suc k) (n / 10) ((48 + n % 10) ∷ behind)) → spelled (suc j) (n / 10) ((48 + n % 10) ∷ behind) ≡ spelled i (n / 10) ((48
+        + n % 10) ∷ behind)
+    on zero large most rest = absurd (omega arith)
+    on (suc k) large most rest = rest k large (less_rounds k n large most)
+
+    by : (b : Bool) → nat_lt n 10 ≡ b → ((k : ℕ) → 10 ≤ n → n / 10 ≤ k → spelled (suc j) (n / 10) ((48 + n % 10) ∷ behind) ≡
+        spelled (suc k) (n / 10) ((48 + n % 10) ∷ behind)) → (if b then (48 + n) ∷ behind else spelled (suc j) (n / 10) ((48 +
+        n % 10) ∷ behind)) ≡ (if b then (48 + n) ∷ behind else spelled i (n / 10) ((48 + n % 10) ∷ behind))
+    by true is rest = refl
+    by false is rest = on i (grind (arith, nat_tests)) most rest
+
 pub decimal_word : (n : ℕ) → n < 2 ^ 64 → decimal n ≡ number_word n
 unfolding digits
-decimal_word n h = same_digits 64 19 n [] (lit< tt) (omega (arith, h))
+decimal_word n h = same_digits 64 19 n [] (lit< tt) few ∙ enough 19 n n [] few (omega arith)
+  where
+    few : n < 10 ^ 20
+    few = omega (arith, h)

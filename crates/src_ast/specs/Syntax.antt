@@ -13,13 +13,14 @@ Word = List ℕ
 abbrev pub Named : Type 0
 Named = Pos × Word
 
--- a number below 2^64 in decimal digits, of which there are twenty at most; 48 is the code of 0
-abbrev digits : ℕ → ℕ → Word → Word
+-- a number in decimal digits, in so many rounds at most; 48 is the code of 0
+abbrev pub digits : ℕ → ℕ → Word → Word
 digits zero n behind = behind
 digits (suc more) n behind = if nat_lt n 10 then (48 + n) ∷ behind else digits more (n / 10) ((48 + n % 10) ∷ behind)
 
+-- A number needs no more rounds than that: each round but the last makes it less.
 abbrev pub number_word : ℕ → Word
-number_word n = digits 20 n []
+number_word n = digits (suc n) n []
 
 -- how the parts of a struct or a variant are written: none, as a list, by their names
 pub data Kind : Type 0 where
