@@ -483,6 +483,10 @@ lowered_runs_as_its_source program named asked ticks = runs_as_its_source progra
 pub lowered_walks_as_it_runs_freely : LoweredWalksAsItRunsFreely
 lowered_walks_as_it_runs_freely items tree named list = walks_as_it_runs_freely items tree (body_of items tree) (node_of items tree) (holds items tree named) list
 
+-- block 1 does nothing but return
+pub lowered_returns : (items : ItemTable) (tree : BodyTree) → NamesItsLoops tree → slice_get (body_of items tree).blocks 1 ≡ Some (record { kind = Kind.Plain; rank = 1; stmts = []; term = Term.Return })
+lowered_returns items tree named = (return_at items tree named).0
+
 pub lowered_is_ranked : LoweredIsRanked
 lowered_is_ranked items tree named = is_ranked items tree named
 

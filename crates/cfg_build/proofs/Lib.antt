@@ -10,6 +10,7 @@ pub mod Lines
 pub mod Rules
 pub mod Scopes
 pub mod Sizes
+pub mod Stops
 pub mod Typed
 pub mod TypedLines
 pub mod TypedPlaces

@@ -1,6 +1,7 @@
--- What holds of each line that is made, given what holds of the lines of effects, tests and drops: one lemma a rule of
--- `Build`. Code behind code without an end is not built, so nothing is asked of it.
-use Rattle.std.proofs.Common.{◌≡◌, ◌⊎◌, inl, inr, ℕ, zero, suc, ◌==◌, ◌&&◌, ◌||◌, not, nat_lt, Bool, true, false, List, [], ◌∷◌, ◌++◌, length, map, Option, Some, None, slice_get, slice_set, if◌then◌else◌, refl, subst}
+-- What holds of each line that is made, and of what stands behind it in its block, given what holds of the lines of
+-- effects, tests and drops: one lemma a rule of `Build`. Code behind code without an end is not built, so nothing is
+-- asked of it.
+use Rattle.std.proofs.Common.{◌≡◌, ◌⊎◌, inl, inr, ℕ, zero, suc, ◌==◌, ◌&&◌, ◌||◌, not, nat_lt, Bool, true, false, List, [], ◌∷◌, ◌++◌, length, map, Option, Some, None, slice_get, slice_set, if◌then◌else◌, refl, sym, subst}
 use Rattle.std.proofs.lemmas.Option.{none-some, same_Some}
 use Rattle.cfg_graph.specs.declared.graph.Kind.{Kind}
 use Rattle.cfg_graph.specs.declared.statement.Stmt.{Stmt}
@@ -16,29 +17,47 @@ use Rattle.src_meaning.specs.Shape.{PatternTest, IsVariant, IsNumber, IsTruth, A
 use Rattle.cfg_code.specs.Spots.{Way, Ways, ways_in_loop}
 use Rattle.cfg_build.specs.Build.{Frame, Line, Rest, Made, Building, ending, with_line, made, closed, reserved, filled, chain_among, kept_chain, chain_or, way_of, is_left_by, Lowers, Done, ByStmt, ByTerm, change, nothing, from_changed, back_in, then_build, then_lower, joined, after_either, branches, with_exit, looped, place_of, operand_of, done_by, chain, unwind_to, unwinding, done, is_last, act_by, act, panic_drops, drop_one, drop_all, outer, leave_from, leave, in_scope, leaves_one, leaves_to, exits, jump, panics, if_true, compared, tests, test, any_test, taken, put_into, replaces}
 
--- what is to hold of a statement and of a terminator with the numbers of their nodes, and of an entry
+-- what is to hold of the statement of an effect: with anything behind it, or, where no run comes behind it, with the way to
+-- the block that returns
+abbrev pub Follows : (Stmt → List Stmt → Term → Type 0) → ℕ → Done → Bool → Type 0
+Follows behind returns (ByStmt stmt) true = behind stmt [] (Term.Goto returns)
+Follows behind returns (ByStmt stmt) false = (stmts : List Stmt) (term : Term) → behind stmt stmts term
+Follows behind returns (ByTerm term) is_last = Unit {0}
+
+-- what is to hold of a statement and of a terminator with the numbers of their nodes, of an entry, and of a statement with
+-- what stands behind it in its block, where this block returns
 pub record Wanted (f : Frame) : Type 1 where
   pub stmt : Stmt → ℕ → Type 0
   pub term : Term → ℕ → Type 0
   pub entry : Entry → Type 0
+  pub behind : Stmt → List Stmt → Term → Type 0
+  pub returns : ℕ
   pub goto : (n node : ℕ) → term (Term.Goto n) node
   pub resume : (node : ℕ) → term Term.Resume node
   pub drop : (e : Entry) → entry e → needs_drop f.items e.ty ≡ true → (n : ℕ) (u : Unwind) → term (Term.DropAt (place_of f (entry_site e)) n u) e.key
+  pub follows : (action : Action) → Follows behind returns (done_by f action) (is_last f action)
+  pub compares : (site : Site) (value : effects.Operand) (stmts : List Stmt) (term : Term) → behind (compared f site value) stmts term
+
+-- where nothing is wanted of what stands behind a statement
+pub follows_any : (by : Done) (is_last : Bool) → Follows (λ stmt stmts term. Unit {0}) 1 by is_last
+follows_any (ByStmt stmt) true = tt
+follows_any (ByStmt stmt) false = λ stmts term. tt
+follows_any (ByTerm term) is_last = tt
 
 module _ (f : Frame) (w : Wanted f) where
-  abbrev pub LinesOk : List Line → Type 0
-  LinesOk [] = Unit {0}
-  LinesOk (l ∷ ls) = w.stmt l.stmt l.node × LinesOk ls
+  abbrev pub LinesOk : List Line → Term → Type 0
+  LinesOk [] term = Unit {0}
+  LinesOk (l ∷ ls) term = (w.stmt l.stmt l.node × w.behind l.stmt (map (λ l. l.stmt) ls) term) × LinesOk ls term
 
   abbrev pub RestOk : Rest → Type 0
-  RestOk k = LinesOk k.lines × w.term k.term k.node
+  RestOk k = LinesOk k.lines k.term × w.term k.term k.node
 
   -- of the lines of a block, with the nodes of all of them
   abbrev pub BlockOk : List Stmt → Term → List ℕ → Type 0
   BlockOk [] term [] = ⊥
   BlockOk [] term (n ∷ ns) = w.term term n
   BlockOk (stmt ∷ stmts) term [] = ⊥
-  BlockOk (stmt ∷ stmts) term (n ∷ ns) = w.stmt stmt n × BlockOk stmts term ns
+  BlockOk (stmt ∷ stmts) term (n ∷ ns) = (w.stmt stmt n × w.behind stmt stmts term) × BlockOk stmts term ns
 
   abbrev pub MadeOk : Made → Type 0
   MadeOk m = BlockOk m.block.stmts m.block.term m.nodes
@@ -143,7 +162,7 @@ module _ (f : Frame) (w : Wanted f) where
   set_cases (z ∷ xs) x (suc i) zero y e = inl e
   set_cases (z ∷ xs) x (suc i) (suc n) y e = set_cases xs x i n y e
 
-  lines_ok : (ls : List Line) (term : Term) (node : ℕ) → LinesOk ls → w.term term node → BlockOk (map (λ l. l.stmt) ls) term (map (λ l. l.node) ls ++ node ∷ [])
+  lines_ok : (ls : List Line) (term : Term) (node : ℕ) → LinesOk ls term → w.term term node → BlockOk (map (λ l. l.stmt) ls) term (map (λ l. l.node) ls ++ node ∷ [])
   lines_ok [] term node h t = t
   lines_ok (l ∷ ls) term node h t = (h.0, lines_ok ls term node h.1 t)
 
@@ -227,16 +246,16 @@ module _ (f : Frame) (w : Wanted f) where
   -- ---- what is lowered: its lines are as wanted, where the scopes and the lines around it are
   pub record Sound (P : Lowers) : Type 0 where
     pub after : P.has_end ≡ true → (S : Scopes) → ScopesOk S → ScopesOk (P.after S)
-    pub lines : (c : Ways) (S : Scopes) (k : Rest) (s : Building) → ScopesOk S → Ok s → RestOk k → Both (P.build c S k s)
+    pub lines : (c : Ways) → c.returns.block ≡ w.returns → (S : Scopes) (k : Rest) (s : Building) → ScopesOk S → Ok s → RestOk k → Both (P.build c S k s)
 
   pub change_sound : (g : Scopes → Scopes) → ((S : Scopes) → ScopesOk S → ScopesOk (g S)) → Sound (change g)
-  change_sound g keeps = record { after = λ e S o. keeps S o; lines = λ c S k s o h l. (h, l) }
+  change_sound g keeps = record { after = λ e S o. keeps S o; lines = λ c t S k s o h l. (h, l) }
 
   pub nothing_sound : Sound nothing
   nothing_sound = change_sound (λ S. S) (λ S o. o)
 
   pub changed_sound : (g : Scopes → Scopes) (P : Lowers) → ((S : Scopes) → ScopesOk S → ScopesOk (g S)) → Sound P → Sound (from_changed g P)
-  changed_sound g P keeps p = record { after = λ e S o. p.after e (g S) (keeps S o); lines = λ c S k s o h l. p.lines c (g S) k s (keeps S o) h l }
+  changed_sound g P keeps p = record { after = λ e S o. p.after e (g S) (keeps S o); lines = λ c t S k s o h l. p.lines c t (g S) k s (keeps S o) h l }
 
   untrue : false ≡ true → ⊥
   untrue e = let never : false ≡ true = e in cc
@@ -252,15 +271,15 @@ module _ (f : Frame) (w : Wanted f) where
   pub then_sound : (P Q : Lowers) → Sound P → (P.has_end ≡ true → Sound Q) → Sound (then_lower P Q)
   then_sound P Q p q = record {
     after = λ e S o. (q (and_first P.has_end Q.has_end e)).after (and_second P.has_end Q.has_end e) (P.after S) (p.after (and_first P.has_end Q.has_end e) S o);
-    lines = λ c S k s o h l. by_end c S k s o h l P.has_end refl;
+    lines = λ c t S k s o h l. by_end c t S k s o h l P.has_end refl;
   }
     where
-      by_end : (c : Ways) (S : Scopes) (k : Rest) (s : Building) → ScopesOk S → Ok s → RestOk k → (z : Bool) → P.has_end ≡ z → Both (then_build z P Q c S k s)
-      by_end c S k s o h l true e =
+      by_end : (c : Ways) → c.returns.block ≡ w.returns → (S : Scopes) (k : Rest) (s : Building) → ScopesOk S → Ok s → RestOk k → (z : Bool) → P.has_end ≡ z → Both (then_build z P Q c S k s)
+      by_end c t S k s o h l true e =
           let r = Q.build c (P.after S) k s in
-          let y = (q e).lines c (P.after S) k s (p.after e S o) h l in
-          p.lines c S r.0 r.1 o y.0 y.1
-      by_end c S k s o h l false e = p.lines c S k s o h l
+          let y = (q e).lines c t (P.after S) k s (p.after e S o) h l in
+          p.lines c t S r.0 r.1 o y.0 y.1
+      by_end c t S k s o h l false e = p.lines c t S k s o h l
 
   pub back_sound : (P : Lowers) → Sound P → Sound (back_in P)
   back_sound P p = record { after = λ e S o. o; lines = p.lines }
@@ -270,31 +289,38 @@ module _ (f : Frame) (w : Wanted f) where
   DoneOk node (ByStmt stmt) = w.stmt stmt node
   DoneOk node (ByTerm term) = (n : ℕ) (u : Unwind) → w.term (term n u) node
 
-  done_ok : (node : ℕ) (by : Done) → DoneOk node by → (S : Scopes) → ScopesOk S → (k : Rest) (s : Building) → Ok s → RestOk k → Both (done f node by S k s)
-  done_ok node (ByStmt stmt) d S o k s h l = (h, ((d, l.0), l.1))
-  done_ok node (ByTerm term) d S o k s h l = unwinding_ok (term (length s.blocks)) node (d (length s.blocks)) (panic_drops f S) (panic_ok S o) (closed Kind.Plain k s) (closed_ok Kind.Plain k s h l)
+  stmt_ok : (node : ℕ) (stmt : Stmt) → w.stmt stmt node → (k : Rest) (s : Building) → w.behind stmt (map (λ l. l.stmt) k.lines) k.term → Ok s → RestOk k → Both (with_line stmt node k, s)
+  stmt_ok node stmt d k s b h l = (h, (((d, b), l.0), l.1))
 
-  by_sound : (x : Bool) (node : ℕ) (by : Done) → DoneOk node by → Sound (act_by f x node by)
-  by_sound true node by d = record {
+  term_ok : (node : ℕ) (term : (onward : ℕ) → Unwind → Term) → DoneOk node (ByTerm term) → (S : Scopes) → ScopesOk S → (k : Rest) (s : Building) → Ok s → RestOk k → Both (done f node (ByTerm term) S k s)
+  term_ok node term d S o k s h l = unwinding_ok (term (length s.blocks)) node (d (length s.blocks)) (panic_drops f S) (panic_ok S o) (closed Kind.Plain k s) (closed_ok Kind.Plain k s h l)
+
+  by_sound : (x : Bool) (node : ℕ) (by : Done) → DoneOk node by → Follows w.behind w.returns by x → Sound (act_by f x node by)
+  by_sound true node (ByStmt stmt) d b = record {
     after = λ e S o. o;
-    lines = λ c S k s o h l. done_ok node by d S o (ending (Term.Goto c.returns.block) node) s h (tt, w.goto c.returns.block node);
+    lines = λ c t S k s o h l. stmt_ok node stmt d (ending (Term.Goto c.returns.block) node) s (subst (λ (n : ℕ). w.behind stmt [] (Term.Goto n)) (sym t) b) h (tt, w.goto c.returns.block node);
   }
-  by_sound false node by d = record { after = λ e S o. o; lines = λ c S k s o h l. done_ok node by d S o k s h l }
+  by_sound true node (ByTerm term) d b = record {
+    after = λ e S o. o;
+    lines = λ c t S k s o h l. term_ok node term d S o (ending (Term.Goto c.returns.block) node) s h (tt, w.goto c.returns.block node);
+  }
+  by_sound false node (ByStmt stmt) d b = record { after = λ e S o. o; lines = λ c t S k s o h l. stmt_ok node stmt d k s (b (map (λ l. l.stmt) k.lines) k.term) h l }
+  by_sound false node (ByTerm term) d b = record { after = λ e S o. o; lines = λ c t S k s o h l. term_ok node term d S o k s h l }
 
   abbrev pub ActOk : ℕ → Action → Type 0
   ActOk node action = DoneOk node (done_by f action)
 
   pub act_sound : (node : ℕ) (action : Action) → ActOk node action → Sound (act f node action)
-  act_sound node action d = by_sound (is_last f action) node (done_by f action) d
+  act_sound node action d = by_sound (is_last f action) node (done_by f action) d (w.follows action)
 
   pub drop_sound : (site : Site) → ((n : ℕ) (u : Unwind) → w.term (Term.DropAt (place_of f site) n u) site.node) → Sound (record nothing { build = λ c S. drop_one f site (panic_drops f S) })
   drop_sound site d = record {
     after = λ e S o. o;
-    lines = λ c S k s o h l. unwinding_ok (Term.DropAt (place_of f site) (length s.blocks)) site.node (d (length s.blocks)) (panic_drops f S) (panic_ok S o) (closed Kind.Plain k s) (closed_ok Kind.Plain k s h l);
+    lines = λ c t S k s o h l. unwinding_ok (Term.DropAt (place_of f site) (length s.blocks)) site.node (d (length s.blocks)) (panic_drops f S) (panic_ok S o) (closed Kind.Plain k s) (closed_ok Kind.Plain k s h l);
   }
 
   pub leave_sound : Sound (leave f)
-  leave_sound = record { after = λ e S o. outer_ok S o; lines = λ c S k s o h l. leave_ok S o k s h l }
+  leave_sound = record { after = λ e S o. outer_ok S o; lines = λ c t S k s o h l. leave_ok S o k s h l }
 
   pub entered_sound : (node : ℕ) (own : Bool) (P : Lowers) → Sound P → Sound (from_changed (with_scope node own) P)
   entered_sound node own P p = changed_sound (with_scope node own) P (λ S o. (tt, tt, o)) p
@@ -315,17 +341,17 @@ module _ (f : Frame) (w : Wanted f) where
   either_after false y P Q S p q e = q e
 
   pub branches_sound : (node : ℕ) (test : ℕ → ℕ → Building → Rest × Building) (P Q : Lowers) → TestOk test → Sound P → Sound Q → Sound (branches node test P Q)
-  branches_sound node test P Q t p q = record {
+  branches_sound node test P Q tests_are p q = record {
     after = λ e S o. either_after P.has_end Q.has_end P Q S (λ d. p.after d S o) (λ d. q.after d S o) e;
-    lines = λ c S k s o h l.
+    lines = λ c t S k s o h l.
         let j = joined (P.has_end || Q.has_end) node k s in
         let jo = joined_ok (P.has_end || Q.has_end) node k s h l in
         let rq = Q.build c S j.0 j.1 in
-        let y = q.lines c S j.0 j.1 o jo.0 jo.1 in
+        let y = q.lines c t S j.0 j.1 o jo.0 jo.1 in
         let cq = closed Kind.Plain rq.0 rq.1 in
         let rp = P.build c S j.0 cq in
-        let x = p.lines c S j.0 cq o (closed_ok Kind.Plain rq.0 rq.1 y.0 y.1) jo.1 in
-        t (length rp.1.blocks) (length rq.1.blocks) (closed Kind.Plain rp.0 rp.1) (closed_ok Kind.Plain rp.0 rp.1 x.0 x.1);
+        let x = p.lines c t S j.0 cq o (closed_ok Kind.Plain rq.0 rq.1 y.0 y.1) jo.1 in
+        tests_are (length rp.1.blocks) (length rq.1.blocks) (closed Kind.Plain rp.0 rp.1) (closed_ok Kind.Plain rp.0 rp.1 x.0 x.1);
   }
 
   exit_ok : (x : Bool) (k : Rest) (s : Building) → Ok s → RestOk k → Ok (with_exit x k s)
@@ -335,23 +361,23 @@ module _ (f : Frame) (w : Wanted f) where
   pub looped_sound : (id : ℕ) (turn : Lowers) → Sound turn → Sound (looped id turn)
   looped_sound id turn p = record {
     after = λ e S o. o;
-    lines = λ c S k s o h l.
+    lines = λ c t S k s o h l.
         let start = with_exit (is_left_by id turn.jumps) k s in
         let again = ending (Term.Goto (length start.blocks)) id in
         let inside = ways_in_loop id (length S) (length s.blocks) (length start.blocks) (is_left_by id turn.jumps) c in
         let code = turn.build inside S again (reserved start) in
-        let x = p.lines inside S again (reserved start) o (reserved_ok start (exit_ok (is_left_by id turn.jumps) k s h l)) (tt, w.goto (length start.blocks) id) in
+        let x = p.lines inside t S again (reserved start) o (reserved_ok start (exit_ok (is_left_by id turn.jumps) k s h l)) (tt, w.goto (length start.blocks) id) in
         (filled_ok Kind.Turn (length start.blocks) code.0 code.1 x.0 x.1, (tt, w.goto (length start.blocks) id));
   }
 
   pub jump_sound : (node : ℕ) (exit : Exit) (P : Lowers) → Sound P → Sound (jump f node exit P)
-  jump_sound node exit P p = then_sound P (exits f node exit) p (λ e. record { after = λ e S o. o; lines = λ c S k s o h l. jumped_ok node (way_of exit c) S o s h })
+  jump_sound node exit P p = then_sound P (exits f node exit) p (λ e. record { after = λ e S o. o; lines = λ c t S k s o h l. jumped_ok node (way_of exit c) S o s h })
 
   pub panic_both : (term : Unwind → Term) (node : ℕ) → ((u : Unwind) → w.term (term u) node) → (S : Scopes) → ScopesOk S → (s : Building) → Ok s → Both (unwinding f term node (panic_drops f S) s)
   panic_both term node t S o s h = unwinding_ok term node t (panic_drops f S) (panic_ok S o) s h
 
   pub panics_sound : (node : ℕ) (why : Why) → ((u : Unwind) → w.term (Term.Panic why u) node) → Sound (panics f node why)
-  panics_sound node why t = record { after = λ e S o. o; lines = λ c S k s o h l. panic_both (Term.Panic why) node t S o s h }
+  panics_sound node why panics_are = record { after = λ e S o. o; lines = λ c t S k s o h l. panic_both (Term.Panic why) node panics_are S o s h }
 
   -- ---- tests
   pub if_ok : (operand : effects.Operand) (node : ℕ) → ((y n : ℕ) → w.term (Term.If (operand_of f operand) y n) node) → TestOk (if_true f operand node)
@@ -378,8 +404,8 @@ module _ (f : Frame) (w : Wanted f) where
   mutual
     test_ok : (x : PatternTest) → OneTestOk x → TestOk (test f x)
     test_ok (IsVariant site variant) t y n s h = (h, (tt, t y n))
-    test_ok (IsNumber site value kind) t y n s h = (h, ((t.0, tt), t.1 y n))
-    test_ok (IsTruth site value) t y n s h = (h, ((t.0, tt), t.1 y n))
+    test_ok (IsNumber site value kind) t y n s h = (h, (((t.0, w.compares site (effects.Number value kind) [] (Term.If (operand_of f (moved site.node site.node)) y n)), tt), t.1 y n))
+    test_ok (IsTruth site value) t y n s h = (h, (((t.0, w.compares site (effects.Truth value) [] (Term.If (operand_of f (moved site.node site.node)) y n)), tt), t.1 y n))
     test_ok (AnyOf alternatives) t y n s h = any_ok alternatives t y n s h
 
     pub tests_ok : (x : PatternTests) → TestsOk x → TestOk (tests f x)
@@ -397,16 +423,16 @@ module _ (f : Frame) (w : Wanted f) where
         tests_ok one t.0 y (length r.1.blocks) (closed Kind.Plain r.0 r.1) (closed_ok Kind.Plain r.0 r.1 i.0 i.1)
 
   -- ---- assignment
-  pub replaces_sound : (x : Bool) (site : Site) (key : ℕ) → w.stmt (put_into f site key) site.node → ((n : ℕ) (u : Unwind) → w.term (Term.DropAt (place_of f site) n u) site.node) → Sound (replaces f x site key)
-  replaces_sound true site key put d = record {
+  pub replaces_sound : (x : Bool) (site : Site) (key : ℕ) → w.stmt (put_into f site key) site.node → ((stmts : List Stmt) (term : Term) → w.behind (put_into f site key) stmts term) → ((n : ℕ) (u : Unwind) → w.term (Term.DropAt (place_of f site) n u) site.node) → Sound (replaces f x site key)
+  replaces_sound true site key put b d = record {
     after = λ e S o. taken_ok (key ∷ []) S o;
-    lines = λ c S k s o h l.
+    lines = λ c t S k s o h l.
         let on = closed Kind.Plain (with_line (put_into f site key) site.node k) s in
-        let oh = closed_ok Kind.Plain (with_line (put_into f site key) site.node k) s h ((put, l.0), l.1) in
+        let oh = closed_ok Kind.Plain (with_line (put_into f site key) site.node k) s h (((put, b (map (λ l. l.stmt) k.lines) k.term), l.0), l.1) in
         let es = panic_drops f (taken f (key ∷ []) S) in
         let down = chain f es on in
         let dh = chain_ok es (panic_ok (taken f (key ∷ []) S) (taken_ok (key ∷ []) S o)) on oh in
         let unwound = with_line (put_into f site key) site.node (ending (Term.Goto down.0) site.node) in
-        (closed_ok Kind.Cleanup unwound down.1 dh ((put, tt), w.goto down.0 site.node), (tt, d (length s.blocks) (Unwind.Block (length down.1.blocks))));
+        (closed_ok Kind.Cleanup unwound down.1 dh (((put, b [] (Term.Goto down.0)), tt), w.goto down.0 site.node), (tt, d (length s.blocks) (Unwind.Block (length down.1.blocks))));
   }
-  replaces_sound false site key put d = changed_sound (taken f (key ∷ [])) (act f site.node (effects.Put site (moved site.node key))) (taken_ok (key ∷ [])) (act_sound site.node (effects.Put site (moved site.node key)) put)
+  replaces_sound false site key put b d = changed_sound (taken f (key ∷ [])) (act f site.node (effects.Put site (moved site.node key))) (taken_ok (key ∷ [])) (act_sound site.node (effects.Put site (moved site.node key)) put)

@@ -178,6 +178,10 @@ module _ (g : Ground) where
     goto = λ n node. typed_lines.goto_ok g.items g.bodies B n;
     resume = λ node. typed_lines.resume_ok g.items g.bodies B;
     drop = drop_ok;
+    behind = λ stmt stmts term. Unit {0};
+    returns = 1;
+    follows = λ action. lines.follows_any (done_by F action) (is_last F action);
+    compares = λ site value stmts term. tt;
   }
 
   abbrev pub Sound : Lowers → Type 0

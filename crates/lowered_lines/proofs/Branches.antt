@@ -94,7 +94,7 @@ module _ (g : Ground) where
 
   -- ---- arms
   abbrev pub ArmSound : LowersArm → Type 0
-  ArmSound arm = (c : Ways) (S : Scopes) (r : ℕ) (k : Rest) (s : Building) → lines.ScopesOk F (base.wanted g) S → lines.Ok F (base.wanted g) s → lines.RestOk F (base.wanted g) k → lines.Both F (base.wanted g) (arm.build c S r k s)
+  ArmSound arm = (c : Ways) → c.returns.block ≡ 1 → (S : Scopes) (r : ℕ) (k : Rest) (s : Building) → lines.ScopesOk F (base.wanted g) S → lines.Ok F (base.wanted g) s → lines.RestOk F (base.wanted g) k → lines.Both F (base.wanted g) (arm.build c S r k s)
 
   -- a guard that may be there, in its own context
   pub data GuardOk (y : Context) (ns : List tree.Node) : LowerIfAny → Type 0 where
@@ -102,8 +102,8 @@ module _ (g : Ground) where
     with_one : (n : tree.Node) (m : NodeLower) → Good y n m → Cells (cells g.items true n) → rules.IsBool g (ty_of n) → ns ≡ nodes_of n → GuardOk y ns (a_lower m)
 
   guarded_sound : (y : Context) (a : Around) (bounds : List Bound) (ns : List tree.Node) (q : LowerIfAny) → GuardOk y ns q → base.Fine g y (in_guard bounds a) ns → (P : Lowers) → Sound P → ArmSound (lower.guarded F a bounds q P)
-  guarded_sound y a bounds ns _ without f P p c S r k s o h l = p.lines c S k s o h l
-  guarded_sound y a bounds ns _ (with_one n m good cs is same) f P p c S r k s o h l = by asked.has_end refl
+  guarded_sound y a bounds ns _ without f P p c w S r k s o h l = p.lines c w S k s o h l
+  guarded_sound y a bounds ns _ (with_one n m good cs is same) f P p c w S r k s o h l = by asked.has_end refl
     where
       asked : Lowers
       asked = back_in (m.evaluates (in_guard bounds a) true (Into m.head.id))
@@ -113,22 +113,22 @@ module _ (g : Ground) where
 
       by : (z : Bool) → asked.has_end ≡ z → lines.Both F (base.wanted g) (lower.guard_from F z asked m.head.id P c S r k s)
       by true e =
-          let it = p.lines c S k s o h l in
+          let it = p.lines c w S k s o h l in
           let d = P.build c S k s in
           let made = lines.closed_ok F (base.wanted g) Kind.Plain d.0 d.1 it.0 it.1 in
           let t = if_true F (moved m.head.id m.head.id) m.head.id (length d.1.blocks) r (closed Kind.Plain d.0 d.1) in
           let v = rules.ends_made g y n m good true cs (in_guard bounds a) true (Into m.head.id) e in
           let i = rules.if_ok g m.head.id m.head.ty (good.cell cs v) (rules.bool_if_made g m.head.ty (subst (rules.IsBool g) (sym good.ty_is) is) v) (length d.1.blocks) r (closed Kind.Plain d.0 d.1) made in
-          asks.lines c S t.0 t.1 o i.0 i.1
-      by false e = asks.lines c S k s o h l
+          asks.lines c w S t.0 t.1 o i.0 i.1
+      by false e = asks.lines c w S k s o h l
 
   pub arm_sound : (x y : Context) (h : Head) (p : NodeLower) (q : LowerIfAny) (ns : List tree.Node) (n : tree.Node) (m : NodeLower) (matched : Place) (a : Around) (to : Destination) →
       TestsOk (p.shape.tests matched) → rules.BoundsOk g (p.shape.bindings matched) → GuardOk y ns q → base.Fine g y (in_guard (p.shape.bindings matched) a) ns → Good x n m → Cells (cells g.items false n) → base.Fine g x a (nodes_of n) → base.DestIf g to m.head.ty → ArmSound (lower.arm F h p q m matched a to)
-  arm_sound x y h p q ns n m matched a to ts bs guard gf good cs f d c S r k s o hs l =
+  arm_sound x y h p q ns n m matched a to ts bs guard gf good cs f d c w S r k s o hs l =
       let bounds = p.shape.bindings matched in
       let code = lower.guarded F a bounds q (lower.taken_arm F h a bounds m to) in
       let body = base.scoped g h.id false _ (base.and_then g _ _ (rules.bind_sound g innermost (rules.inner g) bounds bs) (λ e. rules.alone_sound g x n m good false cs a f to d)) in
-      let i = guarded_sound y a bounds ns q guard gf _ body c S r k s o hs l in
+      let i = guarded_sound y a bounds ns q guard gf _ body c w S r k s o hs l in
       let b = code.build c S r k s in
       lines.tests_ok F (base.wanted g) (p.shape.tests matched) ts (length b.1.blocks) r (closed Kind.Plain b.0 b.1) (lines.closed_ok F (base.wanted g) Kind.Plain b.0 b.1 i.0 i.1)
 
@@ -174,22 +174,22 @@ module _ (g : Ground) where
     | inr never ↦ absurd (base.never_and_made g ty never m)
   ]
 
-  arms_from : (x : Context) (number : ℕ) (scrutinee want : TyId) (ns : List tree.Node) (ms : List NodeLower) → Arms x scrutinee want ns ms → (matched : Place) → base.Typed g matched scrutinee → (a : Around) → base.Fine g x a ns → (to : Destination) → base.DestIf g to want → (c : Ways) (S : Scopes) (k : Rest) (s : Building) →
+  arms_from : (x : Context) (number : ℕ) (scrutinee want : TyId) (ns : List tree.Node) (ms : List NodeLower) → Arms x scrutinee want ns ms → (matched : Place) → base.Typed g matched scrutinee → (a : Around) → base.Fine g x a ns → (to : Destination) → base.DestIf g to want → (c : Ways) → c.returns.block ≡ 1 → (S : Scopes) (k : Rest) (s : Building) →
       lines.ScopesOk F (base.wanted g) S → lines.Ok F (base.wanted g) s → lines.RestOk F (base.wanted g) k → lines.Both F (base.wanted g) (lower.arms_from F number ms matched a to c S k s)
-  arms_from x number scrutinee want _ _ no_arm matched t a f to d c S k s o h l = lines.panic_both F (base.wanted g) (Term.Panic Why.Match) number (λ u. (typed_lines.panic_ok g.items g.bodies (base.B g) u).1) S o s h
-  arms_from x number scrutinee want _ _ (an_arm n others m ms one fit rest) matched t a f to d c S k s o h l =
+  arms_from x number scrutinee want _ _ no_arm matched t a f to d c w S k s o h l = lines.panic_both F (base.wanted g) (Term.Panic Why.Match) number (λ u. (typed_lines.panic_ok g.items g.bodies (base.B g) u).1) S o s h
+  arms_from x number scrutinee want _ _ (an_arm n others m ms one fit rest) matched t a f to d c w S k s o h l =
       let b = lower.arms_from F number ms matched a to c S k s in
-      let i = arms_from x number scrutinee want others ms rest matched t a (base.fine_second g x a (nodes_of n) others f) to d c S k s o h l in
-      one.sound matched t a (base.fine_first g x a (nodes_of n) others f) to (dest_fits to want (ty_of n) fit d) c S (length b.1.blocks) k (closed Kind.Plain b.0 b.1) o (lines.closed_ok F (base.wanted g) Kind.Plain b.0 b.1 i.0 i.1) l
+      let i = arms_from x number scrutinee want others ms rest matched t a (base.fine_second g x a (nodes_of n) others f) to d c w S k s o h l in
+      one.sound matched t a (base.fine_first g x a (nodes_of n) others f) to (dest_fits to want (ty_of n) fit d) c w S (length b.1.blocks) k (closed Kind.Plain b.0 b.1) o (lines.closed_ok F (base.wanted g) Kind.Plain b.0 b.1 i.0 i.1) l
 
   pub arms_sound : (x : Context) (number : ℕ) (scrutinee want : TyId) (ns : List tree.Node) (ms : List NodeLower) → Arms x scrutinee want ns ms → (matched : Place) → base.Typed g matched scrutinee → (a : Around) → base.Fine g x a ns → (to : Destination) → base.DestIf g to want → Sound (lower.arms_in_order F number ms matched a to)
   arms_sound x number scrutinee want ns ms arms matched t a f to d = record {
     after = λ e S o. o;
-    lines = λ c S k s o h l.
+    lines = λ c w S k s o h l.
         let ends = lower.arms_end F ms matched a to in
         let j = joined ends number k s in
         let jo = lines.joined_ok F (base.wanted g) ends number k s h l in
-        arms_from x number scrutinee want ns ms arms matched t a f to d c S j.0 j.1 o jo.0 jo.1;
+        arms_from x number scrutinee want ns ms arms matched t a f to d c w S j.0 j.1 o jo.0 jo.1;
   }
 
   pub arms_leave : (x : Context) (scrutinee want : TyId) (ns : List tree.Node) (ms : List NodeLower) → Arms x scrutinee want ns ms → (matched : Place) (a : Around) (to : Destination) → base.Spares g x.loops (lower.arm_jumps F ms matched a to)

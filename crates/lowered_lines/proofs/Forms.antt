@@ -812,7 +812,7 @@ module _ (g : Ground) where
           let own : base.KeyIs g (L value_).head.id (L target).head.ty = subst (base.KeyIs g (L value_).head.id) (sym p.ty_is) key in
           lines.replaces_sound F (base.wanted g) (needs_drop g.items (L target).head.ty) (lower.site_of (L target) a) (L value_).head.id
           (typed_lines.put_moved g.items g.bodies B _ _ (L target).head.ty t.0 t.1 (base.key_at g (L value_).head.id (L target).head.ty t.0 own t.1.known) (sized (L value_).head.id (L target).head.ty t.0 own t.1.known))
-          (λ n u. typed_lines.drop_ok g.items g.bodies B _ (L target).head.ty t.0 t.1 n u)
+          (λ stmts term. tt) (λ n u. typed_lines.drop_ok g.items g.bodies B _ (L target).head.ty t.0 t.1 n u)
 
   borrow_good : (x : Context) (inner : Node) → Good x inner (L inner) → (id : ℕ) (at : Pos) (ty : TyId) (by : Option Use) (unique : Bool) → Plain (tree.node id at ty by (tree.Borrow unique inner)) (head id ty by) (S_of (tree.Borrow unique inner) (head id ty by)) →
       Holds (some (types.reference_of g.items ty) (λ r. fact (types.is_same (ty_of inner) r.1) & fact (if unique then r.0 else not r.0))) → ((o : Bool) → Cells (cells g.items o (tree.node id at ty by (tree.Borrow unique inner))) → Cells (reached_cells g.items inner)) →

@@ -412,14 +412,14 @@ module _ (p : ProgramTree) (w : WellTyped p) (n : ℕ) (body : BodyTree) (at_n :
 
   built_ok : lines.Ok F W (lower.built F body)
   built_ok =
-      let x = function_sound.lines (body_ways 1) (lower.answer_scope F body) last (lower.start F body) (((λ d. answer_cell), tt), tt, tt) begun_ok (tt, typed_lines.goto_ok p.items (length p.bodies) (base.B g) 1) in
+      let x = function_sound.lines (body_ways 1) refl (lower.answer_scope F body) last (lower.start F body) (((λ d. answer_cell), tt), tt, tt) begun_ok (tt, typed_lines.goto_ok p.items (length p.bodies) (base.B g) 1) in
       let code = (lower.entire_function F body).build (body_ways 1) (lower.answer_scope F body) last (lower.start F body) in
       lines.filled_ok F W Kind.Plain 0 code.0 code.1 x.0 x.1
 
   line_in : (stmts : List Stmt) (term : Term) (nodes : List ℕ) → lines.BlockOk F W stmts term nodes → (line : ℕ) (stmt : Stmt) → slice_get stmts line ≡ Some stmt → base.StmtOk g stmt
   line_in [] term nodes h line stmt e = absurd (none-some stmt e)
   line_in (x ∷ stmts) term [] h line stmt e = absurd h
-  line_in (x ∷ stmts) term (n ∷ nodes) h zero stmt e = subst (base.StmtOk g) (same_Some x stmt e) h.0
+  line_in (x ∷ stmts) term (n ∷ nodes) h zero stmt e = subst (base.StmtOk g) (same_Some x stmt e) h.0.0
   line_in (x ∷ stmts) term (n ∷ nodes) h (suc line) stmt e = line_in stmts term nodes h.1 line stmt e
 
   term_in : (stmts : List Stmt) (term : Term) (nodes : List ℕ) → lines.BlockOk F W stmts term nodes → base.TermOk g term
