@@ -6,6 +6,6 @@ mod Examples
 mod Following
 pub mod Law
 mod Leaving
-mod Lines
-mod Performing
+pub mod Lines
+pub mod Performing
 mod Watching

@@ -1,2 +1,4 @@
 mod Clean
 pub mod Law
+mod Numbers
+mod Stopping
