@@ -65,6 +65,31 @@ module _ (items : ItemTable) (body : Body) where
       ap (λ (b : Bool). first_from b earlier a acts) (not-bad earlier a a.how (bad_after (earlier ++ a ∷ []) acts) h)
       ∙ clean-after (earlier ++ a ∷ []) acts (rest-none (checked earlier a a.how) (bad_after (earlier ++ a ∷ []) acts) h)
 
+  -- and back
+  no-bad : (rule : UseRule) (a : Action) (bad : Bool) → bad ≡ false → if_bad bad rule a ≡ []
+  no-bad rule a bad e = ap (λ (b : Bool). if_bad b rule a) e
+
+  none-checked : (earlier : List Action) (a : Action) (how : Use) → is_bad items body earlier a how ≡ false → checked earlier a how ≡ []
+  none-checked earlier a Copies e = no-bad U1 a (may_not_read items body earlier a.place) e
+  none-checked earlier a Moves e = no-bad U1 a (may_not_read items body earlier a.place) e
+  none-checked earlier a Borrows e = no-bad U1 a (may_not_read items body earlier a.place) e
+  none-checked earlier a Touches e = no-bad U1 a (may_not_read items body earlier a.place) e
+  none-checked earlier a Tests e = no-bad U1 a (may_not_test items body earlier a.place) e
+  none-checked earlier a Stores e = no-bad U2 a (may_not_store items body earlier a.place) e
+  none-checked earlier a Drops e = no-bad U2 a (may_not_store items body earlier a.place) e
+  none-checked earlier a Frees e = refl
+
+  none-from : (earlier acts : List Action) → Clean earlier acts → bad_after earlier acts ≡ []
+  none-from earlier [] h = refl
+  none-from earlier (a ∷ acts) h = by (is_bad items body earlier a a.how) refl h (none-from (earlier ++ a ∷ []) acts)
+    where
+      by : (b : Bool) → is_bad items body earlier a a.how ≡ b → first_from b earlier a acts ≡ None → (Clean (earlier ++ a ∷ []) acts → bad_after (earlier ++ a ∷ []) acts ≡ []) → bad_after earlier (a ∷ acts) ≡ []
+      by true e h later = absurd (none-some (record { rule = rule_of a.how; action = a }) (sym h))
+      by false e h later = (λ i. none-checked earlier a a.how e i ++ later h i)
+
+  pub none-after : (path : List ℕ) → Clean [] (actions_on body path) → bad_uses_on items body path ≡ []
+  none-after path h = none-from [] (actions_on body path) h
+
   -- of two parts that are clean together
   parts : (earlier xs ys : List Action) → Clean earlier (xs ++ ys) → Clean earlier xs × Clean (earlier ++ xs) ys
   parts earlier [] ys h = (refl, subst (λ (z : List Action). Clean z ys) (sym (append-nil earlier)) h)

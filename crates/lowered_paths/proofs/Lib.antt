@@ -1,4 +1,5 @@
 mod Clean
+mod Ends
 pub mod Law
 mod Numbers
 mod Stopping

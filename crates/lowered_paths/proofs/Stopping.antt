@@ -33,7 +33,7 @@ use Rattle.free_walks.proofs.Performing.{before-none, before-append, some-rest}
 use Rattle.cfg_build.specs.Build.{Frame}
 use Rattle.cfg_build.proofs.Stops.{CopiesNone, AllCopyNone, StmtCopies, TermCopies, IsNever, IsOwn, Behind, BlockStops}
 
-untrue : false ≡ true → ⊥
+pub untrue : false ≡ true → ⊥
 untrue e = let never : false ≡ true = e in cc
 
 -- a type that passes a test that `!` does not pass is not `!`
@@ -52,7 +52,7 @@ never_is (Some (Ty.Unique to)) h = absurd (untrue h)
 never_is (Some (Ty.Dyn n)) h = absurd (untrue h)
 never_is None h = absurd (untrue h)
 
-made : (o : Option Ty) (test : Option Ty → Bool) → test (Some Ty.Never) ≡ false → test o ≡ true → is_never o ≡ false
+pub made : (o : Option Ty) (test : Option Ty → Bool) → test (Some Ty.Never) ≡ false → test o ≡ true → is_never o ≡ false
 made o test none passes = by (is_never o) refl
   where
     by : (b : Bool) → is_never o ≡ b → is_never o ≡ false
@@ -60,10 +60,10 @@ made o test none passes = by (is_never o) refl
     by false e = e
 
 module _ (items : ItemTable) (body : Body) where
-  abbrev ends : Action → Bool
+  abbrev pub ends : Action → Bool
   ends = ends_runs items body
 
-  abbrev ends_any : List Action → Bool
+  abbrev pub ends_any : List Action → Bool
   ends_any acts = list_any ends acts
 
   -- ---- what actions come to, after earlier ones
@@ -122,7 +122,7 @@ module _ (items : ItemTable) (body : Body) where
       by (stops free stop) = stops (some-rest items body earlier xs ys is ∙ free) stop
 
   -- ---- uses of a line
-  abbrev never_at : Place → Bool
+  abbrev pub never_at : Place → Bool
   never_at place = is_never (ty_of_place items body.locals place)
 
   abbrev is_copy_or_store : Use → Bool
@@ -130,11 +130,11 @@ module _ (items : ItemTable) (body : Body) where
   is_copy_or_store Stores = true
   is_copy_or_store how = false
 
-  abbrev AreCalm : List (Use × Place) → Type 0
+  abbrev pub AreCalm : List (Use × Place) → Type 0
   AreCalm [] = Unit {0}
   AreCalm (u ∷ us) = (is_copy_or_store u.0 && never_at u.1 ≡ false) × AreCalm us
 
-  calm_line : (n line : ℕ) (us : List (Use × Place)) → AreCalm us → ends_any (at_line n line us) ≡ false
+  pub calm_line : (n line : ℕ) (us : List (Use × Place)) → AreCalm us → ends_any (at_line n line us) ≡ false
   calm_line n line [] h = refl
   calm_line n line (u ∷ us) h = ap (λ (b : Bool). b || ends_any (at_line n line us)) h.0 ∙ calm_line n line us h.1
 
@@ -211,8 +211,12 @@ module _ (items : ItemTable) (body : Body) where
   copied_calm p e = (e, tt)
 
   -- all statements but those that put
-  calm_stmt : (stmt : Stmt) → StmtCopies stmt → stmt_has_types items body.locals stmt ≡ true → ((to : Place) (from : Operand) → stmt ≡ Stmt.Put to from → ⊥) → AreCalm (stmt_uses stmt)
-  calm_stmt (Stmt.Put to from) c h other = absurd (other to from refl)
+  abbrev puts : Stmt → Bool
+  puts (Stmt.Put to from) = true
+  puts stmt = false
+
+  calm_stmt : (stmt : Stmt) → StmtCopies stmt → stmt_has_types items body.locals stmt ≡ true → puts stmt ≡ false → AreCalm (stmt_uses stmt)
+  calm_stmt (Stmt.Put to from) c h other = absurd (false≢true (sym other))
   calm_stmt (Stmt.Compare to op left right) c h other =
       let both = two_bools (is_bool (ty_of_place items body.locals to)) (are_compared (ty_of_operand items body.locals left) (ty_of_operand items body.locals right)) h in
       with_store (flat_map operand_uses (left ∷ right ∷ []) ++ []) to
@@ -349,9 +353,6 @@ module _ (items : ItemTable) (body : Body) where
     is_never_there : (to : Place) → never_at to ≡ true → IsNever f own to
     is_never_there to e = (λ i. is_never (ty_of_place (same_items i) (same_tys i) to)) ∙ e
 
-    one : (bad : Bool) (rule_action : BadUse) → Option BadUse
-    one bad rule_action = if bad then Some rule_action else None
-
     put : (earlier : List Action) → ends_any earlier ≡ false → (n line : ℕ) (to : Place) (from : Operand) (stmts : List Stmt) (term : Term) → StmtCopies (Stmt.Put to from) → Behind f own (Stmt.Put to from) stmts term → stmt_has_types items body.locals (Stmt.Put to from) ≡ true →
         Comes (IsStop stmts term) earlier (at_line n line (stmt_uses (Stmt.Put to from)))
     put earlier none n line to from stmts term copies behind typed = by (never_at to) refl from copies behind typed
@@ -436,3 +437,49 @@ module _ (items : ItemTable) (body : Body) where
         by false e (Operand.Number value kind) copies behind typed = calm_put (Operand.Number value kind) tt e
         by false e (Operand.Truth value) copies behind typed = calm_put (Operand.Truth value) tt e
         by false e Operand.Unit copies behind typed = calm_put Operand.Unit tt e
+
+    stmt_comes : (earlier : List Action) → ends_any earlier ≡ false → (n line : ℕ) (stmt : Stmt) (stmts : List Stmt) (term : Term) → StmtCopies stmt → Behind f own stmt stmts term → stmt_has_types items body.locals stmt ≡ true →
+        Comes (IsStop stmts term) earlier (at_line n line (stmt_uses stmt))
+    stmt_comes earlier none n line (Stmt.Put to from) stmts term copies behind typed = put earlier none n line to from stmts term copies behind typed
+    stmt_comes earlier none n line (Stmt.Compare to op left right) stmts term copies behind typed = calm earlier _ (calm_line n line (stmt_uses (Stmt.Compare to op left right)) (calm_stmt (Stmt.Compare to op left right) copies typed refl))
+    stmt_comes earlier none n line (Stmt.Not to operand) stmts term copies behind typed = calm earlier _ (calm_line n line (stmt_uses (Stmt.Not to operand)) (calm_stmt (Stmt.Not to operand) copies typed refl))
+    stmt_comes earlier none n line (Stmt.Tuple to parts) stmts term copies behind typed = calm earlier _ (calm_line n line (stmt_uses (Stmt.Tuple to parts)) (calm_stmt (Stmt.Tuple to parts) copies typed refl))
+    stmt_comes earlier none n line (Stmt.Array to parts) stmts term copies behind typed = calm earlier _ (calm_line n line (stmt_uses (Stmt.Array to parts)) (calm_stmt (Stmt.Array to parts) copies typed refl))
+    stmt_comes earlier none n line (Stmt.Make to adt variant parts) stmts term copies behind typed = calm earlier _ (calm_line n line (stmt_uses (Stmt.Make to adt variant parts)) (calm_stmt (Stmt.Make to adt variant parts) copies typed refl))
+    stmt_comes earlier none n line (Stmt.Close to closure parts) stmts term copies behind typed = calm earlier _ (calm_line n line (stmt_uses (Stmt.Close to closure parts)) (calm_stmt (Stmt.Close to closure parts) copies typed refl))
+    stmt_comes earlier none n line (Stmt.NewBox to operand) stmts term copies behind typed = calm earlier _ (calm_line n line (stmt_uses (Stmt.NewBox to operand)) (calm_stmt (Stmt.NewBox to operand) copies typed refl))
+    stmt_comes earlier none n line (Stmt.Unsize to trait_no from) stmts term copies behind typed = calm earlier _ (calm_line n line (stmt_uses (Stmt.Unsize to trait_no from)) (calm_stmt (Stmt.Unsize to trait_no from) copies typed refl))
+    stmt_comes earlier none n line (Stmt.Borrow to unique of) stmts term copies behind typed = calm earlier _ (calm_line n line (stmt_uses (Stmt.Borrow to unique of)) (calm_stmt (Stmt.Borrow to unique of) copies typed refl))
+    stmt_comes earlier none n line (Stmt.Touch place) stmts term copies behind typed = calm earlier _ (calm_line n line (stmt_uses (Stmt.Touch place)) (calm_stmt (Stmt.Touch place) copies typed refl))
+    stmt_comes earlier none n line (Stmt.Print operand) stmts term copies behind typed = calm earlier _ (calm_line n line (stmt_uses (Stmt.Print operand)) (calm_stmt (Stmt.Print operand) copies typed refl))
+    stmt_comes earlier none n line (Stmt.Forget operand) stmts term copies behind typed = calm earlier _ (calm_line n line (stmt_uses (Stmt.Forget operand)) (calm_stmt (Stmt.Forget operand) copies typed refl))
+    stmt_comes earlier none n line (Stmt.Free place) stmts term copies behind typed = calm earlier _ (calm_line n line (stmt_uses (Stmt.Free place)) (calm_stmt (Stmt.Free place) copies typed refl))
+
+    -- ---- terminators, before a way out is taken
+    calm_term : (term : Term) → TermCopies term → term_has_types items body.locals term ≡ true → AreCalm (term_uses term)
+    calm_term (Term.Goto block) c h = tt
+    calm_term (Term.If on if_true if_false) c h = calm_both (flat_map operand_uses (on ∷ [])) [] (calm_one on (calm_operand on c)) tt
+    calm_term (Term.Case on variant if_true if_false) c h = (refl, tt)
+    calm_term (Term.Math to op left right next unwind) c h = calm_both (flat_map operand_uses (left ∷ right ∷ [])) [] (calm_two left right (calm_operand left c.0) (calm_operand right c.1)) tt
+    calm_term (Term.Negate to of next unwind) c h = calm_both (flat_map operand_uses (of ∷ [])) [] (calm_one of (calm_operand of c)) tt
+    calm_term (Term.Bounds index count next unwind) c h =
+        calm_both (flat_map operand_uses (index ∷ [])) [] (calm_one index (calm_made index (made (ty_of_operand items body.locals index) (is_int IntKind.Usize) refl h))) tt
+    calm_term (Term.Call to body args next unwind) c h = calm_both (flat_map operand_uses args) [] (calm_operands args c) tt
+    calm_term (Term.Virtual to trait_no method args next unwind) c h = calm_both (flat_map operand_uses args) [] (calm_operands args c) tt
+    calm_term (Term.Ask to next unwind) c h = tt
+    calm_term (Term.DropAt place next unwind) c h = (refl, tt)
+    calm_term (Term.Panic why unwind) c h = tt
+    calm_term Term.Return c h = tt
+    calm_term Term.Resume c h = tt
+
+    -- ---- blocks
+    pub block_comes : (stmts : List Stmt) (term : Term) (earlier : List Action) → ends_any earlier ≡ false → (n line last : ℕ) → BlockStops f own stmts term → list_all (stmt_is_typed items body.locals) stmts ≡ true → term_is_typed items body.locals term ≡ true →
+        Comes (term ≡ Term.Goto 1) earlier (stmt_actions n line stmts ++ at_line n last (term_uses term))
+    block_comes [] term earlier none n line last stops_so typed term_typed =
+        calm earlier (at_line n last (term_uses term)) (calm_line n last (term_uses term) (calm_term term stops_so (second_so _ (term_has_types items body.locals term) term_typed)))
+    block_comes (stmt ∷ stmts) term earlier none n line last stops_so typed term_typed =
+        subst (Comes (term ≡ Term.Goto 1) earlier) (sym (append_assoc (at_line n line (stmt_uses stmt)) (stmt_actions n (suc line) stmts) (at_line n last (term_uses term))))
+        (then_comes earlier (at_line n line (stmt_uses stmt)) (stmt_actions n (suc line) stmts ++ at_line n last (term_uses term)) none
+        (stmt_comes earlier none n line stmt stmts term stops_so.0.0 stops_so.0.1 (typed_so stmt (first_so (stmt_is_typed items body.locals stmt) (list_all (stmt_is_typed items body.locals) stmts) typed)))
+        (λ still. block_comes stmts term (earlier ++ at_line n line (stmt_uses stmt)) still n (suc line) last stops_so.1 (second_so (stmt_is_typed items body.locals stmt) (list_all (stmt_is_typed items body.locals) stmts) typed) term_typed)
+        (λ stop. ((λ i. first_bad items body (earlier ++ at_line n line (stmt_uses stmt)) (stmt_actions n (suc line) (stop.0 i) ++ at_line n last (term_uses (stop.1 i)))), stop.1)))
