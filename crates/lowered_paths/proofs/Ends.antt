@@ -1,27 +1,26 @@
 -- A path of a lowered body reaches no bad use behind a copy or a store of a value of type `!`. So runs reach what paths reach;
 -- and where nothing is reached, no path meets a bad use.
-use Rattle.std.proofs.Common.{◌≡◌, ◌⊎◌, inl, inr, ℕ, zero, suc, ◌==◌, ◌&&◌, ◌||◌, Bool, true, false, List, [], ◌∷◌, ◌++◌, length, map, Option, Some, None, slice_get, Contains, if◌then◌else◌, refl, sym, ap, subst, ◌∙◌}
+use Rattle.std.proofs.Common.{◌≡◌, inl, inr, ℕ, zero, suc, ◌||◌, Bool, true, false, List, [], ◌∷◌, ◌++◌, length, map, Option, Some, None, slice_get, Contains, if◌then◌else◌, refl, sym, ap, subst, ◌∙◌}
 use Rattle.std.specs.Prelude.{nat_eq}
 use Rattle.std.specs.List.{list_any, list_all}
 use Rattle.std.specs.Option.{option_map_or}
-use Rattle.std.specs.Cmp.{first_so, second_so}
+use Rattle.std.specs.Cmp.{second_so}
 use Rattle.std.proofs.lemmas.Bool.{false≢true, eqb-true}
 use Rattle.std.proofs.lemmas.Option.{none-some, same_Some}
 use Rattle.std.proofs.lemmas.List.{append_assoc, append_cancel_left, append_cancel_right}
 use Rattle.mir_base.specs.declared.int_kind.IntKind.{IntKind}
 use Rattle.mir_ty.specs.declared.ty.Ty.{Ty}
 use Rattle.mir_ty.specs.ItemTable.{ItemTable}
-use Rattle.store_model.specs.Places.TypeForms.{is_never, is_int, is_signed, same_int}
+use Rattle.store_model.specs.Places.TypeForms.{is_int, same_int}
 use Rattle.cfg_graph.specs.declared.graph.Block.{Block}
 use Rattle.cfg_graph.specs.declared.graph.Body.{Body}
 use Rattle.cfg_graph.specs.declared.graph.Kind.{Kind}
 use Rattle.cfg_graph.specs.declared.place.Place.{Place}
-use Rattle.cfg_graph.specs.declared.statement.Stmt.{Stmt}
 use Rattle.cfg_graph.specs.declared.terminator.Term.{Term}
 use Rattle.cfg_graph.specs.declared.terminator.Unwind.{Unwind}
 use Rattle.cfg_graph.specs.Edges.{Exit, ToBlock, LeavesBody, onward, unwind_exit, unwind_targets}
 use Rattle.cfg_graph.specs.Places.{ty_of_place, ty_of_operand}
-use Rattle.cfg_graph.specs.Uses.{Use, Stores, stored_by_term, term_uses}
+use Rattle.cfg_graph.specs.Uses.{Stores, stored_by_term, term_uses}
 use Rattle.cfg_graph.specs.WellFormed.Typing.{stmt_is_typed, term_is_typed, term_has_types}
 use Rattle.cfg_graph.specs.Moves.Actions.{actions_on}
 use Rattle.cfg_graph.specs.Moves.BadUses.{BadUse}
@@ -30,15 +29,14 @@ use Rattle.cfg_graph.specs.Moves.Paths.{Way, ways, IsPath}
 use Rattle.move_flow.proofs.Along.{actions_in, actions_between}
 use Rattle.bad_uses.proofs.Pathways.{in-flat, in-map, map-in, along, entry_choices, choices_between, between-way, way-between, path-snoc, actions-snoc}
 use Rattle.bad_uses.proofs.Sorted.{here, none-in, first-or}
-use Rattle.bad_uses.specs.Reaches as reaches
-use Rattle.bad_uses.specs.Reaches.{first_bad, Reaches, ReachesInBlock, ReachesOnWay, MeetsNone}
+use Rattle.bad_uses.specs.Reaches.{first_bad, Reaches, MeetsNone}
 use Rattle.free_walks.specs.Meets.{PanicsLeadElsewhere, before_bad, RunsReach, in_block, on_way}
 use Rattle.free_walks.proofs.Lines.{at_line, stmt_actions}
 use Rattle.free_walks.proofs.Performing.{some-rest}
 use Rattle.cfg_build.specs.Build.{Frame}
 use Rattle.cfg_build.proofs.Stops.{BlockStops}
 use Rattle.lowered_paths.proofs.Clean.{none-after}
-use Rattle.lowered_paths.proofs.Stopping.{untrue, made, ends_any, Comes, meets, clear, stops, calm, then_comes, bad_first, calm_line, AreCalm, block_comes, never_at}
+use Rattle.lowered_paths.proofs.Stopping.{untrue, made, ends_any, Comes, meets, clear, stops, calm, then_comes, bad_first, calm_line, block_comes, never_at}
 
 abbrev Out : Exit → List Bool → Way
 Out exit choices = record { choices = choices; exit = exit }

@@ -1,5 +1,5 @@
 -- The law: a path of a lowered body and the free run of its source, with the same choices, meet the same refused use.
-use Rattle.std.proofs.Common.{◌≡◌, ℕ, Bool, true, false, List, [], ◌∷◌, ◌++◌, Option, Some, None, refl, sym, ap, subst, ◌∙◌}
+use Rattle.std.proofs.Common.{◌≡◌, ℕ, Bool, true, List, [], ◌∷◌, ◌++◌, Option, Some, None, refl, sym, ap, subst, ◌∙◌}
 use Rattle.std.proofs.lemmas.List.{append-nil}
 use Rattle.std.proofs.lemmas.Option.{none-some, same_Some}
 use Rattle.mir_ty.specs.ItemTable.{ItemTable}
@@ -18,7 +18,7 @@ use Rattle.src_meaning.specs.Programs.{reached_by, refused_of}
 use Rattle.cfg_build.specs.Laws.{NamesItsLoops}
 use Rattle.cfg_build.specs.Lower.{body_of, node_of}
 use Rattle.cfg_build.proofs.Bodies.{lowered_walks_as_it_runs_freely, lowered_is_ranked, lowered_keeps_to_cleanup}
-use Rattle.lowered_paths.specs.Refused.{MeetsItsRefusals, LoweredPathsMeetItsRefusals}
+use Rattle.lowered_paths.specs.Refused.{LoweredPathsMeetItsRefusals}
 use Rattle.lowered_paths.proofs.Clean.{none-reached}
 
 -- a walk that halts at a bad use, with all choices taken, is refused there

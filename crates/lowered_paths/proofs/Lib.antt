@@ -1,5 +1,6 @@
 mod Clean
 mod Ends
+pub mod Exact
 pub mod Law
 mod Numbers
 mod Stopping

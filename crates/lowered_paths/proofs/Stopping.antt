@@ -1,19 +1,19 @@
 -- What a block of a lowered body does: where it copies or stores a value of type `!`, no use behind it is bad, and the block
 -- leads to the one that returns.
-use Rattle.std.proofs.Common.{◌≡◌, ◌⊎◌, inl, inr, ℕ, suc, ◌==◌, ◌&&◌, ◌||◌, not, Bool, true, false, List, [], ◌∷◌, ◌++◌, length, map, Option, Some, None, slice_get, if◌then◌else◌, refl, sym, ap, subst, ◌∙◌}
-use Rattle.std.specs.Prelude.{option_and_then, unwrap_or, flat_map, is_some}
+use Rattle.std.proofs.Common.{◌≡◌, inl, inr, ℕ, suc, ◌==◌, ◌&&◌, ◌||◌, not, Bool, true, false, List, [], ◌∷◌, ◌++◌, map, Option, Some, None, slice_get, if◌then◌else◌, refl, sym, ap, subst, ◌∙◌}
+use Rattle.std.specs.Prelude.{option_and_then, unwrap_or, flat_map}
 use Rattle.std.specs.List.{list_any, list_all}
 use Rattle.std.specs.Option.{option_map_or, option_or}
 use Rattle.std.specs.Cmp.{first_so, second_so}
 use Rattle.std.proofs.lemmas.Bool.{false≢true, eqb-true}
 use Rattle.std.proofs.lemmas.Option.{none-some, same_Some}
-use Rattle.std.proofs.lemmas.List.{append-nil, append_assoc}
+use Rattle.std.proofs.lemmas.List.{append_assoc}
 use Rattle.std.proofs.lemmas.List.Folds.{list_any-append}
 use Rattle.mir_base.specs.declared.int_kind.IntKind.{IntKind}
 use Rattle.mir_ty.specs.declared.ty.Ty.{Ty}
 use Rattle.mir_ty.specs.declared.ty.TyId.{TyId}
 use Rattle.mir_ty.specs.ItemTable.{ItemTable, type_at}
-use Rattle.store_model.specs.Places.TypeForms.{is_never, is_bool, is_int, is_signed, same_int, are_compared, same_id, tuple_parts, box_content, referent, is_adt, is_closure, is_dyn_of}
+use Rattle.store_model.specs.Places.TypeForms.{is_never, is_bool, is_int, are_compared, same_id, tuple_parts, box_content, referent, is_adt, is_closure, is_dyn_of}
 use Rattle.store_model.specs.Places.Place as plain
 use Rattle.cfg_graph.specs.declared.graph.Body.{Body}
 use Rattle.cfg_graph.specs.declared.place.Operand.{Operand}
@@ -22,14 +22,14 @@ use Rattle.cfg_graph.specs.declared.place.Step.{Step}
 use Rattle.cfg_graph.specs.declared.statement.Stmt.{Stmt}
 use Rattle.cfg_graph.specs.declared.terminator.Term.{Term}
 use Rattle.cfg_graph.specs.Places.{named, named_step, place_id, ty_of_place, ty_of_operand}
-use Rattle.cfg_graph.specs.Uses.{Use, Copies, Moves, Borrows, Touches, Tests, Stores, Drops, Frees, operand_uses, operands_of_stmt, operands_of_term, other_uses, other_term_uses, stored_by_stmt, stored_by_term, stmt_uses, term_uses}
+use Rattle.cfg_graph.specs.Uses.{Use, Copies, Moves, Borrows, Touches, Tests, Stores, Drops, Frees, operand_uses, stmt_uses, term_uses}
 use Rattle.cfg_graph.specs.WellFormed.Typing.{stmt_is_typed, stmt_has_types, term_is_typed, term_has_types, operand_is, are_elements, operands_are}
 use Rattle.cfg_graph.specs.Moves.BadUses.{BadUse, may_not_store}
 use Rattle.cfg_graph.specs.Moves.Gone.{Action, counts, is_at_or_above, are_first, is_param, last_left, is_gone_after, is_whole_after, leaves_gone}
 use Rattle.bad_uses.specs.Reaches.{rule_of, is_bad, first_bad}
 use Rattle.free_walks.specs.Meets.{ends_runs, before_bad}
 use Rattle.free_walks.proofs.Lines.{at_line, stmt_actions}
-use Rattle.free_walks.proofs.Performing.{before-none, before-append, some-rest}
+use Rattle.free_walks.proofs.Performing.{before-append, some-rest}
 use Rattle.cfg_build.specs.Build.{Frame}
 use Rattle.cfg_build.proofs.Stops.{CopiesNone, AllCopyNone, StmtCopies, TermCopies, IsNever, IsOwn, Behind, BlockStops}
 

@@ -1,15 +1,18 @@
 -- What the paths of a lowered body meet, and where the free runs of its source are refused.
-use Rattle.std.specs.Prelude.{◌≡◌, ℕ, Bool, List, Option, Some, None}
+use Rattle.std.specs.Prelude.{◌≡◌, ℕ, Bool, true, List, Some, None, slice_get}
 use Rattle.mir_ty.specs.ItemTable.{ItemTable}
 use Rattle.store_model.specs.Effects.{Site}
 use Rattle.cfg_graph.specs.declared.graph.Body.{Body}
 use Rattle.cfg_graph.specs.Moves.BadUses.{BadUse}
-use Rattle.bad_uses.specs.Reaches.{MeetsNone}
+use Rattle.cfg_graph.specs.WellFormed.Faults.{IsWellFormed}
+use Rattle.bad_uses.specs.Reaches.{Reaches, MeetsNone}
 use Rattle.free_walks.specs.Meets.{site_of, RunsReach}
-use Rattle.typed_tree.specs.Tree.{BodyTree}
+use Rattle.typed_tree.specs.Nodes.{numbers_of}
+use Rattle.typed_tree.specs.Tree.{BodyTree, ProgramTree}
 use Rattle.src_meaning.specs.Programs.{reached_by}
-use Rattle.cfg_build.specs.Laws.{NamesItsLoops}
-use Rattle.cfg_build.specs.Lower.{body_of, node_of}
+use Rattle.well_typed.specs.Names.{do_rise}
+use Rattle.cfg_build.specs.Laws.{NamesItsLoops, AllNameTheirLoops}
+use Rattle.cfg_build.specs.Lower.{body_of, graph_of, node_of}
 
 -- A body of a graph beside the body of the source that it is lowered from. No value of type `!` is ever made, so no run
 -- comes behind a copy or a store of one, while a path does: a path reaches a use before the first of these.
@@ -30,3 +33,30 @@ pub record MeetsItsRefusals (items : ItemTable) (tree : BodyTree) (body : Body) 
 abbrev pub LoweredPathsMeetItsRefusals : Type 0
 LoweredPathsMeetItsRefusals =
     (items : ItemTable) (tree : BodyTree) → NamesItsLoops tree → MeetsItsRefusals items tree (body_of items tree)
+
+-- Behind a copy or a store of a value of type `!` a lowered body only returns, so a path reaches no bad use there: with no
+-- word of such values, paths and free runs meet the same refused uses.
+pub record MeetsExactly (items : ItemTable) (tree : BodyTree) (body : Body) : Type 0 where
+  -- with the choices of a path that reaches a bad use the free run is refused, at the use's place and node
+  pub refused :
+      (path : List ℕ) (given : List Bool) (bad : BadUse) → Reaches items body path given bad →
+      reached_by items tree given ≡ Some (site_of (node_of items tree) bad.action)
+  -- where a free run is refused, a path with its choices reaches a bad use, at the same place and node
+  pub reached :
+      (given : List Bool) (site : Site) → reached_by items tree given ≡ Some site →
+      (path : List ℕ) × (bad : BadUse) × Reaches items body path given bad
+      × (site ≡ site_of (node_of items tree) bad.action)
+  -- where no free run is refused, no path meets a bad use
+  pub exact : ((given : List Bool) → reached_by items tree given ≡ None) → MeetsNone items body
+
+-- the numbers of each body's nodes rise
+abbrev pub AllNumbersRise : ProgramTree → Type 0
+AllNumbersRise program =
+    (n : ℕ) (tree : BodyTree) → slice_get program.bodies n ≡ Some tree → do_rise (numbers_of tree) ≡ true
+
+-- what it says where the graph has no fault
+abbrev pub LoweredPathsMeetExactly : Type 0
+LoweredPathsMeetExactly =
+    (program : ProgramTree) → AllNameTheirLoops program → AllNumbersRise program → IsWellFormed (graph_of program) →
+    (n : ℕ) (tree : BodyTree) → slice_get program.bodies n ≡ Some tree →
+    MeetsExactly program.items tree (body_of program.items tree)
