@@ -19,7 +19,8 @@ use Rattle.cfg_build.proofs.FormSizes.{lowered_is_small}
 use Rattle.cfg_build.proofs.Typed.{well_typed_names_loops}
 use Rattle.lowered_graphs.specs.Lowerable.{IsLowerable}
 use Rattle.lowered_graphs.proofs.Whole.{graphs_are_well_formed}
-use Rattle.lowered_paths.specs.Refused.{MeetsItsRefusals}
+use Rattle.lowered_paths.specs.Refused.{MeetsExactly, MeetsItsRefusals}
+use Rattle.lowered_paths.proofs.Exact.{lowered-paths-meet-exactly, well_typed_rise}
 use Rattle.lowered_paths.proofs.Law.{lowered-paths-meet}
 use Rattle.cfg_lower.specs.Claims.{EachBody, HasOrderedEdges, IsPrepared, IsSmall, RunsAsItsSource, WalksAsItRunsFreely}
 
@@ -84,6 +85,11 @@ module _ (program : ProgramTree) (graph : Graph) (same : graph ≡ graph_of prog
   meet typed = of_graph (EachBody (MeetsItsRefusals program.items) program)
       (each (MeetsItsRefusals program.items) program
       (λ n tree is. lowered-paths-meet program.items tree (well_typed_names_loops program typed n tree is)))
+
+  pub exact : WellTyped program → IsWellFormed graph → EachBody (MeetsExactly program.items) program graph
+  exact typed formed = of_graph (EachBody (MeetsExactly program.items) program)
+      (each (MeetsExactly program.items) program
+      (lowered-paths-meet-exactly program (well_typed_names_loops program typed) (well_typed_rise program typed) (subst IsWellFormed same formed)))
 
   pub small : EachBody IsSmall program graph
   small = of_graph (EachBody IsSmall program) (each IsSmall program (λ n tree is. lowered_is_small program.items tree))

@@ -7,7 +7,7 @@ ghost use Rattle.use_sites.specs.Listed.{ids_of, nodes_of_body};
 ghost use Rattle.well_typed.specs.Program.{WellTyped};
 ghost use Rattle.cfg_graph.specs.WellFormed.Faults.{IsWellFormed};
 ghost use Rattle.lowered_graphs.specs.Lowerable.{IsLowerable};
-ghost use Rattle.lowered_paths.specs.Refused.{MeetsItsRefusals};
+ghost use Rattle.lowered_paths.specs.Refused.{MeetsExactly, MeetsItsRefusals};
 ghost use Rattle.cfg_lower.specs.Claims.{EachBody, HasOrderedEdges, IsPrepared, IsSmall, RunsAsItsSource, WalksAsItRunsFreely};
 
 use crate::bodies::{LoweredBody, lower_body};
@@ -122,6 +122,8 @@ pub fn lower(alloc: Global, typed: &Typed) -> Result<Lowered, NoMemory>
         IsLowerable (program_of typed.now) → IsWellFormed lowered.graph) }
     ensures paths { IfOk result (λ lowered. WellTyped (program_of typed.now) →
         EachBody (MeetsItsRefusals typed.now.items) (program_of typed.now) lowered.graph) }
+    ensures exactly { IfOk result (λ lowered. WellTyped (program_of typed.now) → IsWellFormed lowered.graph →
+        EachBody (MeetsExactly typed.now.items) (program_of typed.now) lowered.graph) }
     ensures small { IfOk result (λ lowered. EachBody IsSmall (program_of typed.now) lowered.graph) }
 {
     let mut bodies = List::new(alloc);

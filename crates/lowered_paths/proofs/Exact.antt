@@ -111,7 +111,10 @@ module _ (program : ProgramTree) (named : AllNameTheirLoops program) (rises : Al
     reached = λ given site is.
         let it = (lowered-paths-meet items tree (named n tree there)).reached given site is in
         (it.0, it.1, reaches it.0 given it.1 it.2, it.3);
-    exact = λ none. ends.meets_none items body (λ path given bad r. none-some (site_of (node_of items tree) bad.action) (sym (none given) ∙ refused path given bad r));
+    exact = (
+      (lowered-paths-meet items tree (named n tree there)).accepted,
+      λ none. ends.meets_none items body (λ path given bad r. none-some (site_of (node_of items tree) bad.action) (sym (none given) ∙ refused path given bad r)),
+    );
   }
 
 pub lowered-paths-meet-exactly : LoweredPathsMeetExactly

@@ -1,5 +1,5 @@
 -- What the paths of a lowered body meet, and where the free runs of its source are refused.
-use Rattle.std.specs.Prelude.{◌≡◌, ℕ, Bool, true, List, Some, None, slice_get}
+use Rattle.std.specs.Prelude.{◌≡◌, ◌↔◌, ℕ, Bool, true, List, Some, None, slice_get}
 use Rattle.mir_ty.specs.ItemTable.{ItemTable}
 use Rattle.store_model.specs.Effects.{Site}
 use Rattle.cfg_graph.specs.declared.graph.Body.{Body}
@@ -46,8 +46,8 @@ pub record MeetsExactly (items : ItemTable) (tree : BodyTree) (body : Body) : Ty
       (given : List Bool) (site : Site) → reached_by items tree given ≡ Some site →
       (path : List ℕ) × (bad : BadUse) × Reaches items body path given bad
       × (site ≡ site_of (node_of items tree) bad.action)
-  -- where no free run is refused, no path meets a bad use
-  pub exact : ((given : List Bool) → reached_by items tree given ≡ None) → MeetsNone items body
+  -- no path meets a bad use exactly where no free run is refused
+  pub exact : MeetsNone items body ↔ ((given : List Bool) → reached_by items tree given ≡ None)
 
 -- the numbers of each body's nodes rise
 abbrev pub AllNumbersRise : ProgramTree → Type 0

@@ -7,7 +7,7 @@ ghost use Rattle.lowered_paths.specs.Refused.{LoweredPathsMeetExactly, LoweredPa
 /// program.
 ///
 /// Where the graph of a program has no fault, and the numbers of each body's nodes rise, there is no word of such values:
-/// a path reaches no bad use behind one, so where no free run is refused, no path meets a bad use.
+/// a path reaches no bad use behind one, and no path meets a bad use exactly where no free run is refused.
 pub fn law_of_lowered_paths()
     ensures meets { LoweredPathsMeetItsRefusals }
     ensures exactly { LoweredPathsMeetExactly }

@@ -5,7 +5,7 @@ use Rattle.typed_tree.specs.View.{body_of, program_of}
 use Rattle.typed_tree.specs.declared.body.TBody.{TBody}
 use Rattle.cfg_build.specs.Lower as low
 use Rattle.use_sites.specs.Listed.{of_bodies, program_sites}
-use Rattle.cfg_lower.proofs.Claimed.{behind_none, sites_behind_none, runs, walks, ordered, prepared, formed, meet, small}
+use Rattle.cfg_lower.proofs.Claimed.{behind_none, sites_behind_none, runs, walks, ordered, prepared, formed, meet, exact, small}
 use Rattle.cfg_lower.proofs.programs.lower.Goals as goal
 
 pub returns : goal.returns
@@ -31,5 +31,6 @@ returns c =
       prepared = prepared program graph is;
       well_formed = formed program graph is;
       paths = meet program graph is;
+      exactly = exact program graph is;
       small = small program graph is;
     }
