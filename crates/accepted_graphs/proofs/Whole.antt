@@ -163,7 +163,8 @@ trait_name def h =
 -- ---- the laws
 
 pub are_lowerable : AreLowerable
-are_lowerable p has w =
+are_lowerable p has =
+    let w = has.well_typed in
     let adts = map (λ (adt : Adt). adt.name) p.items.adts in
     let traits = map (λ (def : TraitDef). def.name) p.items.traits in
     let bodies = map (λ (sig : Sig). sig.name) p.items.bodies in
@@ -177,4 +178,4 @@ are_lowerable p has w =
     )
 
 pub accepted_graphs_are_well_formed : GraphsAreWellFormed
-accepted_graphs_are_well_formed p has w = graphs_are_well_formed p w (are_lowerable p has w)
+accepted_graphs_are_well_formed p has = graphs_are_well_formed p has.well_typed (are_lowerable p has)

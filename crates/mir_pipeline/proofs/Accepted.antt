@@ -1,5 +1,5 @@
 -- Where the uses of its graph stand a text is accepted, and otherwise it is not.
-use Rattle.std.proofs.Common.{◌≡◌, ◌∙◌, ℕ, List, Bool, Some, None, ap, sym, subst}
+use Rattle.std.proofs.Common.{◌≡◌, ◌∙◌, ℕ, List, Some, ap, sym, subst}
 use Rattle.std.specs.Prelude.{option_map, slice_get}
 use Rattle.std.proofs.lemmas.Option.{slice_get-map}
 use Rattle.bad_uses.specs.Reaches.{MeetsNone}
@@ -10,10 +10,13 @@ use Rattle.cfg_lower.specs.declared.programs.Lowered.{Lowered}
 use Rattle.lowered_paths.proofs.Law.{lowered-paths-meet}
 use Rattle.src_meaning.specs.Programs.{IsAccepted}
 use Rattle.typed_tree.specs.Tree.{BodyTree, ProgramTree}
-use Rattle.mir_pipeline.specs.Graphs.{HasNoGraph, IsAcceptedOf, IsLoweredOf, IsNotAccepted, RefusesUses, UsesStand}
+use Rattle.mir_pipeline.specs.Graphs.{IsAcceptedOf, IsLoweredOf, IsNotAccepted, RefusesUses, UsesStand}
+use Rattle.mir_pipeline.specs.Programs.{HasNoProgram}
+use Rattle.cfg_graph.specs.Moves.BadUses as rules
 use Rattle.mir_pipeline.proofs.Programs.{name_their_loops}
+use Rattle.mir_pipeline.proofs.Source.{refused_as}
 use Rattle.mir_pipeline.specs.declared.refusal.Refusal.{Refusal}
-use Rattle.mir_pipeline.specs.declared.refusal.Refusal.TheVariants.{Lex, Syntax, TooDeep, Broken, Faulty, U1, U2, Memory}
+use Rattle.mir_pipeline.specs.declared.refusal.Refusal.TheVariants.{Lex, Syntax, TooDeep, Broken, U1, U2, Memory}
 
 stands_in : (program : ProgramTree) → UsesStand (graph_of program) → (n : ℕ) (tree : BodyTree) → slice_get program.bodies n ≡ Some tree →
     MeetsNone program.items (body_of program.items tree)
@@ -30,22 +33,20 @@ is_accepted text lowered same (program, p, g) (is, stand) =
     subst (IsAcceptedOf text) (sym is)
     (program, p, record { lowered_is = g; uses = stand; source = source_stands program lowered.graph g.graph stand (name_their_loops text program p) })
 
-pub has_no_graph : (text : List ℕ) (r : Refusal) → HasNoGraph text r → IsNotAccepted text r
-has_no_graph text (Lex code at) h = h
-has_no_graph text (Syntax at pos) h = h
-has_no_graph text (TooDeep at pos) h = h
-has_no_graph text (Broken rule at) h = h
-has_no_graph text (Faulty fault) h = h
-has_no_graph text (U1 bad site) h = absurd h
-has_no_graph text (U2 bad site) h = absurd h
-has_no_graph text Memory h = h
+pub has_no_program : (text : List ℕ) (r : Refusal) → HasNoProgram text r → IsNotAccepted text r
+has_no_program text (Lex code at) h = h
+has_no_program text (Syntax at pos) h = h
+has_no_program text (TooDeep at pos) h = h
+has_no_program text (Broken rule at) h = h
+has_no_program text (U1 bad site) h = absurd h
+has_no_program text (U2 bad site) h = absurd h
+has_no_program text Memory h = h
 
 pub has_bad_use : (text : List ℕ) (lowered : Lowered) (r : Refusal) → IsLoweredOf text lowered → RefusesUses lowered r → IsNotAccepted text r
 has_bad_use text lowered (Lex code at) l h = absurd h
 has_bad_use text lowered (Syntax at pos) l h = absurd h
 has_bad_use text lowered (TooDeep at pos) l h = absurd h
 has_bad_use text lowered (Broken rule at) l h = absurd h
-has_bad_use text lowered (Faulty fault) l h = absurd h
-has_bad_use text lowered (U1 bad site) l h = (lowered, l, h)
-has_bad_use text lowered (U2 bad site) l h = (lowered, l, h)
+has_bad_use text lowered (U1 bad site) (program, p, g) h = (program, lowered, p, refused_as program lowered g rules.U1 bad site h)
+has_bad_use text lowered (U2 bad site) (program, p, g) h = (program, lowered, p, refused_as program lowered g rules.U2 bad site h)
 has_bad_use text lowered Memory l h = tt

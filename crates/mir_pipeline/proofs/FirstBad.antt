@@ -9,7 +9,7 @@ use Rattle.cfg_graph.specs.Moves.BadUses.{UseRule, U1, U2}
 use Rattle.move_errors.specs.Refusal.{IsRefused, IsRefusal}
 use Rattle.move_errors.specs.declared.errors.BadUse.{BadUse}
 use Rattle.move_errors.specs.declared.errors.UseError.{UseError}
-use Rattle.mir_pipeline.specs.Faults.{HasFirstBad}
+use Rattle.mir_pipeline.specs.Building.{HasFirstBad}
 use Rattle.mir_pipeline.specs.Graphs.{IsFirstBad, UsesStand}
 
 -- no body before this number meets a bad use

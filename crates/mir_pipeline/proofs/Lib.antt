@@ -1,10 +1,10 @@
 pub mod Accepted
 pub mod Counted
-pub mod Faulty
 pub mod Fewer
 pub mod Finding
 pub mod FirstBad
 pub mod Programs
 pub mod Refusals
 pub mod Sited
+mod Source
 pub mod Unread

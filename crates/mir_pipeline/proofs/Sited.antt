@@ -14,8 +14,8 @@ use Rattle.cfg_graph.specs.Moves.BadUses.{UseRule}
 use Rattle.cfg_graph.specs.WellFormed.Faults.{IsCounted, IsWellFormed}
 use Rattle.cfg_lower.specs.Claims.{EachBody, RunsAsItsSource, WalksAsItRunsFreely}
 use Rattle.cfg_lower.specs.declared.programs.Lowered.{Lowered}
-use Rattle.lowered_paths.specs.Refused.{MeetsItsRefusals}
-use Rattle.lowered_paths.proofs.Law.{lowered-paths-meet}
+use Rattle.lowered_paths.specs.Refused.{MeetsExactly}
+use Rattle.lowered_paths.proofs.Exact.{lowered-paths-meet-exactly}
 use Rattle.lowered_uses.specs.Told as told
 use Rattle.lowered_uses.specs.Told.{Line, has_site}
 use Rattle.lowered_uses.proofs.Law.{lowered_uses_have_sites}
@@ -26,7 +26,8 @@ use Rattle.move_paths.specs.declared.uses.Use.{Use}
 use Rattle.typed_tree.specs.Tree.{BodyTree, ProgramTree}
 use Rattle.use_sites.specs.Listed.{program_sites}
 use Rattle.use_sites.specs.declared.site.Site.{Site}
-use Rattle.mir_pipeline.specs.Graphs.{AreSited, IsFirstBad, IsGraphOf, behind_drop, told_by, is_drop, block_of, line_told, stands_at, site_of}
+use Rattle.mir_pipeline.specs.Building.{HasGraph}
+use Rattle.mir_pipeline.specs.Graphs.{AreSited, IsFirstBad, IsGraphOf, behind_drop, told_by, is_drop, block_of, line_told, stands_at}
 use Rattle.mir_pipeline.specs.declared.uses.LineOfUse.{LineOfUse}
 
 -- ---- a bad use has a site
@@ -96,23 +97,23 @@ each : (P : BodyTree → Body → Type 0) (program : ProgramTree) → ((n : ℕ)
 each P program holds n tree there =
     (body_of program.items tree, (slice_get-map (body_of program.items) program.bodies n ∙ ap (option_map (body_of program.items)) there, holds n tree there))
 
--- the graph that was made of a program, and has no fault
-pub is_graph : (program : ProgramTree) → AllNameTheirLoops program → (lowered same : Lowered) → lowered.graph ≡ graph_of program → lowered.sites ≡ program_sites program →
-    (same ≡ lowered) × IsWellFormed same.graph × IsCounted same.graph → IsGraphOf program same
-is_graph program named lowered same graph sites (is, well_formed, counted) =
+-- the graph that was made of a program
+pub is_graph : (program : ProgramTree) → HasGraph program → (lowered same : Lowered) → lowered.graph ≡ graph_of program → lowered.sites ≡ program_sites program →
+    (same ≡ lowered) × IsCounted same.graph → IsGraphOf program same
+is_graph program (named, rises, well_formed) lowered same graph sites (is, counted) =
     let made = ap (λ (l : Lowered). l.graph) is ∙ graph in
     let listed = ap (λ (l : Lowered). l.sites) is ∙ sites in
     record {
       graph = made;
       sites = listed;
-      well_formed = well_formed;
+      well_formed = subst IsWellFormed (sym made) well_formed;
       counted = counted;
       values = subst (RunsAsItsSource program) (sym made) (lowered_runs_as_its_source program named);
       free =
           subst (EachBody (WalksAsItRunsFreely program.items) program) (sym made)
           (each (WalksAsItRunsFreely program.items) program (λ n tree there. lowered_walks_as_it_runs_freely program.items tree (named n tree there)));
       paths =
-          subst (EachBody (MeetsItsRefusals program.items) program) (sym made)
-          (each (MeetsItsRefusals program.items) program (λ n tree there. lowered-paths-meet program.items tree (named n tree there)));
+          subst (EachBody (MeetsExactly program.items) program) (sym made)
+          (each (MeetsExactly program.items) program (lowered-paths-meet-exactly program named rises well_formed));
       sited = sited program named same made listed;
     }

@@ -1,26 +1,25 @@
--- The raw graph of a text, the uses that it refuses, and why a text has no graph, or none that is accepted.
-use Rattle.std.specs.Prelude.{◌≡◌, ◌<◌, ◌==◌, ℕ, Bool, true, false, ◌&&◌, List, Option, Some, slice_get, ⊤, find, is_some, option_and_then}
-use Rattle.std.specs.Option.{option_map_or}
-use Rattle.bad_uses.specs.Reaches.{MeetsNone}
-use Rattle.cfg_build.specs.Lower.{graph_of}
+-- The raw graph of a text, the uses that it refuses, and why a text has none that is accepted.
+use Rattle.std.specs.Prelude.{◌≡◌, ◌<◌, ◌==◌, ℕ, Bool, true, false, ◌&&◌, List, map, Option, Some, None, slice_get, ⊤, find, is_some, option_and_then}
+use Rattle.bad_uses.specs.Reaches.{MeetsNone, IsLeast}
+use Rattle.bad_uses.specs.Runs.{number_of}
+use Rattle.cfg_build.specs.Lower.{graph_of, node_of}
 use Rattle.cfg_graph.specs.declared.graph.Block.{Block}
 use Rattle.cfg_graph.specs.declared.graph.Body.{Body}
 use Rattle.cfg_graph.specs.declared.graph.Graph.{Graph}
-use Rattle.cfg_graph.specs.declared.graph.GraphFault.{GraphFault}
 use Rattle.cfg_graph.specs.declared.terminator.Term.{Term}
 use Rattle.cfg_graph.specs.Moves.BadUses.{UseRule, U1, U2}
-use Rattle.cfg_graph.specs.WellFormed.Faults.{IsCounted, IsWellFormed, first_fault}
+use Rattle.cfg_graph.specs.Places.{named}
+use Rattle.cfg_graph.specs.WellFormed.Faults.{IsCounted, IsWellFormed}
 use Rattle.cfg_lower.specs.Claims.{EachBody, RunsAsItsSource, WalksAsItRunsFreely}
 use Rattle.cfg_lower.specs.declared.programs.Lowered.{Lowered}
-use Rattle.lowered_paths.specs.Refused.{MeetsItsRefusals}
+use Rattle.lowered_paths.specs.Refused.{MeetsExactly}
 use Rattle.move_errors.specs.Refusal.{IsRefused}
 use Rattle.move_errors.specs.declared.errors.BadUse.{BadUse}
 use Rattle.move_paths.specs.declared.uses.Use.{Use}
-use Rattle.src_meaning.specs.Programs.{IsAccepted}
-use Rattle.typed_tree.specs.Tree.{ProgramTree}
+use Rattle.src_meaning.specs.Programs.{IsAccepted, reached_by}
+use Rattle.typed_tree.specs.Tree.{BodyTree, ProgramTree}
 use Rattle.use_sites.specs.Listed.{program_sites}
 use Rattle.use_sites.specs.declared.site.Site.{Site}
-use Rattle.well_typed.specs.Program.{WellTyped}
 use Rattle.mir_pipeline.specs.Programs.{IsProgramOf, HasNoProgram}
 use Rattle.mir_pipeline.specs.declared.refusal.Refusal.{Refusal}
 use Rattle.mir_pipeline.specs.declared.refusal.Refusal.TheVariants as refusal
@@ -66,8 +65,8 @@ abbrev pub AreSited : Lowered → Type 0
 AreSited lowered = (rule : UseRule) (bad : BadUse) → IsFirstBad lowered.graph rule bad → is_some (site_of lowered bad) ≡ true
 
 -- The raw graph of a program, with the sites of its uses. It is well formed, and its lists are short. It runs as the
--- program does, up to the place where both are stuck; each body walks as it runs freely, its paths meet the refused uses
--- of its free runs, and each bad use has a site.
+-- program does, up to the place where both are stuck; each body walks as it runs freely, its paths meet exactly the
+-- refused uses of its free runs, and each bad use has a site.
 pub record IsGraphOf (program : ProgramTree) (lowered : Lowered) : Type 0 where
   pub graph : lowered.graph ≡ graph_of program
   pub sites : lowered.sites ≡ program_sites program
@@ -75,7 +74,7 @@ pub record IsGraphOf (program : ProgramTree) (lowered : Lowered) : Type 0 where
   pub counted : IsCounted lowered.graph
   pub values : RunsAsItsSource program lowered.graph
   pub free : EachBody (WalksAsItRunsFreely program.items) program lowered.graph
-  pub paths : EachBody (MeetsItsRefusals program.items) program lowered.graph
+  pub paths : EachBody (MeetsExactly program.items) program lowered.graph
   pub sited : AreSited lowered
 
 -- the raw graph of a text's program
@@ -101,6 +100,22 @@ pub record IsBadAt (lowered : Lowered) (rule : UseRule) (bad : BadUse) (site : S
   pub is_bad : IsFirstBad lowered.graph rule bad
   pub told : site_of lowered bad ≡ Some site
 
+-- The same use in the source: with the choices of the refusal the free run of its body is refused, at the use's place and
+-- the node of its line. Of all lists of choices by which a free run of that body is refused this is a shortest one, and
+-- the least of the shortest; and no free run of an earlier body is refused.
+pub record IsRefusedInSource (program : ProgramTree) (bad : BadUse) : Type 0 where
+  pub tree : BodyTree
+  pub there : slice_get program.bodies bad.body ≡ Some tree
+  pub given : List Bool
+  pub answers : bad.answers ≡ map number_of given
+  pub refused :
+      reached_by program.items tree given
+      ≡ Some (record { node = node_of program.items tree bad.block bad.line; place = named bad.place })
+  pub least : (other : List Bool) → is_some (reached_by program.items tree other) ≡ true → IsLeast given other
+  pub first :
+      (n : ℕ) (earlier : BodyTree) (list : List Bool) → n < bad.body → slice_get program.bodies n ≡ Some earlier →
+      reached_by program.items earlier list ≡ None
+
 -- why the uses of a graph are refused
 abbrev pub RefusesUses : Lowered → Refusal → Type 0
 RefusesUses lowered (refusal.U1 bad site) = IsBadAt lowered U1 bad site
@@ -108,23 +123,20 @@ RefusesUses lowered (refusal.U2 bad site) = IsBadAt lowered U2 bad site
 RefusesUses lowered refusal.Memory = ⊤
 RefusesUses lowered other = ⊥
 
--- ---- why a text has no graph, and why it has none that is accepted
+-- ---- why a text has no graph that is accepted
 
--- The graph of its program has a fault, so the program is not well typed. That there is no such text is not proved yet.
-abbrev pub HasFaultyGraph : List ℕ → GraphFault → Type 0
-HasFaultyGraph text fault =
-    (program : ProgramTree) × IsProgramOf text program × (first_fault (graph_of program) ≡ Some fault)
-    × (¬ WellTyped program)
+-- The raw graph of a program that is not accepted: a use of it is refused, which a free run of the source meets.
+pub record IsRefusedAs (program : ProgramTree) (lowered : Lowered) (rule : UseRule) (bad : BadUse) (site : Site) : Type 0 where
+  pub lowered_is : IsGraphOf program lowered
+  pub refused : IsBadAt lowered rule bad site
+  pub source : IsRefusedInSource program bad
+  pub not_accepted : ¬ IsAccepted program
 
-abbrev pub HasNoGraph : List ℕ → Refusal → Type 0
-HasNoGraph text (refusal.Faulty fault) = HasFaultyGraph text fault
-HasNoGraph text other = HasNoProgram text other
-
--- it has a graph whose uses are refused
-abbrev pub HasBadUse : List ℕ → Refusal → Type 0
-HasBadUse text why = (lowered : Lowered) × IsLoweredOf text lowered × RefusesUses lowered why
+abbrev pub HasBadUse : List ℕ → UseRule → BadUse → Site → Type 0
+HasBadUse text rule bad site =
+    (program : ProgramTree) × (lowered : Lowered) × IsProgramOf text program × IsRefusedAs program lowered rule bad site
 
 abbrev pub IsNotAccepted : List ℕ → Refusal → Type 0
-IsNotAccepted text (refusal.U1 bad site) = HasBadUse text (refusal.U1 bad site)
-IsNotAccepted text (refusal.U2 bad site) = HasBadUse text (refusal.U2 bad site)
-IsNotAccepted text other = HasNoGraph text other
+IsNotAccepted text (refusal.U1 bad site) = HasBadUse text U1 bad site
+IsNotAccepted text (refusal.U2 bad site) = HasBadUse text U2 bad site
+IsNotAccepted text other = HasNoProgram text other

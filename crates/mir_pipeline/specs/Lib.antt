@@ -1,5 +1,5 @@
+pub mod Building
 pub mod Counts
-pub mod Faults
 pub mod Graphs
 pub mod Programs
 pub mod Trees

@@ -2,7 +2,6 @@ ghost use Rattle.std.specs.Prelude.{◌≡◌};
 ghost use Rattle.mir_pipeline.specs.declared.refusal.Refusal.{Refusal};
 ghost use Rattle.mir_pipeline.specs.Trees.{refusal_of, of_rule, of_tokens};
 
-use cfg_graph::GraphFault;
 use mir_base::{Pos, Rule, RuleError};
 use move_errors::BadUse;
 use src_parse::ParseError;
@@ -25,9 +24,6 @@ pub enum Refusal {
     TooDeep { at: u32, pos: Pos },
     /// The tree breaks this rule of typing, and none before it.
     Broken { rule: Rule, at: Pos },
-    /// The raw graph of the program has this fault, which that of a well typed program has not. That the program of a
-    /// text is well typed is not proved as a whole yet; once it is, this variant goes.
-    Faulty(GraphFault),
     /// A place is used that is gone there, or a container or a part of it; with the site of the use in the text.
     U1 { bad: BadUse, site: Site },
     /// A place is stored into of which a container is gone there; with the site of the store in the text.
@@ -43,7 +39,6 @@ impl fmt::Display for Refusal {
             Refusal::Syntax { .. } => "no text of the language goes on so",
             Refusal::TooDeep { .. } => "the text is nested too deep",
             Refusal::Broken { .. } => "the program breaks a rule of the language",
-            Refusal::Faulty(_) => "the graph of the program has a fault",
             Refusal::U1 { .. } => "the program uses what is gone",
             Refusal::U2 { .. } => "the program stores into a part of what is gone",
             Refusal::Memory => "out of memory",

@@ -4,6 +4,7 @@ ghost use Rattle.src_tree.specs.View as view;
 ghost use Rattle.type_check.specs.Checks.{Checks};
 ghost use Rattle.typed_tree.specs.View.{program_of};
 ghost use Rattle.typing_rules.specs.Borrows as rules;
+ghost use Rattle.well_typed.specs.Program.{WellTyped};
 ghost use Rattle.mir_pipeline.specs.Programs.{HasNoProgram, IsProgramOf};
 
 use crate::reading::read_tree;
@@ -38,14 +39,9 @@ fn of_tree(alloc: Global, tree: &Tree) -> Result<Typed, RuleError>
     borrowed(alloc, typed)
 }
 
-/// The typed program of a text of at most 4,294,967,294 bytes that breaks no rule.
-///
-/// # Errors
-///
-/// As [`read_tree`] where the text has no tree; otherwise [`Refusal::Broken`] with the first broken rule: of the items
-/// and their names, then of heads and bodies, then of borrows.
+/// The typed program of a text, by the rules of items, bodies and borrows.
 #[tactic(auto, using(crate::proofs::Unread::no_program, crate::proofs::Unread::broken_rule))]
-pub fn read_typed(alloc: Global, text: &[u8]) -> Result<Typed, Refusal>
+fn read_program(alloc: Global, text: &[u8]) -> Result<Typed, Refusal>
     requires { length text.now < 2 ^ 32 - 1 }
     ensures typed { IfOk result (λ typed. IsProgramOf text.now (program_of typed)) }
     ensures refused { IfErr result (λ refusal. HasNoProgram text.now refusal) }
@@ -57,4 +53,20 @@ pub fn read_typed(alloc: Global, text: &[u8]) -> Result<Typed, Refusal>
         Ok(typed) => Ok(typed),
         Err(e) => Err(Refusal::from(e)),
     }
+}
+
+/// The typed program of a text of at most 4,294,967,294 bytes that breaks no rule. It is well typed.
+///
+/// # Errors
+///
+/// As [`read_tree`] where the text has no tree; otherwise [`Refusal::Broken`] with the first broken rule: of the items
+/// and their names, then of heads and bodies, then of borrows.
+#[tactic(auto, using(crate::proofs::Programs::typed_result))]
+pub fn read_typed(alloc: Global, text: &[u8]) -> Result<Typed, Refusal>
+    requires { length text.now < 2 ^ 32 - 1 }
+    ensures typed { IfOk result (λ typed. IsProgramOf text.now (program_of typed)) }
+    ensures well_typed { IfOk result (λ typed. WellTyped (program_of typed)) }
+    ensures refused { IfErr result (λ refusal. HasNoProgram text.now refusal) }
+{
+    read_program(alloc, text)
 }

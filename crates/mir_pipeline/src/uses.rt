@@ -4,7 +4,7 @@ ghost use Rattle.std.specs.Option.{option_copied};
 ghost use Rattle.cfg_graph.specs.WellFormed.Faults.{IsCounted, IsWellFormed};
 ghost use Rattle.mir_pipeline.specs.Graphs as graphs;
 ghost use Rattle.mir_pipeline.specs.Graphs.{AreSited, IsAcceptedOf, IsFirstBad, IsNotAccepted, RefusesUses, UsesStand};
-ghost use Rattle.mir_pipeline.specs.Faults.{HasFirstBad};
+ghost use Rattle.mir_pipeline.specs.Building.{HasFirstBad};
 ghost use Rattle.cfg_graph.specs.Moves.BadUses.{U1, U2};
 
 use crate::graphs::build_raw;
@@ -200,8 +200,9 @@ fn accepted(alloc: Global, lowered: Lowered) -> Result<Lowered, Refusal>
 ///
 /// # Errors
 ///
-/// As [`build_raw`] where the text has no graph, and otherwise as [`checked_uses`].
-#[tactic(auto, using(crate::proofs::Accepted::has_no_graph, crate::proofs::Accepted::has_bad_use))]
+/// As [`build_raw`] where the text has no graph, and otherwise as [`checked_uses`]: then the program is not accepted,
+/// since with the same choices the free run of that body is refused.
+#[tactic(auto, using(crate::proofs::Accepted::has_no_program, crate::proofs::Accepted::has_bad_use))]
 pub fn checked(alloc: Global, text: &[u8]) -> Result<Lowered, Refusal>
     requires { length text.now < 2 ^ 32 - 1 }
     ensures accepted { IfOk result (λ lowered. IsAcceptedOf text.now lowered) }

@@ -1,12 +1,9 @@
 -- No text is owed a status of failure.
 use Rattle.std.proofs.Common.{◌≡◌, ℕ, List, arith, ap, sym, ◌∙◌, subst}
 use Rattle.mir_base.specs.declared.trace.End.{End}
-use Rattle.mir_pipeline.specs.declared.refusal.Refusal.{Refusal}
-use Rattle.mir_pipeline.specs.declared.refusal.Refusal.TheVariants.{Lex, Syntax, TooDeep, Broken, Faulty, U1, U2, Memory}
 use Rattle.program_words.specs.declared.request.Command.{Command}
 use Rattle.program_words.specs.declared.request.Request.{Request}
-use Rattle.mirdrop_program.specs.Owed.{Owed, owed_by, OwedByCheck, OwedByRaw, OwedByRun, OwedByExec, accepted, not_accepted, listed, listed_with_use, no_graph, ran, not_run, executed, no_listing, end_status}
-use Rattle.mirdrop_program.specs.Refusals.{refusal_status}
+use Rattle.mirdrop_program.specs.Owed.{Owed, owed_by, OwedByCheck, OwedByRaw, OwedByRun, OwedByExec, accepted, not_accepted, listed, listed_with_use, no_program, ran, not_run, executed, no_listing, end_status}
 
 -- the statuses of failures
 pub record IsAnswer (status : ℕ) : Type 0 where
@@ -21,9 +18,6 @@ zero_is_answer = record { no_words = λ h. omega arith; no_read_fault = λ h. om
 one_is_answer : IsAnswer 1
 one_is_answer = record { no_words = λ h. omega arith; no_read_fault = λ h. omega arith; no_write_fault = λ h. omega arith; not_long = λ h. omega arith }
 
-seventy_is_answer : IsAnswer 70
-seventy_is_answer = record { no_words = λ h. omega arith; no_read_fault = λ h. omega arith; no_write_fault = λ h. omega arith; not_long = λ h. omega arith }
-
 end_is_answer : (e : End) → IsAnswer (end_status e)
 end_is_answer End.Returned = zero_is_answer
 end_is_answer End.Panicked = record { no_words = λ h. omega arith; no_read_fault = λ h. omega arith; no_write_fault = λ h. omega arith; not_long = λ h. omega arith }
@@ -31,30 +25,20 @@ end_is_answer End.Aborted = record { no_words = λ h. omega arith; no_read_fault
 end_is_answer End.OutOfTicks = record { no_words = λ h. omega arith; no_read_fault = λ h. omega arith; no_write_fault = λ h. omega arith; not_long = λ h. omega arith }
 end_is_answer (End.Stuck body block) = record { no_words = λ h. omega arith; no_read_fault = λ h. omega arith; no_write_fault = λ h. omega arith; not_long = λ h. omega arith }
 
-refusal_is_answer : (r : Refusal) → IsAnswer (refusal_status r)
-refusal_is_answer (Lex code at) = one_is_answer
-refusal_is_answer (Syntax at pos) = one_is_answer
-refusal_is_answer (TooDeep at pos) = one_is_answer
-refusal_is_answer (Broken rule at) = one_is_answer
-refusal_is_answer (Faulty fault) = seventy_is_answer
-refusal_is_answer (U1 bad site) = one_is_answer
-refusal_is_answer (U2 bad site) = one_is_answer
-refusal_is_answer Memory = one_is_answer
-
 by_check : (text : List ℕ) (status : ℕ) (written : List ℕ) → OwedByCheck text status written → IsAnswer status
 by_check text status written (accepted lowered is) = zero_is_answer
-by_check text status written (not_accepted why is told) = refusal_is_answer why
+by_check text status written (not_accepted why is told) = one_is_answer
 
 by_raw : (text : List ℕ) (status : ℕ) (written : List ℕ) → OwedByRaw text status written → IsAnswer status
-by_raw text status written (listed lowered is stand) = zero_is_answer
-by_raw text status written (listed_with_use lowered is why refuses of_use) = zero_is_answer
-by_raw text status written (no_graph why is told) = refusal_is_answer why
+by_raw text status written (listed lowered is) = zero_is_answer
+by_raw text status written (listed_with_use lowered is why refuses of_use refused) = zero_is_answer
+by_raw text status written (no_program why is told) = one_is_answer
 
 by_command : (command : Command) (request : Request) (text : List ℕ) (status : ℕ) (written : List ℕ) → owed_by command request text status written → IsAnswer status
 by_command Command.Check request text status written owed = by_check text status written owed
 by_command Command.Raw request text status written owed = by_raw text status written owed
 by_command Command.Run request text status written (ran lowered is) = end_is_answer _
-by_command Command.Run request text status written (not_run why is told) = refusal_is_answer why
+by_command Command.Run request text status written (not_run why is told) = one_is_answer
 by_command Command.Exec request text status written (executed graph is) = end_is_answer _
 by_command Command.Exec request text status written (no_listing error is told) = one_is_answer
 

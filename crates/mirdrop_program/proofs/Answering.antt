@@ -12,7 +12,7 @@ use Rattle.mir_pipeline.specs.declared.refusal.Refusal.{Refusal}
 use Rattle.program_words.specs.declared.request.Command.{Command}
 use Rattle.program_words.specs.declared.request.Request.{Request}
 use Rattle.mirdrop_program.specs.Owed.{Owed, owed_by, OwedByRun, OwedByExec, ran, not_run, executed, no_listing, end_status}
-use Rattle.mirdrop_program.specs.Refusals.{IsTold, IsToldError, error_line, refusal_lines, refusal_status}
+use Rattle.mirdrop_program.specs.Refusals.{IsTold, IsToldError, error_line, refusal_lines}
 use Rattle.mirdrop_program.specs.TopCall.{Responded, owing, cut_short, wanting, writes_a_trace}
 use Rattle.mirdrop_program.specs.Written.{HandedOn, Ran, ran as ran_whole, cut}
 use Rattle.mirdrop_program.specs.declared.answers.Answer.{Answer}
@@ -57,9 +57,9 @@ module _ (request : Request) (text : List ℕ) (taken taken_after : Option (List
       (subst writes_by (sym is) refl) done
 
 pub run_refused : (text : List ℕ) (asks : List ℤ) (ticks : ℕ) (why : Refusal) (status : ℕ) (written : List ℕ) → IsNotAccepted text why → IsTold why →
-    status ≡ refusal_status why → written ≡ refusal_lines why → OwedByRun text asks ticks status written
+    status ≡ 1 → written ≡ refusal_lines why → OwedByRun text asks ticks status written
 run_refused text asks ticks why status written is told s w =
-    as_said (OwedByRun text asks ticks) status (refusal_status why) written (refusal_lines why) s w (not_run why is told)
+    as_said (OwedByRun text asks ticks) status 1 written (refusal_lines why) s w (not_run why is told)
 
 pub exec_refused : (text : List ℕ) (asks : List ℤ) (ticks : ℕ) (error : ListingError) (status : ℕ) (written : List ℕ) → AnswersListing text (Err error) → IsToldError error →
     status ≡ 1 → written ≡ error_line error → OwedByExec text asks ticks status written

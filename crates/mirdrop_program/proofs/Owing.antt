@@ -3,12 +3,14 @@ use Rattle.std.proofs.Common.{◌≡◌, ℕ, List, ◌++◌, sym, subst, refl, 
 use Rattle.std.proofs.lemmas.List.Elements.{All-weaker}
 use Rattle.cfg_graph.specs.declared.graph.Graph.{Graph}
 use Rattle.cfg_graph.specs.WellFormed.Faults.{IsCounted, IsCountedBody}
-use Rattle.mir_pipeline.specs.Graphs.{HasNoGraph, IsAcceptedOf, IsLoweredOf, IsNotAccepted, RefusesUses, UsesStand}
+use Rattle.mir_pipeline.proofs.Accepted.{is_accepted, has_bad_use}
+use Rattle.mir_pipeline.specs.Graphs.{IsAcceptedOf, IsLoweredOf, IsNotAccepted, RefusesUses, UsesStand}
+use Rattle.mir_pipeline.specs.Programs.{HasNoProgram}
 use Rattle.mir_pipeline.specs.declared.refusal.Refusal.{Refusal}
 use Rattle.cfg_lower.specs.declared.programs.Lowered.{Lowered}
 use Rattle.mir_text.specs.Listing.{IsShortBody, IsShortGraph, listing}
-use Rattle.mirdrop_program.specs.Owed.{OwedByCheck, OwedByRaw, accepted, not_accepted, listed, listed_with_use, no_graph, accepted_line, IsOfUse}
-use Rattle.mirdrop_program.specs.Refusals.{IsTold, refusal_lines, refusal_status}
+use Rattle.mirdrop_program.specs.Owed.{OwedByCheck, OwedByRaw, accepted, not_accepted, listed, listed_with_use, no_program, accepted_line, IsOfUse}
+use Rattle.mirdrop_program.specs.Refusals.{IsTold, refusal_lines}
 
 -- what is said of a status and of a text says it of what equals them
 pub as_said : (Says : ℕ → List ℕ → Type 0) (status same_status : ℕ) (text same_text : List ℕ) → status ≡ same_status → text ≡ same_text →
@@ -20,25 +22,25 @@ pub check_accepted : (text : List ℕ) (lowered : Lowered) (status : ℕ) (writt
     OwedByCheck text status written
 check_accepted text lowered status written is s w = as_said (OwedByCheck text) status 0 written accepted_line s w (accepted lowered is)
 
-pub check_refused : (text : List ℕ) (why : Refusal) (status : ℕ) (written : List ℕ) → IsNotAccepted text why → IsTold why → status ≡ refusal_status why → written ≡ refusal_lines why →
+pub check_refused : (text : List ℕ) (why : Refusal) (status : ℕ) (written : List ℕ) → IsNotAccepted text why → IsTold why → status ≡ 1 → written ≡ refusal_lines why →
     OwedByCheck text status written
 check_refused text why status written is told s w =
-    as_said (OwedByCheck text) status (refusal_status why) written (refusal_lines why) s w (not_accepted why is told)
+    as_said (OwedByCheck text) status 1 written (refusal_lines why) s w (not_accepted why is told)
 
 pub raw_listed : (text : List ℕ) (lowered : Lowered) (status : ℕ) (written : List ℕ) → IsLoweredOf text lowered → UsesStand lowered.graph → status ≡ 0 → written ≡ listing lowered.graph →
     OwedByRaw text status written
 raw_listed text lowered status written is stand s w =
-    as_said (OwedByRaw text) status 0 written (listing lowered.graph) s w (listed lowered is stand)
+    as_said (OwedByRaw text) status 0 written (listing lowered.graph) s w (listed lowered (is_accepted text lowered lowered is (refl, stand)))
 
 pub raw_with_use : (text : List ℕ) (lowered : Lowered) (why : Refusal) (status : ℕ) (written : List ℕ) → IsLoweredOf text lowered → RefusesUses lowered why → IsOfUse why →
     status ≡ 0 → written ≡ listing lowered.graph ++ refusal_lines why → OwedByRaw text status written
 raw_with_use text lowered why status written is refuses of_use s w =
-    as_said (OwedByRaw text) status 0 written (listing lowered.graph ++ refusal_lines why) s w (listed_with_use lowered is why refuses of_use)
+    as_said (OwedByRaw text) status 0 written (listing lowered.graph ++ refusal_lines why) s w (listed_with_use lowered is why refuses of_use (has_bad_use text lowered why is refuses))
 
-pub raw_refused : (text : List ℕ) (why : Refusal) (status : ℕ) (written : List ℕ) → HasNoGraph text why → IsTold why → status ≡ refusal_status why → written ≡ refusal_lines why →
+pub raw_refused : (text : List ℕ) (why : Refusal) (status : ℕ) (written : List ℕ) → HasNoProgram text why → IsTold why → status ≡ 1 → written ≡ refusal_lines why →
     OwedByRaw text status written
 raw_refused text why status written is told s w =
-    as_said (OwedByRaw text) status (refusal_status why) written (refusal_lines why) s w (no_graph why is told)
+    as_said (OwedByRaw text) status 1 written (refusal_lines why) s w (no_program why is told)
 
 pub short_graph : (graph : Graph) → IsCounted graph → IsShortGraph graph
 short_graph graph c = record {

@@ -8,13 +8,14 @@ use Rattle.listing_answers.specs.declared.error.ListingError.{ListingError}
 use Rattle.mir_base.specs.declared.trace.End.{End}
 use Rattle.mir_base.specs.Lines.{line}
 use Rattle.mir_machine.specs.Runs.{run_text}
-use Rattle.mir_pipeline.specs.Graphs.{HasNoGraph, IsAcceptedOf, IsBadAt, IsLoweredOf, IsNotAccepted, RefusesUses, UsesStand}
+use Rattle.mir_pipeline.specs.Graphs.{IsAcceptedOf, IsLoweredOf, IsNotAccepted, RefusesUses}
+use Rattle.mir_pipeline.specs.Programs.{HasNoProgram}
 use Rattle.mir_pipeline.specs.declared.refusal.Refusal.{Refusal}
 use Rattle.mir_pipeline.specs.declared.refusal.Refusal.TheVariants.{U1, U2}
 use Rattle.mir_text.specs.Listing.{listing}
 use Rattle.program_words.specs.declared.request.Command.{Command}
 use Rattle.program_words.specs.declared.request.Request.{Request}
-use Rattle.mirdrop_program.specs.Refusals.{IsTold, IsToldError, error_line, refusal_lines, refusal_status}
+use Rattle.mirdrop_program.specs.Refusals.{IsTold, IsToldError, error_line, refusal_lines}
 
 -- the status of a run, by its end
 abbrev pub end_status : End → ℕ
@@ -27,7 +28,7 @@ end_status (End.Stuck body block) = 13
 abbrev pub accepted_line : List ℕ
 accepted_line = line (codes "accepted")
 
--- a refusal of a use, and not of what is wrong inside
+-- a refusal of a use
 abbrev pub IsOfUse : Refusal → Type 0
 IsOfUse (U1 bad site) = ⊤
 IsOfUse (U2 bad site) = ⊤
@@ -38,15 +39,14 @@ module _ (text : List ℕ) where
   pub data OwedByCheck : ℕ → List ℕ → Type 0 where
     accepted : (lowered : Lowered) → IsAcceptedOf text lowered → OwedByCheck 0 accepted_line
     not_accepted : (why : Refusal) → IsNotAccepted text why → IsTold why →
-        OwedByCheck (refusal_status why) (refusal_lines why)
+        OwedByCheck 1 (refusal_lines why)
 
   -- `raw`: the listing of its raw graph; where a use of it is bad, the lines of that are behind it
   pub data OwedByRaw : ℕ → List ℕ → Type 0 where
-    listed : (lowered : Lowered) → IsLoweredOf text lowered → UsesStand lowered.graph →
-        OwedByRaw 0 (listing lowered.graph)
+    listed : (lowered : Lowered) → IsAcceptedOf text lowered → OwedByRaw 0 (listing lowered.graph)
     listed_with_use : (lowered : Lowered) → IsLoweredOf text lowered → (why : Refusal) → RefusesUses lowered why →
-        IsOfUse why → OwedByRaw 0 (listing lowered.graph ++ refusal_lines why)
-    no_graph : (why : Refusal) → HasNoGraph text why → IsTold why → OwedByRaw (refusal_status why) (refusal_lines why)
+        IsOfUse why → IsNotAccepted text why → OwedByRaw 0 (listing lowered.graph ++ refusal_lines why)
+    no_program : (why : Refusal) → HasNoProgram text why → IsTold why → OwedByRaw 1 (refusal_lines why)
 
   -- `run`: the trace of its raw graph, where the program is accepted
   pub data OwedByRun (asks : List ℤ) (ticks : ℕ) : ℕ → List ℕ → Type 0 where
@@ -54,7 +54,7 @@ module _ (text : List ℕ) where
         OwedByRun asks ticks (end_status (raw_graph_run lowered.graph asks ticks).1)
         (run_text lowered.graph (raw_graph_run lowered.graph asks ticks))
     not_run : (why : Refusal) → IsNotAccepted text why → IsTold why →
-        OwedByRun asks ticks (refusal_status why) (refusal_lines why)
+        OwedByRun asks ticks 1 (refusal_lines why)
 
   -- `exec`: the trace of the graph that the text lists
   pub data OwedByExec (asks : List ℤ) (ticks : ℕ) : ℕ → List ℕ → Type 0 where

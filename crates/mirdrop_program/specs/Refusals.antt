@@ -1,24 +1,18 @@
--- The lines of a refusal, and the status that goes with them.
+-- The lines of a refusal.
 use Rattle.std.specs.Prelude.{ℕ, List, [], ◌++◌, ⊤, codes}
 use Rattle.listing_answers.specs.declared.error.ListingError.{ListingError}
 use Rattle.mir_pipeline.specs.declared.refusal.Refusal.{Refusal}
 use Rattle.mir_pipeline.specs.declared.refusal.Refusal.TheVariants as refusal
-use Rattle.program_lines.specs.Lines.{fault_line, graph_line, lex_words, listing_line, refused_at, rule_words, store_line, use_line, way_lines}
+use Rattle.program_lines.specs.Lines.{graph_line, lex_words, listing_line, refused_at, rule_words, store_line, use_line, way_lines}
 
 abbrev pub refusal_lines : Refusal → List ℕ
 refusal_lines (refusal.Lex code at) = refused_at (lex_words code) at
 refusal_lines (refusal.Syntax at pos) = refused_at (codes "6 Syntax") pos
 refusal_lines (refusal.TooDeep at pos) = refused_at (codes "7 TooDeep") pos
 refusal_lines (refusal.Broken rule at) = refused_at (rule_words rule) at
-refusal_lines (refusal.Faulty fault) = fault_line fault.number fault.body fault.block fault.line
 refusal_lines (refusal.U1 bad site) = use_line site.name site.by site.at ++ way_lines bad.answers bad.body bad.path
 refusal_lines (refusal.U2 bad site) = store_line site.name site.at ++ way_lines bad.answers bad.body bad.path
 refusal_lines refusal.Memory = []
-
--- 70 is for what is wrong inside
-abbrev pub refusal_status : Refusal → ℕ
-refusal_status (refusal.Faulty fault) = 70
-refusal_status other = 1
 
 -- a refusal that has lines; want of memory has none
 abbrev pub IsTold : Refusal → Type 0

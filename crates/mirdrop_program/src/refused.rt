@@ -10,8 +10,8 @@ use mir_base::NoMemory;
 use mir_pipeline::Refusal;
 use move_errors::BadUse;
 use program_lines::{
-    put_fault_line, put_graph_line, put_lex_line, put_listing_line, put_refused_at, put_rule_line,
-    put_store_line, put_use_line, put_way_lines,
+    put_graph_line, put_lex_line, put_listing_line, put_refused_at, put_rule_line, put_store_line,
+    put_use_line, put_way_lines,
 };
 use std::alloc::{AllocError, Global};
 use use_sites::Site;
@@ -49,21 +49,9 @@ pub fn put_refusal(out: &mut String, refusal: &Refusal) -> Result<(), AllocError
         Refusal::Syntax { pos, .. } => put_refused_at(out, "6 Syntax", *pos),
         Refusal::TooDeep { pos, .. } => put_refused_at(out, "7 TooDeep", *pos),
         Refusal::Broken { rule, at } => put_rule_line(out, *rule, *at),
-        Refusal::Faulty(fault) => {
-            put_fault_line(out, fault.number, fault.body, fault.block, fault.line)
-        }
         Refusal::U1 { bad, site } => put_bad_use(out, bad, site),
         Refusal::U2 { bad, site } => put_bad_store(out, bad, site),
         Refusal::Memory => Ok(()),
-    }
-}
-
-fn refusal_status(refusal: &Refusal) -> u8
-    ensures { result ≡ refusals.refusal_status refusal.now }
-{
-    match refusal {
-        Refusal::Faulty(_) => 70,
-        _ => 1,
     }
 }
 
@@ -79,7 +67,7 @@ pub fn lines_of(alloc: Global, refusal: &Refusal) -> Result<String, NoMemory>
 /// The answer to a text that is refused so.
 pub fn refused(alloc: Global, refusal: &Refusal) -> Result<Answer, NoMemory>
     ensures told { IfOk result (λ answer. IsTold refusal.now) }
-    ensures status { IfOk result (λ answer. answer.status ≡ refusals.refusal_status refusal.now) }
+    ensures status { IfOk result (λ answer. answer.status ≡ 1) }
     ensures text { IfOk result (λ answer. answer.text.items ≡ refusals.refusal_lines refusal.now) }
 {
     if matches!(refusal, Refusal::Memory) {
@@ -87,7 +75,7 @@ pub fn refused(alloc: Global, refusal: &Refusal) -> Result<Answer, NoMemory>
     }
     let text = lines_of(alloc, refusal)?;
     Ok(Answer {
-        status: refusal_status(refusal),
+        status: 1,
         text: text.into_bytes(),
     })
 }

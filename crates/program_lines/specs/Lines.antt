@@ -83,13 +83,3 @@ listing_line n = line (codes "refused: 8 BadListing at line " ++ decimal n)
 
 abbrev pub graph_line : ℕ → ℕ → List ℕ
 graph_line fault n = line (codes "refused: 9 G" ++ decimal fault ++ codes " at line " ++ decimal n)
-
--- ---- what is wrong inside
-
-abbrev pub line_of_body : (body block n : ℕ) → List ℕ
-line_of_body body block n =
-    line (codes " body " ++ decimal body ++ codes " block " ++ decimal block ++ codes " line " ++ decimal n)
-
--- a graph that was made of a program breaks a rule of graphs
-abbrev pub fault_line : (fault body block n : ℕ) → List ℕ
-fault_line fault body block n = codes "fault: G" ++ decimal fault ++ line_of_body body block n

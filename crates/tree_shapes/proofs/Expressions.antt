@@ -403,10 +403,10 @@ pub infix_pattern_due : (at : Pos) (start : Start) (self : Bool) (t : Token) →
     (grammar.infix_pattern (seen_in Sort.Pattern start self) t)
 infix_pattern_due at start self (Token.Mark Mark.Or) p = λ g k h kh gs e.
     let q = first_pattern start self g k in
-    quiet refl (of_quiet q, (of_quiet kh, each_map (λ g k. of_quiet k) gs e)) (λ a r. refl) refl
+    quiet refl (of_quiet q, (of_quiet kh, each_map (λ g k. of_quiet k) gs e)) (λ a r. refl) refl refl
 infix_pattern_due at start self (Token.Mark Mark.Colon) p = λ g k ty kt.
     let q = first_pattern start self g k in
-    record { quiet = quiet refl (of_quiet q, (of_quiet kt, tt)) (λ a r. refl) refl; other = λ e rest. refl }
+    record { quiet = quiet refl (of_quiet q, (of_quiet kt, tt)) (λ a r. refl) refl refl; other = λ e rest. refl }
 infix_pattern_due at start self (Token.Mark Mark.FatArrow) p = λ g k b kb.
     let q = first_pattern start self g k in (
       (

@@ -16,6 +16,7 @@ use Rattle.typing_rules.specs.Written.{Around}
 use Rattle.well_typed.specs.Claim.{Holds}
 use Rattle.typing_soundness.specs.Closures.{BodySyn, closures_of, closures_in, closures_among, function_text}
 use Rattle.typing_soundness.specs.Heads.{body_text, bodies_text}
+use Rattle.typing_soundness.specs.Named.{is_own_name, head_named}
 use Rattle.typing_soundness.specs.Shapes.{is_block, no_self, shaped, shaped_form, function_shaped}
 use Rattle.tree_shapes.proofs.Due.{◌⊕◌, IsLoose, Due}
 use Rattle.tree_shapes.proofs.Good.{Tree, Held, Tells, IsName, IsParam, IsExpr, IsBlock, IsMethod, RowIs, Each, EachBut}
@@ -23,6 +24,11 @@ use Rattle.tree_shapes.proofs.Lists.{◌⧺◌, views_join, silent_behind, behin
 use Rattle.tree_shapes.proofs.Tokens.{IsPlain}
 use Rattle.tree_shapes.proofs.Types.{EntryDue}
 use Rattle.tree_shapes.proofs.Telling.{IsStill, of_quiet, of_name, tell_all, each_join, each_map, each_of, has_behind, still_tells}
+
+-- ---- names
+
+pub own_name : (g : Tree) → IsName g → IsTrue (is_own_name (named (view g)).1)
+own_name g k = subst (λ v. IsTrue (is_own_name (named v).1)) (sym k.is) k.named.is_own
 
 -- ---- closures
 
@@ -184,6 +190,7 @@ module _ (at : Pos) (self : Bool) (name : Tree) (kn : IsName name) (gs : Held) (
     tells = fn_tells m b kb h k answer _ e;
     no_name = ap (λ x. is_some (ident_in x)) e;
     shape = fn_shape b kb answer _ e;
+    name = subst (λ x. Holds (head_named (syn at x))) (sym e) (own_name name kn);
   }
 
 pub method_due : (at : Pos) (self : Bool) (t : Token) → IsPlain t → EntryDue at self t (grammar.method t)

@@ -14,7 +14,7 @@ use Rattle.typing_rules.specs.Written.{Around}
 use Rattle.well_typed.specs.Claim.{Holds}
 use Rattle.typing_soundness.specs.Closures.{BodySyn, closures_of, function_text}
 use Rattle.typing_soundness.specs.Heads.{bodies_text, inner_text}
-use Rattle.typing_soundness.specs.Named.{variant_named, head_named, item_named}
+use Rattle.typing_soundness.specs.Named.{field_named, variant_named, head_named, item_named}
 use Rattle.typing_soundness.specs.Shapes.{shaped, is_block, no_self, variant_shaped, function_shaped, item_shaped}
 use Rattle.tree_shapes.proofs.Tokens.{IsTextName}
 
@@ -50,6 +50,7 @@ pub record IsQuiet (g : Tree) : Type 0 where
   pub tells : Tells g
   pub silent : IsSilent g
   pub no_name : is_ident (view g) ≡ false
+  pub field : Holds (field_named (view g))
 
 -- a parameter, which may be `self` or not
 pub record IsParam (self : Bool) (g : Tree) : Type 0 where
@@ -82,6 +83,7 @@ pub record IsMethod (g : Tree) : Type 0 where
       g) rest
   pub no_name : is_ident (view g) ≡ false
   pub shape : Holds (function_shaped (view g))
+  pub name : Holds (head_named (view g))
 
 pub record IsItem (g : Tree) : Type 0 where
   pub tells : (around : Around) (rest : List BodySyn) → bodies_text around (bodies_in g) rest ≡ inner_text around (view

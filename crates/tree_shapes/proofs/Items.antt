@@ -18,11 +18,10 @@ use Rattle.typing_rules.specs.Written.{Around}
 use Rattle.well_typed.specs.Claim.{Holds, each}
 use Rattle.typing_soundness.specs.Closures.{BodySyn, closures_of, closures_in, closures_among, functions_text, function_text}
 use Rattle.typing_soundness.specs.Heads.{bodies_text, inner_text}
-use Rattle.well_typed.specs.Names.{is_word}
-use Rattle.typing_soundness.specs.Named.{is_type_name, variant_named, head_named, item_named}
+use Rattle.typing_soundness.specs.Named.{is_type_name, is_own_name, field_named, variant_named, head_named, item_named}
 use Rattle.typing_soundness.specs.Shapes.{has_kind, function_shaped, variant_shaped, item_shaped}
 use Rattle.tree_shapes.proofs.Due.{◌⊕◌, IsLoose, is_loose, Due}
-use Rattle.tree_shapes.proofs.Functions.{Headed, fn_plain, fn_typed, fn_tells, has_arrow, param_still}
+use Rattle.tree_shapes.proofs.Functions.{own_name, Headed, fn_plain, fn_typed, fn_tells, has_arrow, param_still}
 use Rattle.tree_shapes.proofs.Good.{Tree, Held, Tells, IsName, IsQuiet, IsParam, IsBlock, IsMethod, IsHead, IsVariant, IsItem, RowIs, Each, EachBut}
 use Rattle.tree_shapes.proofs.Lists.{◌⧺◌, views_join, join_none, last_one, but_one, behind_unnamed, behind_names, idents_names, idents_unnamed, names_in, unnamed_join, IsUnnamed, params_first}
 use Rattle.tree_shapes.proofs.Telling.{IsStill, no_body, quiet_list, of_quiet, of_name, quiet, tell_all, silent_all, each_join, each_map, each_of, has_behind, still_tells, still_silent, text_join}
@@ -33,9 +32,6 @@ use Rattle.tree_shapes.proofs.Types.{EntryDue}
 
 plain_name : (g : Tree) → IsName g → IsTrue (is_plain_name (named (view g)).1)
 plain_name g k = subst (λ v. IsTrue (is_plain_name (named v).1)) (sym k.is) k.named.plain
-
-word_name : (g : Tree) → IsName g → IsTrue (is_word (named (view g)).1)
-word_name g k = subst (λ v. IsTrue (is_word (named v).1)) (sym k.is) k.named.is_word
 
 type_name : (g : Tree) → IsName g → IsTrue (is_type_name (named (view g)).1)
 type_name g k = subst (λ v. IsTrue (is_type_name (named v).1)) (sym k.is) k.named.is_type
@@ -49,9 +45,9 @@ head_is at name kn gs m params still answer e =
     let tail = tok (Token.Mark Mark.CloseParenthesis) m in
     record {
       quiet = quiet refl (of_name kn, each_join IsStill gs tail (param_still true gs params) still) (λ a r. ap (λ x.
-          closures_in a x r) e) (ap (λ x. is_some (ident_in x)) e);
+          closures_in a x r) e) (ap (λ x. is_some (ident_in x)) e) (subst (λ x. Holds (field_named (syn at x))) (sym e) refl);
       shape = subst (λ x. Holds (function_shaped (syn at x))) (sym e) (params_first true gs params, refl);
-      name = subst (λ x. Holds (head_named (syn at x))) (sym e) (word_name name kn);
+      name = subst (λ x. Holds (head_named (syn at x))) (sym e) (own_name name kn);
     }
 
 pub head_due : (at : Pos) (self : Bool) (t : Token) → IsPlain t → EntryDue at self t (grammar.head t)
@@ -91,7 +87,7 @@ fn_is at name kn gs params loose m b kb h k answer e = record {
   tells = λ around rest. fn_tells at false name kn gs params loose m b kb h k answer _ e around rest ∙ fn_both at _ _ _ _
       _ e around rest;
   shape = subst (λ x. Holds (item_shaped (syn at x))) (sym e) (params_first false gs params, (kb.block, kb.expr.shape));
-  names = subst (λ x. Holds (item_named (syn at x))) (sym e) refl;
+  names = subst (λ x. Holds (item_named (syn at x))) (sym e) (own_name name kn);
 }
 
 fn_due : (at : Pos) (self : Bool) → Due self (grammar.head_rest false (grammar.part grammar.block (grammar.ends
@@ -111,18 +107,27 @@ some_kind : (b : Bool) (ss : Syns) → IsTrue (has_kind (kind_by b true) ss)
 some_kind true ss = refl
 some_kind false ss = refl
 
+-- names of fields, where there are any
+fields_named : (gs : Held) → Each IsQuiet gs → Holds (each field_named (list_of (views gs)))
+fields_named end h = refl
+fields_named (tok t gs) h = fields_named gs h
+fields_named (sub g gs) h = (h.0.field, fields_named gs h.1)
+
+with_mark : (gs : Held) (t : Token) → EachBut IsQuiet IsQuiet gs → Holds (each field_named (list_of (views (gs ⊕ tok t end))))
+with_mark gs t e = fields_named (gs ⊕ tok t end) (each_join IsQuiet gs (tok t end) (each_of IsQuiet gs e) tt)
+
 pub variant_due : (at : Pos) (self : Bool) (t : Token) → IsPlain t → EntryDue at self t (grammar.variant t)
 variant_due at self (Token.Name n) p = (
   λ gs e l.
       let parts = gs ⊕ tok (Token.Mark Mark.CloseParenthesis) end in
       record {
-        quiet = quiet refl (quiet_list gs _ e) (λ a r. refl) refl;
+        quiet = quiet refl (quiet_list gs _ e) (λ a r. refl) refl refl;
         shape = some_kind (has_mark Mark.OpenBrace (tokens_in parts)) (views parts);
-        name = p.is_word;
+        name = (p.is_word, with_mark gs (Token.Mark Mark.CloseParenthesis) e);
       },
   (
-    λ gs e l. record { quiet = quiet refl (quiet_list gs _ e) (λ a r. refl) refl; shape = refl; name = p.is_word },
-    record { quiet = quiet refl tt (λ a r. refl) refl; shape = refl; name = p.is_word },
+    λ gs e l. record { quiet = quiet refl (quiet_list gs _ e) (λ a r. refl) refl refl; shape = refl; name = (p.is_word, with_mark gs (Token.Mark Mark.CloseBrace) e) },
+    record { quiet = quiet refl tt (λ a r. refl) refl refl; shape = refl; name = (p.is_word, refl) },
   ),
 )
 variant_due at self _ p = tt
@@ -156,9 +161,9 @@ still_item at r parts e h k around rest =
 
 struct_is : (at : Pos) (parts m : Held) (ds : List Named) (name : Tree) → IsName name → Each IsStill parts → idents
     (views parts) ≡ ds ++ named (view name) ∷ [] → behind_idents (views parts) ≡ views m → behind_word Keyword.Struct
-    (tokens_in parts) ≡ tokens_in m → IsTrue (has_kind (kind_of (tokens_in m)) (views m)) → IsItem (node at Row.Struct
-    parts)
-struct_is at parts m ds name kn still is_named is_behind is_word kind =
+    (tokens_in parts) ≡ tokens_in m → IsTrue (has_kind (kind_of (tokens_in m)) (views m)) → Each IsQuiet m → IsItem
+    (node at Row.Struct parts)
+struct_is at parts m ds name kn still is_named is_behind is_word kind quiets =
     let form = λ (kind : Kind) (fields : Syns) (ds : List Named) (n : Named). StructItem ds n kind fields in
     let e = ap (with_last_name (form (kind_of (behind_word Keyword.Struct (tokens_in parts))) (behind_idents (views
     parts)))) is_named ∙ last_name_is (form (kind_of (behind_word Keyword.Struct (tokens_in parts))) (behind_idents (views
@@ -167,7 +172,7 @@ struct_is at parts m ds name kn still is_named is_behind is_word kind =
     record {
       tells = still_item at Row.Struct parts refl still (λ a r. ap (λ x. inner_text a (syn at x) r) e);
       shape = subst (λ x. Holds (item_shaped (syn at x))) (sym e) (plain_name name kn, kind);
-      names = subst (λ x. Holds (item_named (syn at x))) (sym e) (type_name name kn);
+      names = subst (λ x. Holds (item_named (syn at x))) (sym e) (type_name name kn, (own_name name kn, fields_named m quiets));
     }
 
 all_variants : (gs : Held) → Each IsVariant gs → Holds (each variant_shaped (list_of (views gs)))
@@ -190,7 +195,7 @@ enum_is at parts m ds name kn still is_named is_behind variants =
     record {
       tells = still_item at Row.Enum parts refl still (λ a r. ap (λ x. inner_text a (syn at x) r) e);
       shape = subst (λ x. Holds (item_shaped (syn at x))) (sym e) (plain_name name kn, all_variants m variants);
-      names = subst (λ x. Holds (item_named (syn at x))) (sym e) (type_name name kn, variants_named m variants);
+      names = subst (λ x. Holds (item_named (syn at x))) (sym e) (type_name name kn, (own_name name kn, variants_named m variants));
     }
 
 -- the name of an item, and with what is derived before it
@@ -223,7 +228,7 @@ struct_due : (at : Pos) (self : Bool) → Due self grammar.struct_rest (λ r res
     Keyword.Struct) rest)))
 struct_due at self = λ name kn. (
   struct_is at _ (tok (Token.Mark Mark.Semi) end) [] name kn (of_name kn, tt) (own_names name kn (tok (Token.Mark
-      Mark.Semi) end) tt) (own_behind name kn (tok (Token.Mark Mark.Semi) end) tt) refl refl,
+      Mark.Semi) end) tt) (own_behind name kn (tok (Token.Mark Mark.Semi) end) tt) refl refl tt,
   (
     λ gs e l.
         let tail = tok (Token.Mark Mark.CloseParenthesis) (tok (Token.Mark Mark.Semi) end) in
@@ -232,14 +237,14 @@ struct_due at self = λ name kn. (
         let u = quiet_unnamed gs tail all tt in
         struct_is at _ m [] name kn (of_name kn, each_join IsStill gs tail (each_map (λ g k. of_quiet k) gs all) tt)
         (own_names name kn m u) (own_behind name kn m u) refl (some_kind (has_mark Mark.OpenBrace (tokens_in (gs ⊕
-        tail))) (views (gs ⊕ tail))),
+        tail))) (views (gs ⊕ tail))) (each_join IsQuiet gs tail all tt),
     λ gs e l.
         let tail = tok (Token.Mark Mark.CloseBrace) end in
         let m = tok (Token.Mark Mark.OpenBrace) (gs ⊕ tail) in
         let all = each_of IsQuiet gs e in
         let u = quiet_unnamed gs tail all tt in
         struct_is at _ m [] name kn (of_name kn, quiet_list gs _ e) (own_names name kn m u) (own_behind name kn m u) refl
-        refl,
+        refl (each_join IsQuiet gs tail all tt),
   ),
 )
 
@@ -266,7 +271,7 @@ derived_due at self = λ d ns f k.
         let m = tok (Token.Mark Mark.Semi) end in
             struct_is at _ m (names_in ns) name kn (listed_still name kn ns names close behind s m tt) (listed_names name kn
             ns names close behind s m tt) (listed_behind name kn ns names close behind s m tt) (word_behind Keyword.Struct
-            ns _ k) refl,
+            ns _ k) refl tt,
         (
           λ gs e l.
               let tail = tok (Token.Mark Mark.CloseParenthesis) (tok (Token.Mark Mark.Semi) end) in
@@ -276,7 +281,7 @@ derived_due at self = λ d ns f k.
               struct_is at _ m (names_in ns) name kn (listed_still name kn ns names close behind s m (each_join IsStill gs
               tail (each_map (λ g k. of_quiet k) gs all) tt)) (listed_names name kn ns names close behind s m u)
               (listed_behind name kn ns names close behind s m u) (word_behind Keyword.Struct ns _ k) (some_kind (has_mark
-              Mark.OpenBrace (tokens_in (gs ⊕ tail))) (views (gs ⊕ tail))),
+              Mark.OpenBrace (tokens_in (gs ⊕ tail))) (views (gs ⊕ tail))) (each_join IsQuiet gs tail all tt),
           λ gs e l.
               let tail = tok (Token.Mark Mark.CloseBrace) end in
               let m = tok (Token.Mark Mark.OpenBrace) (gs ⊕ tail) in
@@ -284,7 +289,7 @@ derived_due at self = λ d ns f k.
               let u = quiet_unnamed gs tail all tt in
               struct_is at _ m (names_in ns) name kn (listed_still name kn ns names close behind s m (quiet_list gs _ e))
               (listed_names name kn ns names close behind s m u) (listed_behind name kn ns names close behind s m u)
-              (word_behind Keyword.Struct ns _ k) refl,
+              (word_behind Keyword.Struct ns _ k) refl (each_join IsQuiet gs tail all tt),
         ),
       ),
       λ name kn gs e l.
@@ -314,6 +319,11 @@ all_methods end h = refl
 all_methods (tok t gs) h = all_methods gs h
 all_methods (sub g gs) h = (h.0.shape, all_methods gs h.1)
 
+methods_named : (gs : Held) → Each IsMethod gs → Holds (each head_named (list_of (views gs)))
+methods_named end h = refl
+methods_named (tok t gs) h = methods_named gs h
+methods_named (sub g gs) h = (h.0.name, methods_named gs h.1)
+
 methods_tell : (around : Around) (gs : Held) → Each IsMethod gs → (rest : List BodySyn) → bodies_text around
     (bodies_among gs) rest ≡ functions_text around (list_of (views gs)) rest
 methods_tell around end h rest = refl
@@ -335,7 +345,7 @@ trait_due at self = λ name kn gs e l.
                 gs e) tt,
           ) (λ a r. refl);
       shape = all_heads (gs ⊕ tail) (each_join IsHead gs tail e tt);
-      names = heads_named (gs ⊕ tail) (each_join IsHead gs tail e tt);
+      names = (own_name name kn, heads_named (gs ⊕ tail) (each_join IsHead gs tail e tt));
     }
 
 skip_name : (around : Around) (name : Tree) → IsName name → (bodies : List Syn) (rest : List BodySyn) → bodies_text
@@ -343,14 +353,14 @@ skip_name : (around : Around) (name : Tree) → IsName name → (bodies : List S
 skip_name around name kn bodies rest =
     text_join around (bodies_in name) bodies rest ∙ kn.tells around _ ∙ kn.silent around _
 
-impl_is : (at : Pos) (parts m : Held) (trait_ : Option Named) (owner : Named) → Each IsMethod m → made Row.Impl (tokens_in
+impl_is : (at : Pos) (parts m : Held) (trait_ : Option Named) (owner : Named) → IsTrue (is_own_name owner.1) → Each IsMethod m → made Row.Impl (tokens_in
     parts) (views parts) ≡ ImplItem trait_ owner (views m) → ((around : Around) (rest : List BodySyn) → bodies_text
     around (bodies_among parts) rest ≡ bodies_text around (bodies_among m) rest) → IsItem (node at Row.Impl parts)
-impl_is at parts m trait_ owner methods e h = record {
+impl_is at parts m trait_ owner own methods e h = record {
   tells = λ around rest.
       h around rest ∙ methods_tell around m methods rest ∙ sym (ap (λ x. inner_text around (syn at x) rest) e);
   shape = subst (λ x. Holds (item_shaped (syn at x))) (sym e) (all_methods m methods);
-  names = subst (λ x. Holds (item_named (syn at x))) (sym e) refl;
+  names = subst (λ x. Holds (item_named (syn at x))) (sym e) (own, methods_named m methods);
 }
 
 impl_due : (at : Pos) (self : Bool) → Due self (grammar.part grammar.a_name (grammar.if_word Keyword.For (grammar.part
@@ -365,7 +375,7 @@ impl_due at self = λ name kn. (
       let is_named = idents_names front m (kn, (ko, tt)) ∙ ap (λ z. named (view name) ∷ named (view other) ∷ z)
       (idents_unnamed (views m) u) in
       let is_behind = behind_names front m (kn, (ko, tt)) ∙ behind_unnamed (views m) u in
-      impl_is at _ m (Some (named (view name))) (named (view other)) (each_join IsMethod gs tail e tt)
+      impl_is at _ m (Some (named (view name))) (named (view other)) (own_name other ko) (each_join IsMethod gs tail e tt)
       (ap (λ z. impl_row true z (behind_idents (views (front ⊕ m)))) is_named ∙ ap (ImplItem (Some (named (view name)))
       (named (view other))) is_behind) (λ a r. skip_name a name kn _ r ∙ skip_name a other ko _ r),
   λ gs e l.
@@ -375,7 +385,7 @@ impl_due at self = λ name kn. (
       let front = sub name end in
       let is_named = idents_names front m (kn, tt) ∙ ap (λ z. named (view name) ∷ z) (idents_unnamed (views m) u) in
       let is_behind = behind_names front m (kn, tt) ∙ behind_unnamed (views m) u in
-      impl_is at _ m None (named (view name)) (each_join IsMethod gs tail e tt)
+      impl_is at _ m None (named (view name)) (own_name name kn) (each_join IsMethod gs tail e tt)
       (ap (λ b. impl_row b (idents (views (front ⊕ m))) (behind_idents (views (front ⊕ m)))) (has_behind (TokenKind.Word
       Keyword.For) gs tail refl refl l) ∙ ap (λ z. impl_row false z (behind_idents (views (front ⊕ m)))) is_named ∙ ap
       (ImplItem None (named (view name))) is_behind) (λ a r. skip_name a name kn _ r),

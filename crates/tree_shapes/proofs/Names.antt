@@ -1,5 +1,5 @@
 -- Names in a text are words, without the mark of closures' names, and none is a keyword.
-use Rattle.std.proofs.Common.{◌≡◌, ℕ, ◌+◌, ◌/◌, ◌%◌, ◌≤◌, Bool, true, false, ◌||◌, ◌==◌, not, List, [], ◌∷◌, ◌++◌, map, Option, Some, None, IsTrue, refl, sym, ap, ◌∙◌, subst, arith}
+use Rattle.std.proofs.Common.{◌≡◌, ℕ, ◌+◌, ◌/◌, ◌%◌, ◌<◌, ◌≤◌, Bool, true, false, ◌||◌, ◌==◌, not, List, [], ◌∷◌, ◌++◌, map, Option, Some, None, IsTrue, refl, sym, ap, ◌∙◌, subst, arith}
 use Rattle.std.specs.Prelude.{cond, nat_lt}
 use Rattle.std.specs.List.{list_any, list_all}
 use Rattle.std.specs.Str.{encode_utf8_all}
@@ -28,99 +28,101 @@ use Rattle.src_tree.specs.Layout.{node, end, tok, sub, spell, spell_parts}
 use Rattle.tree_shapes.proofs.Good.{Tree, Held}
 use Rattle.tree_shapes.proofs.Tokens.{IsPlain}
 use Rattle.tree_shapes.proofs.Trees.{AllPlain, PartsPlain}
-use Rattle.tree_shapes.proofs.Words.{word_of, no_dyn}
+use Rattle.tree_shapes.proofs.Words.{word_of, no_digit, no_dyn}
 
 -- ---- bytes
 
-abbrev is_hash : ℕ → Bool
-is_hash byte = byte == 35
+-- a mark of ASCII
+module _ (mark : ℕ) (low : mark < 128) where
+  abbrev is_mark : ℕ → Bool
+  is_mark byte = byte == mark
 
-not_hash : (b : ℕ) → (b ≡ 35 → ⊥) → is_hash b ≡ false
-not_hash b h = by (is_hash b) refl
-  where
-    by : (x : Bool) → is_hash b ≡ x → x ≡ false
-    by true e = absurd (h (eqb-true b 35 e))
-    by false e = refl
+  not_mark : (b : ℕ) → (b ≡ mark → ⊥) → is_mark b ≡ false
+  not_mark b h = by (is_mark b) refl
+    where
+      by : (x : Bool) → is_mark b ≡ x → x ≡ false
+      by true e = absurd (h (eqb-true b mark e))
+      by false e = refl
 
-high : (b : ℕ) → 36 ≤ b → is_hash b ≡ false
-high b h = not_hash b (λ e. omega arith)
+  high : (b : ℕ) → 128 ≤ b → is_mark b ≡ false
+  high b h = not_mark b (λ e. omega (arith, low, h, e))
 
-abbrev Clean : List ℕ → Type 0
-Clean [] = Unit {0}
-Clean (b ∷ bs) = (is_hash b ≡ false) × Clean bs
+  abbrev Clean : List ℕ → Type 0
+  Clean [] = Unit {0}
+  Clean (b ∷ bs) = (is_mark b ≡ false) × Clean bs
 
-clean : (bs : List ℕ) → Clean bs → list_any is_hash bs ≡ false
-clean [] h = refl
-clean (b ∷ bs) h = ap (λ z. z || list_any is_hash bs) h.0 ∙ clean bs h.1
+  clean : (bs : List ℕ) → Clean bs → list_any is_mark bs ≡ false
+  clean [] h = refl
+  clean (b ∷ bs) h = ap (λ z. z || list_any is_mark bs) h.0 ∙ clean bs h.1
 
-picked : (b : Bool) (x y : List ℕ) → list_any is_hash x ≡ false → list_any is_hash y ≡ false → list_any is_hash (cond b
-    x y) ≡ false
-picked true x y h k = h
-picked false x y h k = k
+  picked : (b : Bool) (x y : List ℕ) → list_any is_mark x ≡ false → list_any is_mark y ≡ false → list_any is_mark (cond b
+      x y) ≡ false
+  picked true x y h k = h
+  picked false x y h k = k
 
-two_plain : (a b : ℕ) → list_any is_hash ((192 + a) ∷ (128 + b) ∷ []) ≡ false
-two_plain a b =
-    clean ((192 + a) ∷ (128 + b) ∷ []) (high (192 + a) (omega arith), (high (128 + b) (omega arith), tt))
+  two_plain : (a b : ℕ) → list_any is_mark ((192 + a) ∷ (128 + b) ∷ []) ≡ false
+  two_plain a b =
+      clean ((192 + a) ∷ (128 + b) ∷ []) (high (192 + a) (omega arith), (high (128 + b) (omega arith), tt))
 
-three_plain : (a b c : ℕ) → list_any is_hash ((224 + a) ∷ (128 + b) ∷ (128 + c) ∷ []) ≡ false
-three_plain a b c =
-    clean ((224 + a) ∷ (128 + b) ∷ (128 + c) ∷ []) (
-      high (224 + a) (omega arith),
-      (
-        high (128 + b) (omega arith),
+  three_plain : (a b c : ℕ) → list_any is_mark ((224 + a) ∷ (128 + b) ∷ (128 + c) ∷ []) ≡ false
+  three_plain a b c =
+      clean ((224 + a) ∷ (128 + b) ∷ (128 + c) ∷ []) (
+        high (224 + a) (omega arith),
         (
-          high (128
-              + c) (omega arith),
-          tt,
+          high (128 + b) (omega arith),
+          (
+            high (128
+                + c) (omega arith),
+            tt,
+          ),
         ),
-      ),
-    )
+      )
 
-four_plain : (a b c d : ℕ) → list_any is_hash ((240 + a) ∷ (128 + b) ∷ (128 + c) ∷ (128 + d) ∷ []) ≡ false
-four_plain a b c d =
-    clean ((240 + a) ∷ (128 + b) ∷ (128 + c) ∷ (128 + d) ∷ []) (
-      high (240 + a) (omega arith),
-      (
-        high (128 + b) (omega
-            arith),
-        (high (128 + c) (omega arith), (high (128 + d) (omega arith), tt)),
-      ),
-    )
+  four_plain : (a b c d : ℕ) → list_any is_mark ((240 + a) ∷ (128 + b) ∷ (128 + c) ∷ (128 + d) ∷ []) ≡ false
+  four_plain a b c d =
+      clean ((240 + a) ∷ (128 + b) ∷ (128 + c) ∷ (128 + d) ∷ []) (
+        high (240 + a) (omega arith),
+        (
+          high (128 + b) (omega
+              arith),
+          (high (128 + c) (omega arith), (high (128 + d) (omega arith), tt)),
+        ),
+      )
 
-char_plain : (c : ℕ) → (c ≡ 35 → ⊥) → list_any is_hash (encode c) ≡ false
-unfolding encode
-char_plain c h =
-    let two = (192 + c / 64) ∷ (128 + c % 64) ∷ [] in
-    let three = (224 + c / 4096) ∷ (128 + (c / 64) % 64) ∷ (128 + c % 64) ∷ [] in
-    let four = (240 + c / 262144) ∷ (128 + (c / 4096) % 64) ∷ (128 + (c / 64) % 64) ∷ (128 + c % 64) ∷ [] in
-    let large = cond (nat_lt c 65536) three four in
-    picked (nat_lt c 128) (c ∷ []) (cond (nat_lt c 2048) two large) (clean (c ∷ []) (not_hash c h, tt))
-    (picked (nat_lt c 2048) two large (two_plain (c / 64) (c % 64)) (picked (nat_lt c 65536) three four (three_plain (c /
-    4096) ((c / 64) % 64) (c % 64)) (four_plain (c / 262144) ((c / 4096) % 64) ((c / 64) % 64) (c % 64))))
+  char_plain : (c : ℕ) → (c ≡ mark → ⊥) → list_any is_mark (encode c) ≡ false
+  unfolding encode
+  char_plain c h =
+      let two = (192 + c / 64) ∷ (128 + c % 64) ∷ [] in
+      let three = (224 + c / 4096) ∷ (128 + (c / 64) % 64) ∷ (128 + c % 64) ∷ [] in
+      let four = (240 + c / 262144) ∷ (128 + (c / 4096) % 64) ∷ (128 + (c / 64) % 64) ∷ (128 + c % 64) ∷ [] in
+      let large = cond (nat_lt c 65536) three four in
+      picked (nat_lt c 128) (c ∷ []) (cond (nat_lt c 2048) two large) (clean (c ∷ []) (not_mark c h, tt))
+      (picked (nat_lt c 2048) two large (two_plain (c / 64) (c % 64)) (picked (nat_lt c 65536) three four (three_plain (c /
+      4096) ((c / 64) % 64) (c % 64)) (four_plain (c / 262144) ((c / 4096) % 64) ((c / 64) % 64) (c % 64))))
 
-abbrev NoHash : List ℕ → Type 0
-NoHash [] = Unit {0}
-NoHash (c ∷ cs) = (c ≡ 35 → ⊥) × NoHash cs
+  abbrev NoMark : List ℕ → Type 0
+  NoMark [] = Unit {0}
+  NoMark (c ∷ cs) = (c ≡ mark → ⊥) × NoMark cs
 
-all_plain : (cs : List ℕ) → NoHash cs → list_any is_hash (encode_utf8_all cs) ≡ false
-all_plain [] h = refl
-all_plain (c ∷ cs) h =
-    list_any-append is_hash (encode c) (encode_utf8_all cs) ∙ ap (λ z. z || list_any is_hash (encode_utf8_all cs))
-    (char_plain c h.0) ∙ all_plain cs h.1
+  all_plain : (cs : List ℕ) → NoMark cs → list_any is_mark (encode_utf8_all cs) ≡ false
+  all_plain [] h = refl
+  all_plain (c ∷ cs) h =
+      list_any-append is_mark (encode c) (encode_utf8_all cs) ∙ ap (λ z. z || list_any is_mark (encode_utf8_all cs))
+      (char_plain c h.0) ∙ all_plain cs h.1
 
--- ---- characters
+  -- ---- characters
 
-goes_on : (c : ℕ) → is_xid_continue c ≡ true → c ≡ 35 → ⊥
-goes_on c h e =
-    false≢true (sym (is_xid_continue-ascii 35 (omega arith)) ∙ sym (ap is_xid_continue e) ∙ h)
+  goes_on : is_xid_continue mark ≡ false → (c : ℕ) → is_xid_continue c ≡ true → c ≡ mark → ⊥
+  goes_on no_mark c h e = false≢true (sym no_mark ∙ sym (ap is_xid_continue e) ∙ h)
 
-go_on : (cs : List ℕ) → IsTrue (list_all is_xid_continue cs) → NoHash cs
-go_on [] h = tt
-go_on (c ∷ cs) h =
-    let k = and_parts (is_xid_continue c) (list_all is_xid_continue cs) h in (goes_on c k.0, go_on cs k.1)
+  go_on : is_xid_continue mark ≡ false → (cs : List ℕ) → IsTrue (list_all is_xid_continue cs) → NoMark cs
+  go_on no_mark [] h = tt
+  go_on no_mark (c ∷ cs) h =
+      let k = and_parts (is_xid_continue c) (list_all is_xid_continue cs) h in (goes_on no_mark c k.0, go_on no_mark cs k.1)
 
-begins : (c : ℕ) → beginning_of c ≡ Beginning.Letter → c ≡ 35 → ⊥
-begins c h e = let k : Beginning.Sign ≡ Beginning.Letter = sym (ap beginning_of e) ∙ h in absurd (cc)
+  begins : beginning_of mark ≡ Beginning.Sign → (c : ℕ) → beginning_of c ≡ Beginning.Letter → c ≡ mark → ⊥
+  begins sign c h e =
+      let k : Beginning.Sign ≡ Beginning.Letter = sym sign ∙ sym (ap beginning_of e) ∙ h in absurd (cc)
 
 -- ---- pieces
 
@@ -133,15 +135,22 @@ module _ (c : ℕ) (cs : List ℕ) (e : beginning_of c ≡ Beginning.Letter) (f 
   abbrev own : List ℕ
   own = c ∷ cs
 
+  without : (mark : ℕ) (low : mark < 128) → is_xid_continue mark ≡ false → beginning_of mark ≡ Beginning.Sign → list_any (λ b. b
+      == mark) (encode_utf8_all own) ≡ false
+  without byte low none sign = all_plain byte low own (begins byte low sign c e, go_on byte low none cs f)
+
   marked_plain : (o : Option Mark) → keyword_of own ≡ None → IsPlain (marked own o)
   marked_plain None none =
-      let plain = ap not (all_plain own (begins c e, go_on cs f)) in
+      let plain = ap not (without 35 (omega arith) (is_xid_continue-ascii 35 (omega arith)) refl) in
+      let colon = ap not (without 58 (omega arith) (is_xid_continue-ascii 58 (omega arith)) refl) in
       let a = word_of c cs e f in
       record {
         plain = plain;
         is_word = a;
         is_type = and_true (is_word (encode_utf8_all own)) _ a (and_true (is_plain_name (encode_utf8_all own)) _ plain (ap
             not (no_dyn own none)));
+        is_own = and_true (is_word (encode_utf8_all own)) _ a (and_true (is_plain_name (encode_utf8_all own)) _ plain colon);
+        is_field = no_digit c cs e;
       }
   marked_plain (Some m) none = tt
 

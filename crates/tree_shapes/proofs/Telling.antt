@@ -8,13 +8,14 @@ use Rattle.src_tree.specs.declared.kind.Kind.{Kind as TokenKind}
 use Rattle.src_tree.specs.declared.row.Row.{Row}
 use Rattle.src_tree.specs.Grammar.{is}
 use Rattle.src_tree.specs.Layout.{node, end, tok, sub}
-use Rattle.src_ast.specs.Syntax.{Syn, Shape, Syns, no_syn, a_syn}
+use Rattle.src_ast.specs.Syntax.{Syn, syn, Shape, Syns, no_syn, a_syn}
 use Rattle.src_ast.specs.View.{view, views, made, tokens_in, has, has_mark, ident_in, label_name, round}
 use Rattle.typing_rules.specs.Items.{bodies_in, bodies_among, is_body_row, with_body}
 use Rattle.typing_rules.specs.Written.{Around}
 use Rattle.well_typed.specs.Claim.{Holds}
 use Rattle.typing_soundness.specs.Closures.{BodySyn, closures_in, closures_among}
 use Rattle.typing_soundness.specs.Heads.{body_text, bodies_text}
+use Rattle.typing_soundness.specs.Named.{field_named}
 use Rattle.typing_soundness.specs.Shapes.{shaped_form}
 use Rattle.tree_shapes.proofs.Due.{◌⊕◌, IsLoose, is_loose}
 use Rattle.tree_shapes.proofs.Good.{Tree, Held, Tells, IsSilent, IsName, IsQuiet, IsExpr, Each, EachBut}
@@ -105,12 +106,13 @@ module _ (at : Pos) (r : Row) (parts : Held) where
 module _ {at : Pos} {r : Row} {parts : Held} where
   pub quiet : is_body_row r ≡ false → Each IsStill parts → ((around : Around) (rest : List BodySyn) → closures_in around
       (made r (tokens_in parts) (views parts)) rest ≡ rest) → is_some (ident_in (made r (tokens_in parts) (views
-      parts))) ≡ false → IsQuiet (node at r parts)
-  quiet e h k n = record {
+      parts))) ≡ false → Holds (field_named (syn at (made r (tokens_in parts) (views parts)))) → IsQuiet (node at r parts)
+  quiet e h k n f = record {
     tells = row_tells at r parts e (still_tells parts h) (λ around rest. silent_all around parts (still_silent parts h) rest ∙ sym (k
         around rest));
     silent = k;
     no_name = n;
+    field = f;
   }
 
   pub expr : is_body_row r ≡ false → Each Tells parts → ((around : Around) (rest : List BodySyn) → closures_among

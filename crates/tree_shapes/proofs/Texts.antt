@@ -23,17 +23,10 @@ use Rattle.typing_soundness.specs.Heads.{TellBodies}
 use Rattle.typing_soundness.specs.Program.{IsOfText, IsAccepted, HaveHeads}
 use Rattle.typing_soundness.specs.Shapes.{item_shaped}
 use Rattle.typing_soundness.proofs.Items.Accepting.{are_headed, are_typed}
-use Rattle.typing_soundness.proofs.Items.Adts.{text_adts}
-use Rattle.typing_soundness.proofs.Items.Finite.{text_finite}
-use Rattle.typing_soundness.proofs.Items.Traits.{text_traits}
-use Rattle.typing_soundness.proofs.Items.Heads.{text_types, text_heads, text_closures}
-use Rattle.typing_soundness.specs.Items.{left_of_items}
-use Rattle.typing_soundness.proofs.Items.Impls.{text_impls}
-use Rattle.typing_soundness.proofs.Items.Main.{text_main}
 use Rattle.typing_soundness.proofs.Items.Named.{names_are_words}
 use Rattle.typing_soundness.specs.Named.{item_named, HasNames}
-use Rattle.typing_soundness.proofs.Items.Rest.{rest_is_enough}
-use Rattle.tree_shapes.specs.Texts.{IsAcceptedText, HasTypedBodies}
+use Rattle.typing_soundness.proofs.Items.Entire.{text_well_typed}
+use Rattle.tree_shapes.specs.Texts.{IsAcceptedText, IsTypedProgram}
 use Rattle.tree_shapes.proofs.Good.{Held, Each, IsItem}
 use Rattle.tree_shapes.proofs.Names.{EachPlain, plain_parts, tokens_plain}
 use Rattle.tree_shapes.proofs.Trees.{items_are}
@@ -63,7 +56,11 @@ pub is_of_text : (text : List ℕ) (tokens : List Spanned) (end_ : Pos) (tree : 
     end_ tree → IsOfText (items_of tree)
 is_of_text text tokens end_ tree h is =
     let are = items_in text tokens end_ tree h is in
-    record { shaped = items_shaped (items_of tree) are; listed = items_listed (items_of tree) are }
+    record {
+      shaped = items_shaped (items_of tree) are;
+      named = items_named (items_of tree) are;
+      listed = items_listed (items_of tree) are;
+    }
 
 -- what was collected of an accepted text
 both_parts : (parts : Parts Pos) (r : Result ItemTable Broken) (p : ProgramTree) → then_checked parts r ≡ Ok p → (is :
@@ -86,35 +83,16 @@ module _ (text : List ℕ) (p : ProgramTree) (h : IsAcceptedText text p) where
     checked = found.2;
   }
 
-  pub text_headed : HaveHeads p.items.bodies p.bodies × AreClosures p.items
-  text_headed = are_headed parts found.0 p accepted
-
-  pub text_typed : AreReady p.items × Holds (are_bodies p.items 0 p.items.bodies p.bodies)
-  text_typed = are_typed parts found.0 p accepted
-
-  pub text_program : Holds (left_of_items p.items) → WellTyped p
-  text_program = rest_is_enough parts found.0 p accepted
-
-  names : HasNames p.items
-  names =
-      names_are_words parts found.0 p accepted (items_named parts (items_in text h.tokens h.end_ h.tree h.cut h.is_tree))
-
-  pub typed_bodies : HasTypedBodies p
-  typed_bodies = record {
-    heads = text_headed.0;
-    closures = text_headed.1;
-    ready = text_typed.0;
-    bodies = text_typed.1;
-    types_differ = (text_types parts found.0 p accepted).0;
-    heads_typed = text_heads parts found.0 p accepted;
-    closures_typed = text_closures parts found.0 p accepted;
-    adts_typed = text_adts parts found.0 p accepted;
-    finite = text_finite parts found.0 p accepted;
-    traits_typed = text_traits parts found.0 p accepted;
-    impls_differ = text_impls parts found.0 p accepted;
-    has_main = text_main parts found.0 p accepted;
-    names = names;
-  }
+  pub text_program : IsTypedProgram p
+  text_program =
+      let headed = are_headed parts found.0 p accepted in
+      record {
+        heads = headed.0;
+        closures = headed.1;
+        ready = (are_typed parts found.0 p accepted).0;
+        names = names_are_words parts found.0 p accepted;
+        well_typed = text_well_typed parts found.0 p accepted;
+      }
 
 -- ---- what is read
 
@@ -129,9 +107,9 @@ before_borrows (Err e) p h = absurd (cc)
 before_borrows (Ok q) p h = not_broken (broken_borrow q) q p h
 
 pub read_is_typed : (text : List ℕ) (tokens : List Spanned) (end_ : Pos) (tree : Tree) (p : ProgramTree) → Tokens text
-    tokens → IsTree tokens end_ tree → read_typed (items_of tree) tree.end ≡ Ok p → HasTypedBodies p
+    tokens → IsTree tokens end_ tree → read_typed (items_of tree) tree.end ≡ Ok p → IsTypedProgram p
 read_is_typed text tokens end_ tree p cut is read =
-    typed_bodies text p (record {
+    text_program text p (record {
       tokens = tokens;
       cut = cut;
       end_ = end_;

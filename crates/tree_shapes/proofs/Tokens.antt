@@ -1,5 +1,5 @@
 -- A token of a kind that the grammar names.
-use Rattle.std.proofs.Common.{◌≡◌, ℕ, true, nat_eq, List, [], ◌∷◌, Option, Some, None, IsTrue, refl, sym, ap, ◌∙◌, subst}
+use Rattle.std.proofs.Common.{◌≡◌, ℕ, true, not, nat_eq, List, [], ◌∷◌, Option, Some, None, IsTrue, refl, sym, ap, ◌∙◌, subst}
 use Rattle.std.proofs.lemmas.Bool.{eqb-true, false≢true}
 use Rattle.mir_base.specs.declared.int_kind.IntKind.{IntKind}
 use Rattle.src_token.specs.declared.mark.Mark.{Mark}
@@ -10,14 +10,16 @@ use Rattle.src_tree.specs.Grammar.{is, mark_number, word_number}
 use Rattle.src_tree.proofs.Samples.{nth}
 use Rattle.src_ast.specs.Syntax.{Word}
 use Rattle.typing_rules.specs.Promises.{is_plain_name}
-use Rattle.typing_soundness.specs.Named.{is_type_name}
+use Rattle.typing_soundness.specs.Named.{is_type_name, is_own_name, begins_with_digit}
 use Rattle.well_typed.specs.Names.{is_word}
 
--- a name in a text is a word, without the mark of closures' names, and no keyword
+-- a name in a text is a word, without the marks of methods' and closures' names, and no keyword, and no digit begins it
 pub record IsTextName (n : Word) : Type 0 where
   pub plain : IsTrue (is_plain_name n)
   pub is_word : IsTrue (is_word n)
   pub is_type : IsTrue (is_type_name n)
+  pub is_own : IsTrue (is_own_name n)
+  pub is_field : IsTrue (not (begins_with_digit n))
 
 abbrev pub IsPlain : Token → Type 0
 IsPlain (Token.Name n) = IsTextName n

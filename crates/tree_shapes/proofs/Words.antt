@@ -1,16 +1,17 @@
 -- Names in a text are words, without a blank or a mark in them, and none is the keyword `dyn`.
-use Rattle.std.proofs.Common.{◌≡◌, ℕ, zero, suc, ◌+◌, ◌/◌, ◌%◌, ◌<◌, ◌≤◌, Bool, true, false, ◌&&◌, ◌||◌, ◌==◌, not, nat_eq, nat_lt, cond, if◌then◌else◌, List, [], ◌∷◌, ◌++◌, Some, None, ◌⊎◌, inl, inr, IsTrue, refl, sym, ap, ◌∙◌, subst, arith}
+use Rattle.std.proofs.Common.{◌≡◌, ℕ, zero, suc, ◌+◌, ◌/◌, ◌%◌, ◌<◌, ◌≤◌, Bool, true, false, ◌&&◌, ◌||◌, ◌==◌, not, nat_eq, nat_lt, nat_le, cond, if◌then◌else◌, List, [], ◌∷◌, ◌++◌, Some, None, ◌⊎◌, inl, inr, IsTrue, refl, sym, ap, ◌∙◌, subst, arith}
 use Rattle.std.specs.Prelude.{codes, is_some}
 use Rattle.std.specs.List.{list_any, list_all}
 use Rattle.std.specs.Char.{is_ascii_alphabetic, is_ascii_alphanumeric, is_ascii_digit}
 use Rattle.std.specs.Str.{byte, bytes_eq, encode_utf8_all}
-use Rattle.std.proofs.lemmas.Bool.{eqb-true, and_parts, false≢true, lt-ltb, ltb-true, ltb-false}
+use Rattle.std.proofs.lemmas.Bool.{eqb-true, and_parts, false≢true, lt-ltb, ltb-true, ltb-false, leb-true}
 use Rattle.std.proofs.lemmas.List.Folds.{list_all-append}
 use Rattle.std.proofs.lemmas.Option.{none-some}
 use Rattle.std.proofs.lemmas.Slice.Eq.{bytes_eq-Decides}
 use Rattle.std.proofs.Math.Utf8.{encode}
 use Rattle.unicode_ident.specs.Ident.{is_xid_continue}
 use Rattle.unicode_ident.proofs.IdentLemmas.{is_xid_start-ascii, is_xid_continue-ascii}
+use Rattle.typing_soundness.specs.Named.{begins_with_digit}
 use Rattle.src_token.specs.Beginnings.{beginning_of, is_blank}
 use Rattle.src_token.specs.Marks.{one_mark}
 use Rattle.src_token.specs.declared.piece.Beginning.{Beginning}
@@ -198,6 +199,34 @@ not_empty c cs = by (encoded c)
 
 is_a_word : (c : ℕ) (cs : List ℕ) → AreLetters (c ∷ cs) → IsTrue (is_word (encode_utf8_all (c ∷ cs)))
 is_a_word c cs h = both _ _ (not_empty c cs) (all_letters (c ∷ cs) h)
+
+-- no digit begins them
+no_digit_byte : (c : ℕ) → beginning_of c ≡ Beginning.Letter → c < 128 → not (nat_le 48 c && nat_le c 57) ≡ true
+no_digit_byte c h l =
+    implied (begins_word (beginning_by c (is_ascii_alphabetic c))) (not (nat_le 48 c && nat_le c 57)) (at_below 128 (λ k. not
+    (begins_word (beginning_by k (is_ascii_alphabetic k))) || not (nat_le 48 k && nat_le k 57)) refl c l) (ap (λ b. begins_word
+    (beginning_by c b)) (sym (is_xid_start-ascii c l)) ∙ ap begins_word h)
+
+high_digit : (c : ℕ) → 128 ≤ c → not (nat_le 48 c && nat_le c 57) ≡ true
+high_digit c h = by (nat_le c 57) refl
+  where
+    by : (b : Bool) → nat_le c 57 ≡ b → not (nat_le 48 c && b) ≡ true
+    by true e = absurd (let low = leb-true c 57 e in omega (arith, h, low))
+    by false e = none (nat_le 48 c)
+      where
+        none : (b : Bool) → not (b && false) ≡ true
+        none true = refl
+        none false = refl
+
+pub no_digit : (c : ℕ) (cs : List ℕ) → beginning_of c ≡ Beginning.Letter → IsTrue (not (begins_with_digit (encode_utf8_all (c ∷
+    cs))))
+no_digit c cs h = by (encoded c)
+  where
+    by : Encoded c (encode c) → not (begins_with_digit (encode c ++ encode_utf8_all cs)) ≡ true
+    by (inl low) =
+        ap (λ bs. not (begins_with_digit (bs ++ encode_utf8_all cs))) low.1 ∙ no_digit_byte c h low.0
+    by (inr high) =
+        ap (λ bs. not (begins_with_digit (bs ++ encode_utf8_all cs))) high.is ∙ high_digit high.first high.high.0
 
 -- ---- no keyword
 

@@ -64,10 +64,10 @@ IsHeadOf items closure text head =
 
 -- ---- structs and enums
 
--- as many fields as are declared, each with a name
+-- as many fields as are declared, each with its name
 abbrev pub IsVariantOf : Syns → Variant → Type 0
 IsVariantOf fields v =
-    (length v.fields ≡ length (list_of fields)) × (length v.field_names ≡ length (list_of fields))
+    (length v.fields ≡ length (list_of fields)) × (v.field_names ≡ rules.names_from 0 (list_of fields))
 
 abbrev pub AreVariantsOf : Syns → List Variant → Type 0
 AreVariantsOf no_syn [] = Unit {0}

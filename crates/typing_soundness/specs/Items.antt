@@ -16,11 +16,11 @@ use Rattle.mir_ty.specs.Facts.{is_copy}
 use Rattle.mir_ty.specs.ItemTable.{ItemTable, type_at}
 use Rattle.src_tree.specs.Layout.{Parts}
 use Rattle.typed_tree.specs.Tree.{ProgramTree}
-use Rattle.well_typed.specs.Claim.{Claim, fact, both, ◌&◌, each, some, nothing, Holds}
+use Rattle.typing_rules.specs.Program.{is_same_truth}
+use Rattle.well_typed.specs.Claim.{Claim, fact, ◌&◌, each, some, nothing, Holds}
 use Rattle.well_typed.specs.Items.{are_items, is_equal, is_finite, are_distinct_types, stands_alone, is_param}
-use Rattle.well_typed.specs.Names.{are_distinct}
-use Rattle.well_typed.specs.Program.{WellTyped}
-use Rattle.well_typed.specs.Types.{adt_of, is_unit, reference_of, trait_of}
+use Rattle.well_typed.specs.Names.{is_among, are_distinct, built_in, is_word}
+use Rattle.well_typed.specs.Types.{adt_of, are_same, is_same, is_unit, reference_of, trait_of}
 use Rattle.typing_soundness.specs.Program.{IsAccepted}
 
 -- Equal types of an accepted text have one number, and `bool` and `()` are among them.
@@ -33,6 +33,20 @@ TypesDiffer = (parts : Parts Pos) (items : ItemTable) (p : ProgramTree) → IsAc
 abbrev pub TypesAreFinite : Type 0
 TypesAreFinite = (parts : Parts Pos) (items : ItemTable) (p : ProgramTree) → IsAccepted parts items p → (id : TyId) (ty :
     Ty) → type_at p.items id ≡ Some ty → IsTrue (is_finite p.items id)
+
+-- a tuple has 1 to 12 parts and an array at most 32 elements, and what a type names by its number is there
+abbrev pub is_within_limits : ItemTable → Ty → Bool
+is_within_limits items (Ty.Tuple parts) = nat_lt 0 (length parts) && nat_le (length parts) 12
+is_within_limits items (Ty.Array element count) = nat_le count 32
+is_within_limits items (Ty.Adt n) = nat_lt n (length items.adts)
+is_within_limits items (Ty.Dyn n) = nat_lt n (length items.traits)
+is_within_limits items (Ty.Closure n) = nat_lt n (length items.closures)
+is_within_limits items _ = true
+
+-- So are all types of an accepted text.
+abbrev pub TypesKeepLimits : Type 0
+TypesKeepLimits = (parts : Parts Pos) (items : ItemTable) (p : ProgramTree) → IsAccepted parts items p → IsTrue (list_all
+    (is_within_limits p.items) p.items.types)
 
 -- parameters of types that may stand there, and a result that stands alone
 abbrev pub is_head_typed : ItemTable → Sig → Bool
@@ -133,61 +147,83 @@ abbrev pub AdtsAreTyped : Type 0
 AdtsAreTyped = (parts : Parts Pos) (items : ItemTable) (p : ProgramTree) → IsAccepted parts items p → (n : ℕ) (adt : Adt) →
     slice_get p.items.adts n ≡ Some adt → IsAdtTyped p.items adt
 
--- ---- what is left
+-- Names of the fields of one variant differ, in an accepted text.
+abbrev pub FieldsDiffer : Type 0
+FieldsDiffer = (parts : Parts Pos) (items : ItemTable) (p : ProgramTree) → IsAccepted parts items p → (n : ℕ) (adt : Adt) →
+    slice_get p.items.adts n ≡ Some adt → (m : ℕ) (v : Variant) → slice_get adt.variants m ≡ Some v → IsTrue (are_distinct
+    v.field_names)
 
--- a tuple has at most 12 parts and an array 32 elements, and what a type names by its number is there
-abbrev pub is_within_limits : ItemTable → Ty → Bool
-is_within_limits items (Ty.Tuple parts) = nat_lt 0 (length parts) && nat_le (length parts) 12
-is_within_limits items (Ty.Array element count) = nat_le count 32
-is_within_limits items (Ty.Adt n) = nat_lt n (length items.adts)
-is_within_limits items (Ty.Dyn n) = nat_lt n (length items.traits)
-is_within_limits items (Ty.Closure n) = nat_lt n (length items.closures)
-is_within_limits items _ = true
+-- the names of structs, enums, traits and bodies: functions, methods and closures
+abbrev pub item_names : ItemTable → List (List ℕ)
+item_names items =
+    map (λ adt. adt.name) items.adts ++ map (λ def. def.name) items.traits ++ map (λ head. head.name) items.bodies
+
+-- a word, and not built in
+abbrev pub is_item_name : List ℕ → Bool
+is_item_name name = is_word name && not (is_among name built_in)
+
+-- So are those of an accepted text.
+abbrev pub NamesOfItems : Type 0
+NamesOfItems = (parts : Parts Pos) (items : ItemTable) (p : ProgramTree) → IsAccepted parts items p → IsTrue (list_all
+    is_item_name (item_names p.items))
+
+-- They differ.
+abbrev pub NamesDiffer : Type 0
+NamesDiffer = (parts : Parts Pos) (items : ItemTable) (p : ProgramTree) → IsAccepted parts items p → IsTrue (are_distinct
+    (item_names p.items))
+
+-- ---- `drop` bodies, and the bodies of impls
+
+-- a reference to a struct or an enum
+abbrev pub is_to : ItemTable → ℕ → TyId → Bool
+is_to items n ty =
+    option_map_or (λ (r : Bool × TyId). option_map_or (λ m. m == n) (adt_of items r.1) false) (reference_of items ty) false
+
+abbrev pub is_unique : ItemTable → TyId → Bool
+is_unique items ty = option_map_or (λ (r : Bool × TyId). r.0) (reference_of items ty) false
 
 -- `fn drop(&mut self)` of a struct or an enum
-module _ (items : ItemTable) where
-  abbrev is_unique : TyId → Bool
-  is_unique ty = option_map_or (λ (r : Bool × TyId). r.0) (reference_of items ty) false
+abbrev pub is_one_self : ItemTable → ℕ → List TyId → Bool
+is_one_self items n (ty ∷ []) = is_unique items ty && is_to items n ty
+is_one_self items n _ = false
 
-  abbrev is_to : ℕ → TyId → Bool
-  is_to n ty =
-      option_map_or (λ (r : Bool × TyId). option_map_or (λ m. m == n) (adt_of items r.1) false) (reference_of items ty) false
+abbrev pub is_drop_head : ItemTable → List ℕ → ℕ → Sig → Claim
+is_drop_head items name n head =
+    fact (bytes_eq head.name (name ++ codes "::drop")) & fact (is_one_self items n head.params && is_unit items head.result)
 
-  abbrev is_one_self : ℕ → List TyId → Bool
-  is_one_self n (ty ∷ []) = is_unique ty && is_to n ty
-  is_one_self n _ = false
+abbrev pub has_drop_head : ItemTable → List ℕ → ℕ → Option ℕ → Claim
+has_drop_head items name n None = nothing
+has_drop_head items name n (Some body) = some (slice_get items.bodies body) (is_drop_head items name n)
 
-  abbrev is_drop_head : List ℕ → ℕ → Sig → Claim
-  is_drop_head name n head =
-      fact (bytes_eq head.name (name ++ codes "::drop")) & fact (is_one_self n head.params && is_unit items head.result)
+-- A `drop` body of an accepted text has such a head.
+abbrev pub DropsHaveHeads : Type 0
+DropsHaveHeads = (parts : Parts Pos) (items : ItemTable) (p : ProgramTree) → IsAccepted parts items p → (n : ℕ) (adt : Adt) →
+    slice_get p.items.adts n ≡ Some adt → Holds (has_drop_head p.items adt.name n adt.drop_body)
 
-  abbrev pub has_drop_head : List ℕ → ℕ → Option ℕ → Claim
-  has_drop_head name n None = nothing
-  has_drop_head name n (Some body) = some (slice_get items.bodies body) (is_drop_head name n)
+-- the head of a trait's method, with the struct or enum in place of `dyn` of the trait
+abbrev pub are_same_params : ItemTable → ℕ → List TyId → List TyId → Bool
+are_same_params items adt (self ∷ tys) (own ∷ others) =
+    is_to items adt own && (is_same_truth (is_unique items self) (is_unique items own) && are_same tys others)
+are_same_params items adt _ _ = false
 
-  -- names of fields differ, and a `drop` body has its head
-  abbrev pub left_of_adt : ℕ → Adt → Claim
-  left_of_adt n adt = each (λ v. fact (are_distinct v.field_names)) adt.variants & has_drop_head adt.name n adt.drop_body
+abbrev pub implements_head : ItemTable → ℕ → List ℕ → Sig → Sig → Claim
+implements_head items adt name method head =
+    fact (bytes_eq head.name (name ++ codes "::" ++ method.name)) & fact (are_same_params items adt method.params head.params &&
+    is_same method.result head.result)
 
-  abbrev pub left_of_adts : ℕ → List Adt → Claim
-  left_of_adts n [] = nothing
-  left_of_adts n (adt ∷ adts) = left_of_adt n adt & left_of_adts (suc n) adts
+-- one body a method of the trait, in its order
+abbrev pub implements_all : ItemTable → ℕ → List ℕ → List Sig → List ℕ → Claim
+implements_all items adt name [] [] = nothing
+implements_all items adt name (method ∷ methods) (body ∷ bodies) =
+    some (slice_get items.bodies body) (implements_head items adt name method) & implements_all items adt name methods bodies
+implements_all items adt name _ _ = fact false
 
--- a claim without its part of a number
-abbrev pub without : ℕ → Claim → Claim
-without zero (fact test) = nothing
-without (suc n) (fact test) = fact test
-without zero (both first rest) = rest
-without (suc n) (both first rest) = both first (without n rest)
+abbrev pub is_impl : ItemTable → ImplDef → Claim
+is_impl items def =
+    some (slice_get items.traits def.trait_no) (λ tr. some (slice_get items.adts def.adt) (λ adt. implements_all items def.adt
+    adt.name tr.methods def.bodies))
 
--- What is claimed of items but for what is proved of them: limits of types, the two of structs and enums, the bodies of
--- impls, and names.
-abbrev pub left_of_items : ItemTable → Claim
-left_of_items items =
-    fact (list_all (is_within_limits items) items.types) & left_of_adts items 0 items.adts & without 0 (without 0 (without 2
-    (without 4 (without 5 (without 6 (without 9 (are_items items)))))))
-
--- So an accepted text is well typed where these are.
-abbrev pub RestIsEnough : Type 0
-RestIsEnough = (parts : Parts Pos) (items : ItemTable) (p : ProgramTree) → IsAccepted parts items p → Holds (left_of_items
-    p.items) → WellTyped p
+-- So are the impls of an accepted text.
+abbrev pub ImplsAreTyped : Type 0
+ImplsAreTyped = (parts : Parts Pos) (items : ItemTable) (p : ProgramTree) → IsAccepted parts items p → Holds (each (is_impl
+    p.items) p.items.impls)

@@ -13,6 +13,7 @@ use Rattle.typing_rules.specs.Items.{items_of, item_syns, all_kinds}
 use Rattle.typing_rules.specs.Program.{checked}
 use Rattle.typing_rules.specs.Promises.{AreReady, AreClosures, KnowsItems}
 use Rattle.typing_soundness.specs.Heads.{TellBodies}
+use Rattle.typing_soundness.specs.Named.{item_named, HasNames}
 use Rattle.typing_soundness.specs.Shapes.{item_shaped}
 use Rattle.typing_soundness.specs.Walks.{counted}
 
@@ -23,9 +24,10 @@ pub record AreCollected (parts : Parts Pos) (items : ItemTable) : Type 0 where
   pub ready : AreReady items
   pub known : KnowsItems (all_kinds (item_syns (items_of parts))) None items
 
--- a syntax tree of a text: it is shaped as those are, and each item is listed with all its bodies
+-- a syntax tree of a text: it is shaped as those are, its names are words, and each item is listed with all its bodies
 pub record IsOfText (parts : Parts Pos) : Type 0 where
   pub shaped : Holds (each item_shaped (item_syns (items_of parts)))
+  pub named : Holds (each item_named (item_syns (items_of parts)))
   pub listed : TellBodies (items_of parts)
 
 -- a text that is accepted: its items, and its typed program
@@ -62,7 +64,10 @@ abbrev pub BodiesAreTyped : Type 0
 BodiesAreTyped = (parts : Parts Pos) (items : ItemTable) (p : ProgramTree) → IsAccepted parts items p → AreReady
     p.items × Holds (are_bodies p.items 0 p.items.bodies p.bodies)
 
--- So its program is well typed where its items are.
+-- So its program is well typed.
 abbrev pub ProgramsAreTyped : Type 0
-ProgramsAreTyped = (parts : Parts Pos) (items : ItemTable) (p : ProgramTree) → IsAccepted parts items p → Holds (are_items
-    p.items) → WellTyped p
+ProgramsAreTyped = (parts : Parts Pos) (items : ItemTable) (p : ProgramTree) → IsAccepted parts items p → WellTyped p
+
+-- Names of structs, enums, variants and methods of an accepted text are words.
+abbrev pub NamesAreWords : Type 0
+NamesAreWords = (parts : Parts Pos) (items : ItemTable) (p : ProgramTree) → IsAccepted parts items p → HasNames p.items

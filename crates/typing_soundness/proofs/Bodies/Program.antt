@@ -36,13 +36,13 @@ use Rattle.typing_soundness.proofs.Bodies.Order.{same_ok, no_ok}
 use Rattle.typing_soundness.proofs.Sound.Names.{found_there}
 
 -- a check that only adds what is well typed
-abbrev Keeps : {A : Type 0} → State → Result (A × State) Broken → Type 0
+abbrev pub Keeps : {A : Type 0} → State → Result (A × State) Broken → Type 0
 Keeps s r = Gives s (λ w a. Unit {0}) r
 
 keeps : {A : Type 0} {s : State} {Q : State → A → Type 0} {r : Result (A × State) Broken} → Gives s Q r → Keeps s r
 keeps h = weaker (λ w a. Unit {0}) h λ a w all g q. tt
 
-done : {A : Type 0} {s : State} (a : A) → Gives s (λ w b. Unit {0}) (Ok (a, s))
+pub done : {A : Type 0} {s : State} (a : A) → Gives s (λ w b. Unit {0}) (Ok (a, s))
 done a = given a λ ready w g. tt
 
 -- a walk of its own whose bodies stay
@@ -97,7 +97,7 @@ module _ (env : Env) where
       Rule.T19 at (nat_le (rules.count_of fs) 32) _ λ _. variants_keep (name ∷ earlier) vs t
   variants_keep earlier (syn at _ ∷ vs) s = record { so = λ ready. tt }
 
-  head_keeps : (params : Syns) (answer : MaybeSyn) (s : State) → IsTrue (self_first params) → Keeps s (rules.head_rules
+  pub head_keeps : (params : Syns) (answer : MaybeSyn) (s : State) → IsTrue (self_first params) → Keeps s (rules.head_rules
       env params answer s)
   head_keeps params answer s first =
       bind (new_keeps (bodies.params_of env (types.written_param (bodies.all_rules env)) params []) s (keeps
@@ -133,7 +133,7 @@ main_keeps at name params (Some sig) s =
     by true = done tt
     by false = record { so = λ ready. tt }
 
-item_keeps : (env : Env) (before : rules.Before) (i : Syn) (s : State) → Holds (item_shaped i) → Keeps s
+pub item_keeps : (env : Env) (before : rules.Before) (i : Syn) (s : State) → Holds (item_shaped i) → Keeps s
     (rules.item_rules env before i s)
 item_keeps env before (syn at (StructItem ds name kind fs)) s h =
     bind (fields_keep (rules.in_impl env (adt_named s.items name.1)) [] (list_of fs) s) λ _ t g d. obeyed Rule.T19 at
@@ -198,7 +198,7 @@ module _ (env : Env) (bare : (x : Entry) → Contains env.variables x → ⊥) w
   all_fn_keep (f ∷ fs) s h k =
       bind (fn_keeps f s h.0 k) λ _ t g d. all_fn_keep fs t h.1 (items_later g.items k)
 
-bodies_keep : (env : Env) → ((x : Entry) → Contains env.variables x → ⊥) → (i : Syn) (s : State) → Holds (item_shaped i)
+pub bodies_keep : (env : Env) → ((x : Entry) → Contains env.variables x → ⊥) → (i : Syn) (s : State) → Holds (item_shaped i)
     → KnowsItems env.kinds env.self_adt s.items → Keeps s (rules.bodies_of env i s)
 bodies_keep env bare (syn at (ImplItem trait_ name methods)) s h k =
     all_fn_keep (rules.in_impl env (adt_named s.items name.1)) bare (list_of methods) s h (knows_impl s.items k name.1)

@@ -28,7 +28,7 @@ use Rattle.typing_soundness.specs.Program.{IsAccepted}
 use Rattle.typing_soundness.specs.Walks.{Walked}
 use Rattle.typing_soundness.proofs.Items.Accepting.{are_typed}
 use Rattle.typing_soundness.proofs.Items.Copies.{text_copies}
-use Rattle.typing_soundness.proofs.Items.Collected.{all_adts, adts_in}
+use Rattle.typing_soundness.proofs.Items.Collected.{all_adts, adts_in, names_counted}
 use Rattle.typing_soundness.proofs.Items.Headed.{heads_of_text}
 use Rattle.typing_soundness.proofs.Items.Heads.{alone_stands}
 use Rattle.typing_soundness.proofs.Bodies.Order.{no_ok, walk_adds}
@@ -145,9 +145,12 @@ variants_counted (a_syn (syn at _) rest) (x ∷ xs) are = absurd are
 abbrev IsCounted : Variant → Type 0
 IsCounted v = IsTrue (length v.field_names == length v.fields) × IsTrue (nat_le (length v.fields) 32)
 
+names_are : (fields : Syns) (v : Variant) → IsVariantOf fields v → length v.field_names ≡ length (list_of fields)
+names_are fields v h = ap length h.1 ∙ names_counted 0 (list_of fields)
+
 counted : (fields : Syns) (v : Variant) → IsVariantOf fields v → IsTrue (nat_le (rules.count_of fields) 32) → IsCounted v
 counted fields v h few = (
-  eq-eqb (length v.field_names) (length v.fields) (h.1 ∙ sym h.0),
+  eq-eqb (length v.field_names) (length v.fields) (names_are fields v h ∙ sym h.0),
   ap (λ n. nat_le n 32) h.0 ∙ few,
 )
 

@@ -446,7 +446,7 @@ bodies_collected k owner own c (b ∷ bs) s =
 -- ---- items
 
 -- each of some things, which only makes types
-each_still : {A B : Type 0} (f : A → Check B) → ((x : A) (s : State) → Walked (Still s) (f x s)) → (xs : List A) (s :
+pub each_still : {A B : Type 0} (f : A → Check B) → ((x : A) (s : State) → Walked (Still s) (f x s)) → (xs : List A) (s :
     State) → Walked (Still s) (each_checked f xs s)
 each_still f good [] s = walk_ends (still s)
 each_still f good (x ∷ xs) s =
@@ -468,7 +468,7 @@ each_counted f good [] s = walk_ends (still s, refl)
 each_counted f good (x ∷ xs) s =
     walk (good x s) λ y t e. walk (each_counted f good xs t) λ ys u g. walk_ends (onward e g.0, ap suc g.1)
 
-names_counted : (k : ℕ) (fs : List Syn) → length (rules.names_from k fs) ≡ length fs
+pub names_counted : (k : ℕ) (fs : List Syn) → length (rules.names_from k fs) ≡ length fs
 names_counted k [] = refl
 names_counted k (f ∷ fs) = ap suc (names_counted (suc k) fs)
 
@@ -476,7 +476,7 @@ pub variant_collected : (around : types.Around) (name : Word) (fields : Syns) (s
     ≡ name) × IsVariantOf fields v) (rules.variant_of around name fields s)
 variant_collected around name fields s =
     walk (each_counted (λ f. types.written around (rules.field_type f)) (λ f t. written_still around (rules.field_type f)
-    t) (list_of fields) s) λ tys t e. walk_ends (e.0, refl, (e.1, names_counted 0 (list_of fields)))
+    t) (list_of fields) s) λ tys t e. walk_ends (e.0, refl, (e.1, refl))
 
 -- a variant that is declared
 abbrev IsDeclared : Syn → Variant → Type 0

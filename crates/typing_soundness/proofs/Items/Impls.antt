@@ -38,13 +38,13 @@ use Rattle.typing_soundness.proofs.Walking.Steps.{walk, walk_map, walk_obeyed, w
 -- ---- impls in the order of the text
 
 module _ (k : rules.Known) where
-  abbrev IsImplOf : List TraitDef → Syn → ImplDef → Type 0
+  abbrev pub IsImplOf : List TraitDef → Syn → ImplDef → Type 0
   IsImplOf traits (syn at (ImplItem (Some trait_) name methods)) def =
       (types.number_of k.traits trait_.1 ≡ Some def.trait_no) × (types.number_of k.adts name.1 ≡ Some def.adt) × (def.bodies ≡
       rules.impl_bodies k.paths name.1 trait_.1 (rules.methods_of (slice_get traits def.trait_no)))
   IsImplOf traits _ def = ⊥
 
-  abbrev AreImplsOf : List TraitDef → List Syn → List ImplDef → Type 0
+  abbrev pub AreImplsOf : List TraitDef → List Syn → List ImplDef → Type 0
   AreImplsOf traits [] [] = Unit {0}
   AreImplsOf traits (i ∷ is) (def ∷ defs) = IsImplOf traits i def × AreImplsOf traits is defs
   AreImplsOf traits _ _ = ⊥
@@ -74,15 +74,15 @@ module _ (k : rules.Known) where
   }
 
   -- those of traits but `Drop`
-  abbrev unless_drop : Bool → Syn → List Syn
+  abbrev pub unless_drop : Bool → Syn → List Syn
   unless_drop drops i = if drops then [] else (i ∷ [])
 
-  abbrev impls_in : Syn → List Syn
+  abbrev pub impls_in : Syn → List Syn
   impls_in (syn at (ImplItem (Some trait_) name methods)) =
       unless_drop (rules.is_drop trait_.1) (syn at (ImplItem (Some trait_) name methods))
   impls_in _ = []
 
-  abbrev all_impls : List Syn → List Syn
+  abbrev pub all_impls : List Syn → List Syn
   all_impls [] = []
   all_impls (i ∷ is) = impls_in i ++ all_impls is
 

@@ -26,7 +26,7 @@ use Rattle.typing_soundness.specs.Types.{Means, MeansForm, NamesTy, IsTupleOf}
 use Rattle.typing_soundness.proofs.Bodies.Types.{unit_plain, never_plain, scalar_plain}
 use Rattle.typing_soundness.specs.Heads.{IsHeadOf, IsVariantOf, AreVariantsOf, AreAdtsOf}
 use Rattle.typing_soundness.specs.Shapes.{has_kind, variant_shaped, item_shaped}
-use Rattle.typing_soundness.proofs.Items.Collected.{AreHeads, all_adts, adts_in}
+use Rattle.typing_soundness.proofs.Items.Collected.{AreHeads, all_adts, adts_in, names_counted}
 
 -- ---- variants and their kinds
 
@@ -55,7 +55,7 @@ no_length [] e = refl
 no_length (ty ∷ tys) e = absurd (omega (arith, e))
 
 variant_fit : (kind : Kind) (fields : Syns) (v : Variant) → IsTrue (has_kind kind fields) → IsVariantOf fields v → IsFit kind v
-variant_fit kind fields v h is = (is.1 ∙ sym is.0, λ unit_. by kind fields h unit_ is.0)
+variant_fit kind fields v h is = (ap length is.1 ∙ names_counted 0 (list_of fields) ∙ sym is.0, λ unit_. by kind fields h unit_ is.0)
   where
     by : (kind : Kind) (fields : Syns) → IsTrue (has_kind kind fields) → IsTrue (is_unit_kind kind) → length v.fields ≡ length
         (list_of fields) → v.fields ≡ []

@@ -61,7 +61,7 @@ below_if p (y ∷ ys) (suc k) x is h = by (p y) (below_if p ys k x is h)
     by true h = omega arith
     by false h = omega (arith, h)
 
-has_position : {A : Type 0} (p : A → Bool) (xs : List A) (k : ℕ) (x : A) → slice_get xs k ≡ Some x → IsTrue (p x) → (n : ℕ) ×
+pub has_position : {A : Type 0} (p : A → Bool) (xs : List A) (k : ℕ) (x : A) → slice_get xs k ≡ Some x → IsTrue (p x) → (n : ℕ) ×
     (position_of p xs ≡ Some n)
 has_position p xs k x is h =
     by (nat_lt (position_or_len p xs) (length xs)) (lt-ltb _ _ (below_if p xs k x is h))
@@ -70,7 +70,7 @@ has_position p xs k x is h =
     by true e = (position_or_len p xs, refl)
     by false e = absurd (false≢true e)
 
-one_of : {A : Type 0} (p : A → Bool) (xs : List A) (k : ℕ) (x : A) → slice_get xs k ≡ Some x → IsTrue (p x) → IsTrue (list_any
+pub one_of : {A : Type 0} (p : A → Bool) (xs : List A) (k : ℕ) (x : A) → slice_get xs k ≡ Some x → IsTrue (p x) → IsTrue (list_any
     p xs)
 one_of p [] k x is h = absurd (none-some x is)
 one_of p (y ∷ ys) zero x is h =
@@ -86,10 +86,10 @@ one_of p (y ∷ ys) (suc k) x is h = by (p y) (one_of p ys k x is h)
 abbrev main : Word
 main = codes "main"
 
-same_word : (a b : Word) → bytes_eq a b ≡ true → a ≡ b
+pub same_word : (a b : Word) → bytes_eq a b ≡ true → a ≡ b
 same_word a b h = (bytes_eq-Decides a b).0 h
 
-word_self : (a : Word) → bytes_eq a a ≡ true
+pub word_self : (a : Word) → bytes_eq a a ≡ true
 word_self a = (bytes_eq-Decides a a).1 refl
 
 either_so : (a b : Bool) → b ≡ true → (a || b) ≡ true
@@ -108,12 +108,14 @@ method_is_no_main owner name e =
 
 -- ---- closures among the bodies of a text
 
-module _ (P : BodySyn → Type 0) (closure : (head : Head) → P (Closure head)) (around : types.Around) where
+-- what one closure more keeps, all closures of an expression keep
+module _ (Kept : List BodySyn → Type 0) (closure : (head : Head) (rest : List BodySyn) → Kept rest → Kept (Closure head ∷ rest))
+    (around : types.Around) where
   mutual
-    each_closure : (e : Syn) (rest : List BodySyn) → All P rest → All P (closures_of around e rest)
+    each_closure : (e : Syn) (rest : List BodySyn) → Kept rest → Kept (closures_of around e rest)
     each_closure (syn at form) rest p = each_in form rest p
 
-    each_in : (form : Shape) (rest : List BodySyn) → All P rest → All P (closures_in around form rest)
+    each_in : (form : Shape) (rest : List BodySyn) → Kept rest → Kept (closures_in around form rest)
     each_in (Minus operand) rest p = each_closure operand rest p
     each_in (Bang operand) rest p = each_closure operand rest p
     each_in (Star operand) rest p = each_closure operand rest p
@@ -145,16 +147,16 @@ module _ (P : BodySyn → Type 0) (closure : (head : Head) → P (Closure head))
     each_in (WhileLetOf label pattern scrutinee body) rest p = each_closure scrutinee _ (each_closure body rest p)
     each_in (BreakOf label value) rest p = each_if_any value rest p
     each_in (ReturnOf value) rest p = each_if_any value rest p
-    each_in (MoveOf captures params answer body) rest p = (closure _, each_closure body rest p)
+    each_in (MoveOf captures params answer body) rest p = closure _ _ (each_closure body rest p)
     each_in (LetOf pattern ty value) rest p = each_if_any value rest p
     each_in (Semi expression) rest p = each_closure expression rest p
     each_in _ rest p = p
 
-    each_among : (es : Syns) (rest : List BodySyn) → All P rest → All P (closures_among around es rest)
+    each_among : (es : Syns) (rest : List BodySyn) → Kept rest → Kept (closures_among around es rest)
     each_among no_syn rest p = p
     each_among (a_syn first others) rest p = each_closure first _ (each_among others rest p)
 
-    each_if_any : (e : MaybeSyn) (rest : List BodySyn) → All P rest → All P (closures_if_any around e rest)
+    pub each_if_any : (e : MaybeSyn) (rest : List BodySyn) → Kept rest → Kept (closures_if_any around e rest)
     each_if_any nothing rest p = p
     each_if_any (just value) rest p = each_closure value rest p
 
@@ -248,13 +250,13 @@ abbrev MainText : ItemTable → BodySyn → Type 0
 MainText items (Function head) = IsTrue (bytes_eq (function_name head) main) → IsMain items head.params
 MainText items (Closure head) = Unit {0}
 
-abbrev IsOwned : rules.Known → ItemSyn → Type 0
+abbrev pub IsOwned : rules.Known → ItemSyn → Type 0
 IsOwned k i = IsOwner k (impl_owner i.item)
 
 module _ (items : ItemTable) (k : rules.Known) where
   closures_text : (around : types.Around) (block : MaybeSyn) (rest : List BodySyn) → All (MainText items) rest → All (MainText
       items) (closures_if_any around block rest)
-  closures_text around block rest p = each_if_any (MainText items) (λ head. tt) around block rest p
+  closures_text around block rest p = each_if_any (All (MainText items)) (λ head texts q. (tt, q)) around block rest p
 
   methods_text : (owner : Word) → IsOwner k (Some owner) → (ms : List Syn) (rest : List BodySyn) → All (MainText items) rest →
       All (MainText items) (functions_text (all_names k (Some owner)) ms rest)
@@ -279,7 +281,7 @@ module _ (items : ItemTable) (k : rules.Known) where
       subst (λ f. All (MainText items) (f (listed_text k is []))) (sym (tell.0 (all_names k (impl_owner i.item))))
       (item_main i.item h.0 own.0 (listed_text k is []) (mains_listed is h.1 own.1 tell.1))
 
-owners_known : (k : rules.Known) (c : rules.Count) (is : List ItemSyn) (s : State) → Walked (λ _ t. All (IsOwned k)
+pub owners_known : (k : rules.Known) (c : rules.Count) (is : List ItemSyn) (s : State) → Walked (λ _ t. All (IsOwned k)
     is) (rules.heads_collected k c is s)
 owners_known k c [] s = walk_ends tt
 owners_known k c (i ∷ is) s =
@@ -368,7 +370,7 @@ collecting_main is end s =
 -- ---- heads and their texts
 
 -- the head of a text, and the text of a head
-head_of : {B : Type 0} (P : ℕ → BodySyn → B → Type 0) (from to : ℕ) (texts rest : List BodySyn) (bs : List B) → AreMade P from to
+pub head_of : {B : Type 0} (P : ℕ → BodySyn → B → Type 0) (from to : ℕ) (texts rest : List BodySyn) (bs : List B) → AreMade P from to
     texts [] bs → (n : ℕ) (t : BodySyn) → slice_get texts n ≡ Some t → (b : B) × (k : ℕ) × (slice_get bs n ≡ Some b) × P k t b
 head_of P from to texts rest [] h n t is = absurd (none-some t (sym (ap (λ ts. slice_get ts n) h.0) ∙ is))
 head_of P from to [] rest (b ∷ bs) h n t is = absurd (none-some t is)

@@ -22,7 +22,8 @@ use Rattle.typing_rules.specs.Collected as rules
 use Rattle.typing_rules.specs.Items.{ItemSyn, items_of, item_syns, impl_owner, full_name, body_paths}
 use Rattle.typing_rules.specs.Written as types
 use Rattle.src_ast.specs.Syntax.{Word, Named, Receiver, ByValue, ByShared, ByUnique, Syn, syn, Shape, NamedType, GenericType, DynType, SelfType, ParensType, TupleType, ArrayType, NeverType, RefType, MoveOf, StructItem, EnumItem, VariantDecl, TraitItem, ImplItem, FnItem, ParamOf, SelfParam, Syns, no_syn, a_syn, list_of, MaybeSyn, nothing, just}
-use Rattle.typing_soundness.specs.Named.{is_type_name, variant_named, head_named, item_named, adt_named, trait_named, HasNames, NamesAreWords}
+use Rattle.typing_soundness.specs.Named.{is_type_name, variant_named, head_named, item_named, adt_named, trait_named, HasNames}
+use Rattle.typing_soundness.specs.Program.{NamesAreWords}
 use Rattle.typing_soundness.specs.Walks.{Walked}
 use Rattle.typing_soundness.proofs.Bodies.Program.{bodies_typed}
 use Rattle.typing_soundness.proofs.Items.Accepting.{are_collected}
@@ -211,7 +212,7 @@ derives_kept (d ∷ ds) s = step (obeyed_kept Rule.T01 d.0 (rules.is_derivable d
 declared_named : (around : types.Around) (v : Syn) (s : State) → Holds (variant_named v) → Walked (λ (x : Variant) t. Kept s
     t × IsTrue (is_word x.name)) (rules.declared_variant around v s)
 declared_named around (syn at (VariantDecl name kind fields)) s h =
-    walk_map (variant_kept around name fields s) λ v t e. (e.0, subst (λ w. IsTrue (is_word w)) (sym e.1) h)
+    walk_map (variant_kept around name fields s) λ v t e. (e.0, subst (λ w. IsTrue (is_word w)) (sym e.1) h.0)
 declared_named around (syn at _) s h = record { so = tt }
 
 trait_head_named : (around : types.Around) (own : TyId) (x : Syn) (s : State) → Holds (head_named x) → Walked (λ (sig : Sig) t.
@@ -226,7 +227,7 @@ trait_head_named around own (syn at (FnItem name params answer block)) s h = by 
     sig_named ps t =
         walk_map (sig_kept around pure_own (λ u. ends own u) name.1 ps answer t) λ sig u e. (
           e.0,
-          subst (λ w. IsTrue (is_word w)) (sym e.1) h,
+          subst (λ w. IsTrue (is_word w)) (sym e.1) (true_left (is_word name.1) _ h),
         )
 
     by : (b : Bool) → Walked (λ (sig : Sig) t. Kept s t × IsTrue (is_word sig.name)) ((if b then rules.sig_of around pure_own
@@ -244,8 +245,8 @@ item_head_names k (syn at (StructItem ds name kind fields)) s h =
     t) λ v u f. walk_ends (λ had.
     let has = names_kept (onward e f.0) had in
     record {
-      adts = more_adts u.items (rules.adt_of k ds name.1 false (v ∷ [])) has.adts (and_true (is_type_name name.1) _ h (and_true
-          (is_word v.name) true (subst (λ w. IsTrue (is_word w)) (sym f.1) (word_of name.1 h)) refl));
+      adts = more_adts u.items (rules.adt_of k ds name.1 false (v ∷ [])) has.adts (and_true (is_type_name name.1) _ h.0 (and_true
+          (is_word v.name) true (subst (λ w. IsTrue (is_word w)) (sym f.1) (word_of name.1 h.0)) refl));
       traits = has.traits;
     })
   where
@@ -254,7 +255,7 @@ item_head_names k (syn at (StructItem ds name kind fields)) s h =
 item_head_names k (syn at (EnumItem ds name variants)) s h =
     walk (derives_kept ds s) λ _ t e. walk (each_named variant_named (λ (v : Variant). is_word v.name)
     (rules.declared_variant (rules.names_alone k (types.number_of k.adts name.1))) (declared_named (rules.names_alone k
-    (types.number_of k.adts name.1))) (list_of variants) t h.1) λ vs u f. walk_ends (λ had.
+    (types.number_of k.adts name.1))) (list_of variants) t h.1.1) λ vs u f. walk_ends (λ had.
     let has = names_kept (onward e f.0) had in
     record {
       adts = more_adts u.items (rules.adt_of k ds name.1 true vs) has.adts (and_true (is_type_name name.1) _ h.0 f.1);
@@ -263,7 +264,7 @@ item_head_names k (syn at (EnumItem ds name variants)) s h =
 item_head_names k (syn at (TraitItem name heads)) s h =
     walk (interned_kept (Ty.Dyn (length s.items.traits)) s) λ own t e. walk (each_named head_named (λ (m : Sig). is_word
     m.name) (rules.trait_head (rules.names_alone k None) own) (trait_head_named (rules.names_alone k None) own) (list_of
-    heads) t h) λ sigs u f. walk_ends (λ had.
+    heads) t h.1) λ sigs u f. walk_ends (λ had.
     let has = names_kept (onward e f.0) had in
     record {
       adts = has.adts;
@@ -375,8 +376,8 @@ collected_names parts end items e h =
     by (Err x) w e = absurd (no_ok x e)
 
 pub names_are_words : NamesAreWords
-names_are_words parts items p h named =
-    let had = collected_names parts h.end items h.collected named in
+names_are_words parts items p h =
+    let had = collected_names parts h.end items h.collected h.text.named in
     let later = (bodies_typed parts items p (are_collected parts items p h) h.checked).0 in
     record {
       adts = subst (λ xs. IsTrue (list_all adt_named xs)) (sym later.adts) had.adts;

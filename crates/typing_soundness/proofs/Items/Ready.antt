@@ -51,7 +51,7 @@ module _ (around : types.Around) where
   full = record around { has_limits = true }
 
   mutual
-    same_written : (e : Syn) → IsTrue (legal e) → (s : State) → types.written names e s ≡ types.written full e s
+    pub same_written : (e : Syn) → IsTrue (legal e) → (s : State) → types.written names e s ≡ types.written full e s
     same_written (syn at form) h s = same_form at form h s
 
     same_form : (at : Pos) (form : Shape) → IsTrue (legal_form form) → (s : State) → types.written_form names at form s ≡
@@ -94,7 +94,7 @@ module _ (around : types.Around) where
         (legal first) _ h) t i) (λ tys u. Ok (ty ∷ tys, u)))
 
   mutual
-    same_param : (e : Syn) → IsTrue (legal_param e) → (s : State) → types.written_param names e s ≡ types.written_param
+    pub same_param : (e : Syn) → IsTrue (legal_param e) → (s : State) → types.written_param names e s ≡ types.written_param
         full e s
     same_param (syn at form) h s = same_param_form at form h s
 
@@ -181,7 +181,7 @@ module _ (around : types.Around) where
       with_ready λ all. given unit λ ready w g. unit_plain w.items (g.ready all)
   answer_ready (just ty) s h = type_ready around ty h s
 
-params_all : (test : Syn → Bool) (ps : Syns) → IsTrue (params_legal test ps) → All (λ p. IsTrue (param_legal test p))
+pub params_all : (test : Syn → Bool) (ps : Syns) → IsTrue (params_legal test ps) → All (λ p. IsTrue (param_legal test p))
     (list_of ps)
 params_all test no_syn h = tt
 params_all test (a_syn first rest) h =
@@ -439,15 +439,15 @@ ready_of Q (Err e) g = record { so = tt }
 abbrev pub Kept : {A : Type 0} → A → State → Type 0
 Kept a t = Unit {0}
 
-fields_all : (fs : List Syn) → IsTrue (fields_legal fs) → All (λ f. IsTrue (field_legal f)) fs
+pub fields_all : (fs : List Syn) → IsTrue (fields_legal fs) → All (λ f. IsTrue (field_legal f)) fs
 fields_all [] h = tt
 fields_all (f ∷ fs) h = (true_left (field_legal f) _ h, fields_all fs (true_right (field_legal f) _ h))
 
-variants_all : (vs : List Syn) → IsTrue (variants_legal vs) → All (λ v. IsTrue (variant_legal v)) vs
+pub variants_all : (vs : List Syn) → IsTrue (variants_legal vs) → All (λ v. IsTrue (variant_legal v)) vs
 variants_all [] h = tt
 variants_all (v ∷ vs) h = (true_left (variant_legal v) _ h, variants_all vs (true_right (variant_legal v) _ h))
 
-heads_all : (hs : List Syn) → IsTrue (trait_heads_legal hs) → All (λ h. IsTrue (trait_head_legal h)) hs
+pub heads_all : (hs : List Syn) → IsTrue (trait_heads_legal hs) → All (λ h. IsTrue (trait_head_legal h)) hs
 heads_all [] h = tt
 heads_all (x ∷ hs) h = (true_left (trait_head_legal x) _ h, heads_all hs (true_right (trait_head_legal x) _ h))
 
@@ -533,13 +533,13 @@ module _ (around : types.Around) (own : TyId) where
       (d w (grows_trans l m), e w m)
 
   -- the parameters behind `self` are legal, and so are all
-  with_self_legal : (params : Syns) → IsTrue (params_legal legal_param (behind_self params)) → IsTrue (params_legal legal_param
+  pub with_self_legal : (params : Syns) → IsTrue (params_legal legal_param (behind_self params)) → IsTrue (params_legal legal_param
       params)
   with_self_legal no_syn h = h
   with_self_legal (a_syn (syn at (SelfParam receiver)) rest) h = h
   with_self_legal (a_syn (syn at _) rest) h = h
 
-  same_behind : (params : Syns) → IsTrue (params_legal legal_param (behind_self params)) → IsTrue (params_legal legal_param
+  pub same_behind : (params : Syns) → IsTrue (params_legal legal_param (behind_self params)) → IsTrue (params_legal legal_param
       (rules.behind_self params))
   same_behind no_syn h = h
   same_behind (a_syn (syn at (SelfParam receiver)) rest) h = h

@@ -23,7 +23,7 @@ use Rattle.well_typed.specs.Names.{is_among, are_distinct}
 use Rattle.well_typed.specs.Types.{trait_of, dyn_in, reference_in}
 use Rattle.typing_rules.specs.Check.{Check, State, Broken, and_then, interned, each_checked}
 use Rattle.typing_rules.specs.Collected as rules
-use Rattle.typing_rules.specs.Items.{ItemSyn, items_of, item_syns, body_paths, impl_owner, full_name, closure_name}
+use Rattle.typing_rules.specs.Items.{ItemSyn, items_of, item_syns, trait_names, body_paths, impl_owner, full_name, closure_name}
 use Rattle.typing_rules.specs.Program as checks
 use Rattle.typing_rules.specs.Promises.{AreReady, Extends}
 use Rattle.typing_rules.specs.Scope.{Env}
@@ -154,7 +154,8 @@ module _ (around : types.Around) (own : TyId) where
 module _ (around : types.Around) where
   abbrev IsTraitOf : ItemTable → ℕ → Syn → TraitDef → Type 0
   IsTraitOf items n (syn at (TraitItem name heads)) def =
-      (own : TyId) × (type_at items own ≡ Some (Ty.Dyn n)) × AreTraitHeads around own items (list_of heads) def.methods
+      (own : TyId) × (type_at items own ≡ Some (Ty.Dyn n)) × AreTraitHeads around own items (list_of heads)
+      def.methods × (def.name ≡ name.1)
   IsTraitOf items n _ def = ⊥
 
   abbrev AreTraitsOf : ItemTable → ℕ → List Syn → List TraitDef → Type 0
@@ -165,7 +166,7 @@ module _ (around : types.Around) where
   trait_on : (old new : ItemTable) → HaveTypes old new → (n : ℕ) (i : Syn) (def : TraitDef) → IsTraitOf old n i def →
       IsTraitOf new n i def
   trait_on old new e n (syn at (TraitItem name heads)) def h =
-      (h.0, e h.0.0 (Ty.Dyn n) h.1, heads_on around h.0 old new e (list_of heads) def.methods h.2)
+      (h.0, e h.0.0 (Ty.Dyn n) h.1, heads_on around h.0 old new e (list_of heads) def.methods h.2, h.3)
   trait_on old new e n (syn at _) def h = absurd h
 
   traits_on : (old new : ItemTable) → HaveTypes old new → (n : ℕ) (is : List Syn) (defs : List TraitDef) → AreTraitsOf old n
@@ -289,6 +290,7 @@ module _ (k : rules.Known) where
             g.0.stays.types own.0 (Ty.Dyn (length s.items.traits)) is,
             heads_on (all_names k None) own u.items (with_trait u.items (record { name = name.1; methods = sigs })) (have_refl
                 u.items) (list_of heads) sigs g.1,
+            refl,
           ),
           tt,
         );
@@ -332,6 +334,29 @@ collecting_traits is end =
     there {u} {y} h s =
         subst (AreTraitsOf (all_names (rules.known_of is) None) y.items 0 (all_traits is)) (sym (s.traits ∙ h.traits))
         (traits_on (all_names (rules.known_of is) None) u.items y.items s.types 0 (all_traits is) h.new h.are)
+
+-- traits have the names of the text
+module _ (around : types.Around) (items : ItemTable) where
+  first_name : (n : ℕ) (i : Syn) (def : TraitDef) (is : List Syn) (ws : List Word) → IsTraitOf around items n i def → ws ≡
+      trait_names is → def.name ∷ ws ≡ trait_names (i ∷ is)
+  first_name n (syn at (TraitItem name heads)) def is ws h e = λ j. h.3 j ∷ e j
+  first_name n (syn at _) def is ws h e = absurd h
+
+  own_names : (n : ℕ) (is : List Syn) (defs : List TraitDef) → AreTraitsOf around items n is defs → map (λ (def : TraitDef).
+      def.name) defs ≡ trait_names is
+  own_names n [] [] h = refl
+  own_names n [] (def ∷ defs) h = absurd h
+  own_names n (i ∷ is) [] h = absurd h
+  own_names n (i ∷ is) (def ∷ defs) h = first_name n i def is _ h.0 (own_names (suc n) is defs h.1)
+
+names_with : (x : Syn) (is : List ItemSyn) → trait_names (all_traits is) ≡ trait_names (item_syns is) → trait_names (traits_in x ++
+    all_traits is) ≡ trait_names (x ∷ item_syns is)
+names_with (syn at (TraitItem name heads)) is e = ap (λ ws. name.1 ∷ ws) e
+names_with (syn at _) is e = e
+
+names_of_text : (is : List ItemSyn) → trait_names (all_traits is) ≡ trait_names (item_syns is)
+names_of_text [] = refl
+names_of_text (i ∷ is) = names_with i.item is (names_of_text is)
 
 -- ---- what the rules on traits ask
 
@@ -560,3 +585,7 @@ module _ (parts : Parts Pos) (items : ItemTable) (p : ProgramTree) (h : IsAccept
             names = differ_distinct [] (map (λ s. s.name) def.methods) m.1;
           }
       by (syn place _) is so = absurd is
+
+  pub named_traits : map (λ (def : TraitDef). def.name) p.items.traits ≡ trait_names (item_syns (items_of parts))
+  named_traits =
+      own_names around p.items 0 (all_traits (items_of parts)) p.items.traits traits ∙ names_of_text (items_of parts)

@@ -3,8 +3,8 @@ use Rattle.typed_tree.specs.View.{program_of}
 use Rattle.mir_pipeline.proofs.Sited.{is_graph}
 use Rattle.mir_pipeline.proofs.graphs.graph_of.Goals as goal
 
-pub returns-in-Ok-clause-graph : goal.returns-in-Ok-clause-graph
-returns-in-Ok-clause-graph c =
-    IfOk-weaker c.sound.result _ _
-    (λ same is. is_graph (program_of c.args.typed.now) c.requires c.in-Ok.lowered same c.in-Ok.ensures.graph c.in-Ok.ensures.sites is)
-    c.sound.ensures.same
+pub returns-in-Ok : goal.returns-in-Ok
+returns-in-Ok c = record {
+  graph = IfOk-weaker c.counted.result _ _ (λ same is. is_graph (program_of c.args.typed.now) c.requires c.in-Ok.lowered same
+      c.in-Ok.ensures.graph c.in-Ok.ensures.sites is) c.counted.ensures.same;
+}

@@ -1,5 +1,6 @@
 -- Proves the clauses of `law_of_programs`.
-use Rattle.typing_soundness.proofs.Items.Accepting.{are_collected, are_headed, are_typed, is_typed}
+use Rattle.typing_soundness.proofs.Items.Accepting.{are_collected, are_headed, are_typed}
+use Rattle.typing_soundness.proofs.Items.Entire.{text_well_typed}
 use Rattle.typing_soundness.proofs.Bodies.Order.{bodies_in_order}
 use Rattle.typing_soundness.proofs.law.law_of_programs.Goals as goal
 
@@ -16,4 +17,4 @@ pub returns-clause-bodies : goal.returns-clause-bodies
 returns-clause-bodies c = are_typed
 
 pub returns-clause-programs : goal.returns-clause-programs
-returns-clause-programs c = is_typed
+returns-clause-programs c = text_well_typed

@@ -1,4 +1,4 @@
--- A program is well typed where the parts of its items are that are not proved.
+-- The program of an accepted text is well typed: part by part, as items claim it.
 use Rattle.std.proofs.Common.{◌≡◌, ℕ, suc, ◌+◌, Bool, false, ◌&&◌, ◌==◌, not, nat_le, List, [], ◌∷◌, map, length, slice_get, Some, IsTrue, Contains, refl, ap, sym, subst, ◌∙◌, arith}
 use Rattle.std.specs.Prelude.{codes, is_some, option_and_then}
 use Rattle.std.specs.List.{list_all}
@@ -23,15 +23,20 @@ use Rattle.well_typed.specs.Names.{are_distinct}
 use Rattle.well_typed.specs.Program.{WellTyped}
 use Rattle.well_typed.specs.Types.{closure_in, closure_of, inside_in, is_reference}
 use Rattle.typing_rules.specs.Promises.{AreReady}
-use Rattle.typing_soundness.specs.Items.{is_head_typed, is_variant_typed, has_variants, may_be_copy, IsAdtTyped, begins_with_self, is_method_typed, IsTraitTyped, IsClosureTyped, is_within_limits, has_drop_head, left_of_adts, left_of_items}
+use Rattle.typing_soundness.specs.Items.{is_head_typed, is_variant_typed, has_variants, may_be_copy, IsAdtTyped, begins_with_self, is_method_typed, IsTraitTyped, IsClosureTyped, is_within_limits, has_drop_head, is_impl}
 use Rattle.typing_soundness.specs.Program.{IsAccepted}
 use Rattle.typing_soundness.proofs.Items.Accepting.{are_typed, is_typed}
 use Rattle.typing_soundness.proofs.Items.Adts.{text_adts}
+use Rattle.typing_soundness.proofs.Items.Dropped.{text_drops}
+use Rattle.typing_soundness.proofs.Items.Fields.{text_fields}
 use Rattle.typing_soundness.proofs.Items.Finite.{text_finite}
 use Rattle.typing_soundness.proofs.Items.Heads.{alone_stands, text_types, text_heads, text_closures}
+use Rattle.typing_soundness.proofs.Items.Implemented.{text_implemented}
 use Rattle.typing_soundness.proofs.Items.Impls.{text_impls}
+use Rattle.typing_soundness.proofs.Items.Limits.Program.{text_limits}
 use Rattle.typing_soundness.proofs.Items.Main.{text_main}
 use Rattle.typing_soundness.proofs.Items.Traits.{text_traits}
+use Rattle.typing_soundness.proofs.Items.Words.{text_item_names, text_names_differ}
 
 -- the claim on closures, as items make it
 module _ (items : ItemTable) where
@@ -139,20 +144,35 @@ module _ (items : ItemTable) where
   adt_claims n [] = nothing
   adt_claims n (adt ∷ adts) = adt_claim n adt & adt_claims (suc n) adts
 
+  abbrev HasFields : Adt → Type 0
+  HasFields adt = (m : ℕ) (v : Variant) → slice_get adt.variants m ≡ Some v → IsTrue (are_distinct v.field_names)
+
   variants_claimed : (vs : List Variant) → ((k : ℕ) (v : Variant) → slice_get vs k ≡ Some v → IsTrue (is_variant_typed items v))
-      → Holds (each (λ (v : Variant). fact (are_distinct v.field_names)) vs) → Holds (each variant_claim vs)
+      → ((k : ℕ) (v : Variant) → slice_get vs k ≡ Some v → IsTrue (are_distinct v.field_names)) → Holds (each variant_claim vs)
   variants_claimed [] h names = refl
   variants_claimed (v ∷ vs) h names =
       let k = and_parts (list_all (stands_alone items) v.fields) _ (h 0 v refl) in
-      ((k.0, (names.0, k.1)), variants_claimed vs (λ j x is. h (suc j) x is) names.1)
+      ((k.0, (names 0 v refl, k.1)), variants_claimed vs (λ j x is. h (suc j) x is) (λ j x is. names (suc j) x is))
 
-  adts_claimed : (n : ℕ) (adts : List Adt) → ((k : ℕ) (adt : Adt) → slice_get adts k ≡ Some adt → IsAdtTyped items adt) → Holds
-      (left_of_adts items n adts) → Holds (adt_claims n adts)
-  adts_claimed n [] h left = refl
-  adts_claimed n (adt ∷ adts) h left =
+  adts_claimed : (n : ℕ) (adts : List Adt) → ((k : ℕ) (adt : Adt) → slice_get adts k ≡ Some adt → IsAdtTyped items adt) → ((k :
+      ℕ) (adt : Adt) → slice_get adts k ≡ Some adt → HasFields adt) → ((k : ℕ) (adt : Adt) → slice_get adts k ≡ Some adt → Holds
+      (has_drop_head items adt.name (n + k) adt.drop_body)) → Holds (adt_claims n adts)
+  adts_claimed n [] h names drops = refl
+  adts_claimed n (adt ∷ adts) h names drops =
       let a = h 0 adt refl in (
-        (a.variants, (variants_claimed adt.variants a.fields left.0.0, (a.copy, left.0.1))),
-        adts_claimed (suc n) adts (λ k x is. h (suc k) x is) left.1,
+        (
+          a.variants,
+          (
+            variants_claimed adt.variants a.fields (names 0 adt refl),
+            (
+              a.copy,
+              subst (λ m. Holds (has_drop_head
+                  items adt.name m adt.drop_body)) (omega arith) (drops 0 adt refl),
+            ),
+          ),
+        ),
+        adts_claimed (suc n) adts (λ k x is. h (suc k) x is) (λ k x is. names (suc k) x is) (λ k x is. subst (λ m. Holds
+            (has_drop_head items x.name m x.drop_body)) (omega arith) (drops (suc k) x is)),
       )
 
   abbrev method_claim : ℕ → Sig → Claim
@@ -190,34 +210,45 @@ module _ (parts : Parts Pos) (items : ItemTable) (p : ProgramTree) (h : IsAccept
       all_claimed p.items 0 p.items.closures (λ k def is. subst (λ m. IsClosureTyped p.items m def) (omega arith)
       (text_closures parts items p h k def is))
 
-  types : IsTrue (list_all (is_within_limits p.items) p.items.types) → IsTrue (list_all (is_good_type p.items) p.items.types)
-  types limits =
+  types : IsTrue (list_all (is_good_type p.items) p.items.types)
+  types =
       good_from p.items (are_typed parts items p h).0 (text_finite parts items p h) 0 p.items.types (λ k ty is. ap (slice_get
-      p.items.types) (omega arith) ∙ is) limits
+      p.items.types) (omega arith) ∙ is) (text_limits parts items p h)
 
   traits : Holds (trait_claims p.items 0 p.items.traits)
   traits =
       traits_claimed p.items 0 p.items.traits (λ k def is. subst (λ m. IsTraitTyped p.items m def) (omega arith) (text_traits
       parts items p h k def is))
 
-  all_items : Holds (left_of_items p.items) → Holds (are_items p.items)
-  all_items r =
+  adts : Holds (adt_claims p.items 0 p.items.adts)
+  adts =
+      adts_claimed p.items 0 p.items.adts (text_adts parts items p h) (text_fields parts items p h) (λ k adt is. subst (λ m. Holds
+      (has_drop_head p.items adt.name m adt.drop_body)) (omega arith) (text_drops parts items p h k adt is))
+
+  all_items : Holds (are_items p.items)
+  all_items =
       let t = text_types parts items p h in (
-        (t.0, (types r.0, (t.1, t.2))),
+        (t.0, (types, (t.1, t.2))),
         (
-          adts_claimed p.items 0 p.items.adts (text_adts parts items p h) r.1.0,
+          adts,
           (
             traits,
             (
-              r.1.1.0,
+              text_implemented parts items p h,
               (
                 text_impls parts items p h,
-                (closures, (text_heads parts items p h, (r.1.1.1.0, (r.1.1.1.1.0, text_main parts items p h)))),
+                (
+                  closures,
+                  (
+                    text_heads parts items p h,
+                    (text_names_differ parts items p h, (text_item_names parts items p h, text_main parts items p h)),
+                  ),
+                ),
               ),
             ),
           ),
         ),
       )
 
-  pub rest_is_enough : Holds (left_of_items p.items) → WellTyped p
-  rest_is_enough r = is_typed parts items p h (all_items r)
+  pub text_well_typed : WellTyped p
+  text_well_typed = is_typed parts items p h all_items

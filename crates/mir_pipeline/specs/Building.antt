@@ -1,0 +1,20 @@
+-- What is asked and found as a graph is made and looked at; no public contract speaks of these words.
+use Rattle.std.specs.Prelude.{⊤}
+use Rattle.cfg_build.specs.Laws.{AllNameTheirLoops}
+use Rattle.cfg_build.specs.Lower.{graph_of}
+use Rattle.cfg_graph.specs.declared.graph.Graph.{Graph}
+use Rattle.cfg_graph.specs.Moves.BadUses.{U1, U2}
+use Rattle.cfg_graph.specs.WellFormed.Faults.{IsWellFormed}
+use Rattle.lowered_paths.specs.Refused.{AllNumbersRise}
+use Rattle.move_errors.specs.declared.errors.UseError.{UseError}
+use Rattle.mir_pipeline.specs.Graphs.{IsFirstBad}
+use Rattle.typed_tree.specs.Tree.{ProgramTree}
+
+-- the jumps of a program name loops around them, the numbers of its nodes rise, and its graph has no fault
+abbrev pub HasGraph : ProgramTree → Type 0
+HasGraph program = AllNameTheirLoops program × AllNumbersRise program × IsWellFormed (graph_of program)
+
+abbrev pub HasFirstBad : Graph → UseError → Type 0
+HasFirstBad graph (UseError.U1 bad) = IsFirstBad graph U1 bad
+HasFirstBad graph (UseError.U2 bad) = IsFirstBad graph U2 bad
+HasFirstBad graph UseError.Memory = ⊤
