@@ -18,6 +18,7 @@ use Rattle.code_blocks.specs.Building.{built_of, rest_of, building_of, ways_of}
 use Rattle.code_blocks.specs.declared.blocks.Blocks.{Blocks}
 use Rattle.code_blocks.specs.declared.ways.LoopWay.{LoopWay}
 use Rattle.code_lines.specs.Framed.{frame_of}
+use Rattle.code_scopes.specs.Reaching.{AreReaches}
 use Rattle.code_scopes.specs.Scoped.{scopes_of}
 use Rattle.code_spans.specs.Spans as spans
 use Rattle.code_spans.specs.declared.marks.Mark.{Mark}
@@ -37,6 +38,10 @@ OneAt at c = spans.OneBefore (frame_at at) (map op_of at.code.words.now) at.code
 abbrev pub TwoAt : Setting → (one another : Code) → (start end : ℕ) → Type 0
 TwoAt at one another =
     spans.TwoBefore (frame_at at) (map op_of at.code.words.now) at.code.marks.now (StandsAt at one) (StandsAt at another)
+
+-- what is noted of the words, of how many scopes code may change, holds
+abbrev pub IsReached : Setting → Type 0
+IsReached at = (f : Frame) → AreReaches f (map op_of at.code.words.now) at.code.marks.now at.reaches.now
 
 -- what is built before a rest
 abbrev pub IsBuiltBefore : Setting → Lowers → Rest → Building → (after : Blocks) → Type 0

@@ -4,7 +4,7 @@ ghost use Rattle.cfg_build.specs.Codes.{lowers, lowers_arm, lowers_arms, guarded
 ghost use Rattle.scope_code.specs.Code as plain;
 ghost use Rattle.scope_code.specs.View.{change_of, condition_of};
 ghost use Rattle.body_blocks.specs.Builds as builds;
-ghost use Rattle.body_blocks.specs.Builds.{StandsAt, OneAt, TwoAt, ArmsStandAt, ArmStandsAt, IsBuilt, IsBuiltBehind, IsBuiltBehindGuard, IsBuiltToward, ArmsAreBuilt, ArmIsBuiltBefore, frame_at};
+ghost use Rattle.body_blocks.specs.Builds.{StandsAt, OneAt, TwoAt, ArmsStandAt, ArmStandsAt, IsBuilt, IsBuiltBehind, IsBuiltBehindGuard, IsBuiltToward, ArmsAreBuilt, ArmIsBuiltBefore, IsReached, frame_at};
 
 use crate::Setting;
 use crate::arms::arm_before;
@@ -27,6 +27,7 @@ use std::alloc::Global;
 /// [`NoMemory`] where memory is wanted, and where there are more blocks than 32 bits count.
 #[cycle(building)]
 pub fn build(alloc: Global, at: Setting, end: usize, blocks: &mut Blocks) -> Result<(), NoMemory>
+    requires { IsReached at }
     ensures { OnOk result ((c : plain.Code) (start : ℕ) →
         StandsAt at.entry c start end → IsBuilt at.entry c blocks.old blocks.new) }
 {
@@ -51,6 +52,7 @@ pub fn build(alloc: Global, at: Setting, end: usize, blocks: &mut Blocks) -> Res
 /// Of the code before a word.
 #[cycle(building)]
 fn build_one(alloc: Global, at: Setting, end: usize, blocks: &mut Blocks) -> Result<(), NoMemory>
+    requires { IsReached at }
     ensures { OnOk result ((c : plain.Code) (start : ℕ) →
         OneAt at.entry c start end → IsBuilt at.entry c blocks.old blocks.new) }
 {
@@ -69,6 +71,7 @@ fn build_from(
     end: usize,
     blocks: &mut Blocks,
 ) -> Result<(), NoMemory>
+    requires { IsReached at }
     ensures { OnOk result ((c : plain.Code) (start : ℕ) → OneAt at.entry c start end →
         IsBuilt at.entry (plain.From (change_of by.now) c) blocks.old blocks.new) }
 {
@@ -85,6 +88,7 @@ fn build_behind(
     another: usize,
     blocks: &mut Blocks,
 ) -> Result<(), NoMemory>
+    requires { IsReached at }
     ensures { OnOk result ((c d : plain.Code) (start : ℕ) →
         StandsAt at.entry c start one → StandsAt at.entry d (suc one) another →
         IsBuiltBehind at.entry (lowers (frame_at at.entry) c) (lowers (frame_at at.entry) d) blocks.old blocks.new) }
@@ -92,13 +96,14 @@ fn build_behind(
     if !has_end(at.code, one) {
         return Ok(());
     }
-    let scopes = after(at.arena, at.code, one, at.scopes)?;
+    let scopes = after(at.arena, at.code, at.reaches, one, at.scopes)?;
     build(alloc, Setting { scopes, ..at }, another, blocks)
 }
 
 /// Of two codes, one after the other: the other is built first.
 #[cycle(building)]
 fn build_both(alloc: Global, at: Setting, end: usize, blocks: &mut Blocks) -> Result<(), NoMemory>
+    requires { IsReached at }
     ensures { OnOk result ((one another : plain.Code) (start : ℕ) → TwoAt at.entry one another start end →
         IsBuilt at.entry (plain.Then one another) blocks.old blocks.new) }
 {
@@ -121,6 +126,7 @@ fn build_scope(
     end: usize,
     blocks: &mut Blocks,
 ) -> Result<(), NoMemory>
+    requires { IsReached at }
     ensures { OnOk result ((c : plain.Code) (start : ℕ) → OneAt at.entry c start end →
         IsBuilt at.entry (plain.InScope node.0 for_temporaries c) blocks.old blocks.new) }
 {
@@ -140,6 +146,7 @@ fn build_toward(
     node: NodeId,
     blocks: &mut Blocks,
 ) -> Result<(), NoMemory>
+    requires { IsReached at }
     ensures { OnOk result ((c : plain.Code) (start : ℕ) → StandsAt at.entry c start end →
         IsBuiltToward at.entry c to node.0 blocks.old blocks.new) }
 {
@@ -157,6 +164,7 @@ fn build_branches(
     end: usize,
     blocks: &mut Blocks,
 ) -> Result<(), NoMemory>
+    requires { IsReached at }
     ensures { OnOk result ((one another : plain.Code) (start : ℕ) → TwoAt at.entry one another start end →
         IsBuilt at.entry (plain.Branches node.0 (condition_of on.now) one another) blocks.old blocks.new) }
 {
@@ -182,6 +190,7 @@ fn build_loop(
     end: usize,
     blocks: &mut Blocks,
 ) -> Result<(), NoMemory>
+    requires { IsReached at }
     ensures { OnOk result ((turn : plain.Code) (start : ℕ) → StandsAt at.entry (plain.Loops id.0 turn) start end →
         IsBuilt at.entry (plain.Loops id.0 turn) blocks.old blocks.new) }
 {
@@ -209,6 +218,7 @@ fn build_turn(
     end: usize,
     blocks: &mut Blocks,
 ) -> Result<(), NoMemory>
+    requires { IsReached at }
     ensures { OnOk result ((turn : plain.Code) (start : ℕ) → OneAt at.entry turn start end →
         builds.IsTurnBuilt at.entry way turn blocks.old blocks.new) }
 {
@@ -233,6 +243,7 @@ fn build_match(
     end: usize,
     blocks: &mut Blocks,
 ) -> Result<(), NoMemory>
+    requires { IsReached at }
     ensures { OnOk result ((arms : plain.Arms) (start : ℕ) → StandsAt at.entry (plain.Matches node.0 arms) start end →
         IsBuilt at.entry (plain.Matches node.0 arms) blocks.old blocks.new) }
 {
@@ -251,6 +262,7 @@ fn build_arms(
     end: usize,
     blocks: &mut Blocks,
 ) -> Result<(), NoMemory>
+    requires { IsReached at }
     ensures { OnOk result ((arms : plain.Arms) (begin : ℕ) → ArmsStandAt at.entry arms begin end →
         ArmsAreBuilt at.entry node.0 to (lowers_arms (frame_at at.entry) arms) blocks.old blocks.new) }
 {
@@ -275,6 +287,7 @@ fn build_arm(
     end: usize,
     blocks: &mut Blocks,
 ) -> Result<(), NoMemory>
+    requires { IsReached at }
     ensures { OnOk result ((one : plain.Arm) (start : ℕ) → ArmStandsAt at.entry one start end →
         ArmIsBuiltBefore at.entry (lowers_arm (frame_at at.entry) one) otherwise blocks.old blocks.new) }
 {
@@ -301,6 +314,7 @@ fn build_taken(
     end: usize,
     blocks: &mut Blocks,
 ) -> Result<(), NoMemory>
+    requires { IsReached at }
     ensures { OnOk result ((asked : plain.Guard) (inner : plain.Code) (start : ℕ) →
         builds.TakenStandsAt at.entry guard asked inner start end →
         ArmIsBuiltBefore at.entry (guarded (frame_at at.entry) asked (lowers (frame_at at.entry) inner)) otherwise blocks.old blocks.new) }
@@ -321,6 +335,7 @@ fn build_guarded(
     end: usize,
     blocks: &mut Blocks,
 ) -> Result<(), NoMemory>
+    requires { IsReached at }
     ensures { OnOk result ((guard code : plain.Code) (start : ℕ) → TwoAt at.entry guard code start end →
         ArmIsBuiltBefore at.entry (builds.guarded_by at.entry key.0 guard code) otherwise blocks.old blocks.new) }
 {
@@ -344,6 +359,7 @@ fn build_behind_guard(
     another: usize,
     blocks: &mut Blocks,
 ) -> Result<(), NoMemory>
+    requires { IsReached at }
     ensures { OnOk result ((guard code : plain.Code) (start : ℕ) →
         StandsAt at.entry guard start one → StandsAt at.entry code (suc one) another →
         IsBuiltBehindGuard at.entry key.0 guard code otherwise blocks.old blocks.new) }

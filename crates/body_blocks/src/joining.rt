@@ -5,7 +5,7 @@ ghost use Rattle.cfg_build.specs.Codes.{lowers};
 ghost use Rattle.cfg_graph.specs.declared.terminator.Term as graph;
 ghost use Rattle.scope_code.specs.Code as plain;
 ghost use Rattle.code_blocks.specs.Building.{rest_of, building_of};
-ghost use Rattle.body_blocks.specs.Builds.{StandsAt, OneAt, IsBuiltBehind, frame_at};
+ghost use Rattle.body_blocks.specs.Builds.{StandsAt, OneAt, IsBuiltBehind, IsReached, frame_at};
 
 use crate::Setting;
 use cfg_graph::Kind;
@@ -60,6 +60,7 @@ pub fn leave_behind(
     end: usize,
     blocks: &mut Blocks,
 ) -> Result<(), NoMemory>
+    requires { IsReached at }
     ensures { OnOk result ((c : plain.Code) (start : ℕ) → OneAt at.entry c start end →
         IsBuiltBehind at.entry (lowers (frame_at at.entry) c) (build.leave (frame_at at.entry)) blocks.old blocks.new) }
 {
@@ -69,6 +70,6 @@ pub fn leave_behind(
     if !has_end(at.code, inner) {
         return Ok(());
     }
-    let scopes = after(at.arena, at.code, inner, at.scopes)?;
+    let scopes = after(at.arena, at.code, at.reaches, inner, at.scopes)?;
     leave(alloc, at.frame, scopes, blocks)
 }

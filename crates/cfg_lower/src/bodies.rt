@@ -4,7 +4,10 @@ ghost use Rattle.cfg_build.specs.Build as build;
 ghost use Rattle.cfg_build.specs.Lower as low;
 ghost use Rattle.code_blocks.specs.Building.{built_of, building_of, made_of};
 ghost use Rattle.code_lines.specs.Framed.{frame_of};
+ghost use Rattle.code_scopes.specs.Reaching.{AreReaches};
 ghost use Rattle.code_scopes.specs.Scoped.{scopes_of};
+ghost use Rattle.scope_code.specs.View.{op_of};
+ghost use Rattle.src_meaning.specs.Locals.OfBody as of_body;
 ghost use Rattle.typed_tree.specs.View.{body_of};
 ghost use Rattle.cfg_lower.specs.Lowered.{unbuilt, begun, IsWhole};
 ghost use Rattle.use_sites.specs.Listed.{ids_of, nodes_of_body};
@@ -12,12 +15,12 @@ ghost use Rattle.use_sites.specs.Listed.{ids_of, nodes_of_body};
 use crate::parts::{add_parts, add_tys};
 use body_blocks::{Setting, build};
 use body_code::body_code;
-use body_locals::locals;
+use body_locals::{Locals, locals};
 use bumpalo::Bump;
 use cfg_graph::{Body, Kind, Term};
 use code_blocks::{Blocks, Made, Ways};
 use code_lines::Frame;
-use code_scopes::{Scopes, change, enter};
+use code_scopes::{Scopes, change, enter, reaches_of};
 use code_spans::{Spans, marks_of};
 use mir_base::{Key, List, NoMemory, NodeId};
 use mir_ty::Items;
@@ -26,10 +29,12 @@ use std::alloc::Global;
 use std::mem;
 use typed_tree::{Param, TBody};
 
-/// A body that is lowered, and the node of each of its lines, block by block; a block's terminator is its last line.
+/// A body that is lowered, its locals, and the node of each of its lines, block by block; a block's terminator is its
+/// last line.
 #[derive(Drop)]
 pub struct LoweredBody {
     pub body: Body,
+    pub locals: Locals,
     pub nodes: List<List<NodeId>>,
 }
 
@@ -64,9 +69,11 @@ fn build_entire<'a>(
     frame: Frame<'a>,
     body: &TBody,
     code: Spans<'a>,
+    reaches: &'a [Option<u32>],
     arena: &'a Bump,
     blocks: &mut Blocks,
 ) -> Result<(), NoMemory>
+    requires { (f : build.Frame) → AreReaches f (map op_of code.words.now) code.marks.now reaches.now }
     ensures { OnOk result (IsWhole (frame_of frame.entry) (body_of body.now) code.entry →
         built_of blocks.old ≡ unbuilt body.now.block.id.0 →
         building_of blocks.new ≡ low.built (frame_of frame.entry) (body_of body.now)) }
@@ -76,6 +83,7 @@ fn build_entire<'a>(
     let at = Setting {
         frame,
         code,
+        reaches,
         ways: Ways {
             returns: 1,
             loops: &[],
@@ -103,8 +111,17 @@ fn build_body(
         words: code.ops.as_slice(),
         marks: marks.as_slice(),
     };
+    let reaches = reaches_of(alloc, spans)?;
     let arena = Bump::new(alloc);
-    build_entire(alloc, frame, body, spans, &arena, blocks)
+    build_entire(
+        alloc,
+        frame,
+        body,
+        spans,
+        reaches.as_slice(),
+        &arena,
+        blocks,
+    )
 }
 
 /// All blocks of a body.
@@ -138,6 +155,7 @@ fn count_of(params: &[Param]) -> Result<u32, NoMemory>
 /// [`NoMemory`] where memory is wanted, and where there are more parameters, locals or blocks than 32 bits count.
 pub fn lower_body(alloc: Global, items: &Items, body: &TBody) -> Result<LoweredBody, NoMemory>
     ensures body { IfOk result (λ lowered. lowered.body ≡ low.body_of items.now (body_of body.now)) }
+    ensures locals { IfOk result (λ lowered. lowered.locals ≡ of_body.locals items.now (body_of body.now)) }
     ensures nodes { IfOk result (λ lowered. map ids_of lowered.nodes ≡ nodes_of_body items.now (body_of body.now)) }
 {
     let params = count_of(body.params.as_slice())?;
@@ -159,6 +177,7 @@ pub fn lower_body(alloc: Global, items: &Items, body: &TBody) -> Result<LoweredB
             locals: tys,
             blocks,
         },
+        locals: found,
         nodes,
     })
 }

@@ -1,6 +1,7 @@
 //! Programs that are lowered.
 ghost use Rattle.std.specs.Prelude.{◌≡◌, ◌++◌, ◌∷◌, [], OnOk, IfOk, map};
 ghost use Rattle.cfg_build.specs.Lower as low;
+ghost use Rattle.src_meaning.specs.Locals.OfBody as of_body;
 ghost use Rattle.typed_tree.specs.View.{body_of, program_of};
 ghost use Rattle.use_sites.specs.Listed as listed;
 ghost use Rattle.use_sites.specs.Listed.{ids_of, nodes_of_body};
@@ -11,7 +12,6 @@ ghost use Rattle.lowered_paths.specs.Refused.{MeetsExactly, MeetsItsRefusals};
 ghost use Rattle.cfg_lower.specs.Claims.{EachBody, HasOrderedEdges, IsPrepared, IsSmall, RunsAsItsSource, WalksAsItRunsFreely};
 
 use crate::bodies::{LoweredBody, lower_body};
-use body_locals::locals;
 use body_nodes::all_nodes;
 use cfg_graph::{Body, Graph};
 use mir_base::{List, NoMemory};
@@ -38,15 +38,15 @@ fn add_sites(
     sites: &mut List<Site>,
 ) -> Result<(), NoMemory>
     ensures { OnOk result (lowered.now.body ≡ low.body_of items.now (body_of body.now) →
+        lowered.now.locals ≡ of_body.locals items.now (body_of body.now) →
         map ids_of lowered.now.nodes ≡ nodes_of_body items.now (body_of body.now) →
         sites.new ≡ sites.old ++ listed.body_sites items.now (body_of body.now) number) }
 {
-    let found = locals(alloc, items, body)?;
     let nodes = all_nodes(alloc, body)?;
     let all = nodes.as_slice();
     let names = Names {
         items,
-        locals: found.as_slice(),
+        locals: lowered.locals.as_slice(),
         nodes: all,
         rise: rise(all),
     };

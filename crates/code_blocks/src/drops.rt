@@ -13,7 +13,7 @@ ghost use Rattle.code_blocks.specs.Building.{built_of, rest_of, building_of, dro
 use crate::blocks::Blocks;
 use cfg_graph::{Kind, Term};
 use code_lines::{Frame, whole_place};
-use code_scopes::{Entries, Scopes, panic_drops};
+use code_scopes::{Entries, Scopes, drops_none, panic_drops};
 use mir_base::{Key, List, NoMemory, NodeId};
 use scope_code::Entry;
 use std::alloc::Global;
@@ -97,6 +97,9 @@ impl Blocks {
             (needing_drop frame.entry.items.now (held entries.entry.now)) (scopes_of around.entry.now)
             (rest_of self.old.rest) (building_of self.old)) }
     {
+        if drops_none(frame.items, entries) {
+            return Ok(());
+        }
         let mut below = panic_drops(alloc, frame.items, around)?;
         self.drop_each(alloc, frame, entries, &mut below)
     }

@@ -1,3 +1,4 @@
 pub mod Behind
 pub mod Keyed
 pub mod Lists
+pub mod Reached

@@ -28,18 +28,20 @@ needing_append items (e ∷ es) others =
     ap (λ (rest : List scopes.Entry). if needs_drop items e.ty then (e ∷ rest) else rest) (needing_append items es others)
     ∙ sym (needing_if (needs_drop items e.ty) e (needing_drop items es) (needing_drop items others))
 
--- one more entry
-pub one_needing : (items : ItemTable) (e : scopes.Entry) (es old middle new : List scopes.Entry) → middle ≡ needing_drop items es ++ old → new ≡ needing_drop items (e ∷ []) ++ middle → new ≡ needing_drop items (e ∷ es) ++ old
-one_needing items e es old middle new first then_one =
-    then_one ∙ ap (λ (rest : List scopes.Entry). needing_drop items (e ∷ []) ++ rest) first
-    ∙ sym (append_assoc (needing_drop items (e ∷ [])) (needing_drop items es) old)
-    ∙ ap (λ (all : List scopes.Entry). all ++ old) (sym (needing_append items (e ∷ []) es))
+-- the first entries are added, and the others are left
+pub some_added : (items : ItemTable) (xs ys old new all : List scopes.Entry) → new ≡ old ++ needing_drop items xs → old ++ needing_drop items (xs ++ ys) ≡ all → new ++ needing_drop items ys ≡ all
+some_added items xs ys old new all added kept =
+    ap (λ (l : List scopes.Entry). l ++ needing_drop items ys) added
+    ∙ append_assoc old (needing_drop items xs) (needing_drop items ys)
+    ∙ ap (λ (l : List scopes.Entry). old ++ l) (sym (needing_append items xs ys)) ∙ kept
 
--- one more scope
-pub scope_needing : (items : ItemTable) (s : scopes.Scope) (S : scopes.Scopes) (old around entered new : List scopes.Entry) → around ≡ needing_drop items (all_entries S) ++ old → entered ≡ needing_drop items s.entries ++ around → new ≡ needing_drop items s.pending ++ entered → new ≡ needing_drop items (all_entries (s ∷ S)) ++ old
-scope_needing items s S old around entered new first second third =
-    third ∙ ap (λ (rest : List scopes.Entry). needing_drop items s.pending ++ rest) (second ∙ ap (λ (rest : List scopes.Entry). needing_drop items s.entries ++ rest) first)
-    ∙ sym (append_assoc (needing_drop items s.pending) (needing_drop items s.entries) (needing_drop items (all_entries S) ++ old))
-    ∙ ap (λ (own : List scopes.Entry). own ++ (needing_drop items (all_entries S) ++ old)) (sym (needing_append items s.pending s.entries))
-    ∙ sym (append_assoc (needing_drop items (s.pending ++ s.entries)) (needing_drop items (all_entries S)) old)
-    ∙ ap (λ (all : List scopes.Entry). all ++ old) (sym (needing_append items (s.pending ++ s.entries) (all_entries S)))
+-- two lists are added
+pub two_added : (items : ItemTable) (xs ys old middle new : List scopes.Entry) → middle ≡ old ++ needing_drop items xs → new ≡ middle ++ needing_drop items ys → new ≡ old ++ needing_drop items (xs ++ ys)
+two_added items xs ys old middle new first second =
+    second ∙ some_added items xs ys old middle (old ++ needing_drop items (xs ++ ys)) first refl
+
+-- entries that are turned
+pub turned_entries : (es : List Entry) → entries_of (reverse es) ≡ map entry_of es
+turned_entries [] = refl
+turned_entries (e ∷ es) =
+    ap entries_of (reverse-append (e ∷ []) es) ∙ entries_last (reverse es) e ∙ ap (λ (l : List scopes.Entry). entry_of e ∷ l) (turned_entries es)

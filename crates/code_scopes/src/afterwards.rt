@@ -6,17 +6,20 @@ ghost use Rattle.cfg_build.specs.Codes.{lowers};
 ghost use Rattle.scope_code.specs.Code as plain;
 ghost use Rattle.scope_code.specs.View.{op_of};
 ghost use Rattle.code_spans.specs.Spans.{Stands, OneBefore, TwoBefore};
+ghost use Rattle.code_scopes.specs.Reaching.{AreReaches};
 ghost use Rattle.code_scopes.specs.Scoped.{scopes_of};
 
 use crate::changing::{change, enter, leave, take};
+use crate::reaching::stays;
 use crate::scope::Scopes;
 use bumpalo::Bump;
 use code_spans::{Spans, has_end, two_before, word_at};
 use mir_base::NoMemory;
 use scope_code::Op;
 
-/// The scopes behind the code that ends with a word, from those before it. It costs as many steps as the code has words
-/// outside codes that change no scope, and for each what a change costs.
+/// The scopes behind the code that ends with a word, from those before it, given how many scopes the code at each word
+/// may change. It costs as many steps as the code has words outside codes that change no scope, and for each what a
+/// change costs.
 ///
 /// # Errors
 ///
@@ -25,13 +28,18 @@ use scope_code::Op;
 pub fn after<'a>(
     bump: &'a Bump,
     code: Spans,
+    reaches: &[Option<u32>],
     end: usize,
     scopes: &'a Scopes<'a>,
 ) -> Result<&'a Scopes<'a>, NoMemory>
+    requires { (f : Frame) → AreReaches f (map op_of code.words.now) code.marks.now reaches.now }
     ensures { IfOk result (λ behind. (f : Frame) (c : plain.Code) (start : ℕ) →
         Stands f (map op_of code.entry.words.now) code.entry.marks.now c start end →
         scopes_of behind.now ≡ (lowers f c).after (scopes_of scopes.entry.now)) }
 {
+    if stays(reaches, end) {
+        return Ok(scopes);
+    }
     let Some(word) = word_at(code, end) else {
         return Ok(scopes);
     };
@@ -41,18 +49,18 @@ pub fn after<'a>(
         Op::Replaces { key, .. } => take(bump, &[*key], scopes),
         Op::From(by) => {
             let changed = change(bump, by, scopes)?;
-            after_one(bump, code, end, changed)
+            after_one(bump, code, reaches, end, changed)
         }
         Op::InScope {
             node,
             for_temporaries,
         } => {
             let inner = enter(bump, *node, *for_temporaries, scopes)?;
-            let behind = after_one(bump, code, end, inner)?;
+            let behind = after_one(bump, code, reaches, end, inner)?;
             Ok(leave(behind))
         }
-        Op::Then => after_both(bump, code, end, scopes),
-        Op::Branches { .. } => after_either(bump, code, end, scopes),
+        Op::Then => after_both(bump, code, reaches, end, scopes),
+        Op::Branches { .. } => after_either(bump, code, reaches, end, scopes),
         _ => Ok(scopes),
     }
 }
@@ -62,16 +70,18 @@ pub fn after<'a>(
 fn after_one<'a>(
     bump: &'a Bump,
     code: Spans,
+    reaches: &[Option<u32>],
     end: usize,
     scopes: &'a Scopes<'a>,
 ) -> Result<&'a Scopes<'a>, NoMemory>
+    requires { (f : Frame) → AreReaches f (map op_of code.words.now) code.marks.now reaches.now }
     ensures { IfOk result (λ behind. (f : Frame) (c : plain.Code) (start : ℕ) →
         OneBefore f (map op_of code.entry.words.now) code.entry.marks.now
         (Stands f (map op_of code.entry.words.now) code.entry.marks.now c) start end →
         scopes_of behind.now ≡ (lowers f c).after (scopes_of scopes.entry.now)) }
 {
     match end.checked_sub(1) {
-        Some(inner) => after(bump, code, inner, scopes),
+        Some(inner) => after(bump, code, reaches, inner, scopes),
         None => Ok(scopes),
     }
 }
@@ -81,9 +91,11 @@ fn after_one<'a>(
 fn after_both<'a>(
     bump: &'a Bump,
     code: Spans,
+    reaches: &[Option<u32>],
     end: usize,
     scopes: &'a Scopes<'a>,
 ) -> Result<&'a Scopes<'a>, NoMemory>
+    requires { (f : Frame) → AreReaches f (map op_of code.words.now) code.marks.now reaches.now }
     ensures { IfOk result (λ behind. (f : Frame) (one another : plain.Code) (start : ℕ) →
         TwoBefore f (map op_of code.entry.words.now) code.entry.marks.now
         (Stands f (map op_of code.entry.words.now) code.entry.marks.now one)
@@ -92,8 +104,8 @@ fn after_both<'a>(
 {
     match two_before(code, end) {
         Some(two) => {
-            let between = after(bump, code, two.one, scopes)?;
-            after(bump, code, two.another, between)
+            let between = after(bump, code, reaches, two.one, scopes)?;
+            after(bump, code, reaches, two.another, between)
         }
         None => Ok(scopes),
     }
@@ -104,9 +116,11 @@ fn after_both<'a>(
 fn after_either<'a>(
     bump: &'a Bump,
     code: Spans,
+    reaches: &[Option<u32>],
     end: usize,
     scopes: &'a Scopes<'a>,
 ) -> Result<&'a Scopes<'a>, NoMemory>
+    requires { (f : Frame) → AreReaches f (map op_of code.words.now) code.marks.now reaches.now }
     ensures { IfOk result (λ behind. (f : Frame) (one another : plain.Code) (start : ℕ) →
         TwoBefore f (map op_of code.entry.words.now) code.entry.marks.now
         (Stands f (map op_of code.entry.words.now) code.entry.marks.now one)
@@ -117,9 +131,9 @@ fn after_either<'a>(
     match two_before(code, end) {
         Some(two) => {
             if has_end(code, two.one) {
-                after(bump, code, two.one, scopes)
+                after(bump, code, reaches, two.one, scopes)
             } else {
-                after(bump, code, two.another, scopes)
+                after(bump, code, reaches, two.another, scopes)
             }
         }
         None => Ok(scopes),

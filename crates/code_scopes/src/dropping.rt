@@ -1,49 +1,60 @@
 //! What a panic drops.
-ghost use Rattle.std.specs.Prelude.{◌≡◌, ◌∷◌, ◌++◌, [], IfOk, OnOk};
+ghost use Rattle.std.specs.Prelude.{◌≡◌, ◌∷◌, ◌++◌, [], IfOk, IsTrue, OnOk, map};
 ghost use Rattle.scope_code.specs.View.{entry_of};
 ghost use Rattle.src_meaning.specs.Scopes.{needing_drop, all_entries};
 ghost use Rattle.code_scopes.specs.Scoped.{entries_of, held, scopes_of};
 
-use crate::scope::{Entries, Scopes};
+use crate::scope::{Entries, Scope, Scopes};
 use mir_base::{List, NoMemory};
 use mir_ty::Items;
 use scope_code::Entry;
 use std::alloc::Global;
 
 /// An entry is put behind others, if its type needs a drop.
-fn add_if_needing(items: &Items, entry: &Entry, drops: &mut List<Entry>) -> Result<(), NoMemory>
-    ensures { OnOk result (entries_of drops.new ≡ needing_drop items.now (entry_of entry.now ∷ []) ++ entries_of drops.old) }
+fn add_if_needing(items: &Items, entry: &Entry, drops: &mut Vec<Entry>) -> Result<(), NoMemory>
+    ensures { OnOk result (map entry_of drops.new.items ≡
+        map entry_of drops.old.items ++ needing_drop items.now (entry_of entry.now ∷ [])) }
 {
     if items.needs_drop(entry.ty) {
-        return drops.push(*entry);
+        drops.push(*entry)?;
     }
     Ok(())
 }
 
-/// The entries whose types need a drop are put behind others, the oldest first.
-fn add_needing(items: &Items, entries: &Entries, drops: &mut List<Entry>) -> Result<(), NoMemory>
-    ensures { OnOk result (entries_of drops.new ≡ needing_drop items.now (held entries.entry.now) ++ entries_of drops.old) }
+/// The entries whose types need a drop are put behind others, the youngest first.
+fn add_needing(items: &Items, entries: &Entries, drops: &mut Vec<Entry>) -> Result<(), NoMemory>
+    ensures { OnOk result (map entry_of drops.new.items ≡
+        map entry_of drops.old.items ++ needing_drop items.now (held entries.entry.now)) }
 {
-    match entries {
-        Entries::NoEntry => Ok(()),
-        Entries::Youngest(entry, older) => {
-            add_needing(items, older, drops)?;
-            add_if_needing(items, entry, drops)
-        }
+    let mut at = entries;
+    while let Entries::Youngest(entry, older) = at {
+        add_if_needing(items, entry, drops)?;
+        at = older;
     }
+    Ok(())
 }
 
-/// What a panic drops in these scopes is put behind others.
-fn add_drops(items: &Items, scopes: &Scopes, drops: &mut List<Entry>) -> Result<(), NoMemory>
-    ensures { OnOk result (entries_of drops.new ≡
-        needing_drop items.now (all_entries (scopes_of scopes.entry.now)) ++ entries_of drops.old) }
+/// What a panic drops in a scope is put behind others, the youngest first.
+fn add_scope(items: &Items, scope: &Scope, drops: &mut Vec<Entry>) -> Result<(), NoMemory>
+    ensures { OnOk result (map entry_of drops.new.items ≡ map entry_of drops.old.items
+        ++ needing_drop items.now (held scope.now.pending ++ held scope.now.entries)) }
 {
-    match scopes {
-        Scopes::NoScope => Ok(()),
-        Scopes::Innermost(scope, around) => {
-            add_drops(items, around, drops)?;
-            add_needing(items, &scope.entries, drops)?;
-            add_needing(items, &scope.pending, drops)
+    add_needing(items, &scope.pending, drops)?;
+    add_needing(items, &scope.entries, drops)
+}
+
+/// Whether no type of these entries needs a drop.
+pub fn drops_none(items: &Items, entries: &Entries) -> bool
+    ensures { IsTrue result → needing_drop items.now (held entries.entry.now) ≡ [] }
+{
+    match entries {
+        Entries::NoEntry => true,
+        Entries::Youngest(entry, older) => {
+            if !items.needs_drop(entry.ty) {
+                drops_none(items, older)
+            } else {
+                false
+            }
         }
     }
 }
@@ -57,7 +68,12 @@ fn add_drops(items: &Items, scopes: &Scopes, drops: &mut List<Entry>) -> Result<
 pub fn panic_drops(alloc: Global, items: &Items, scopes: &Scopes) -> Result<List<Entry>, NoMemory>
     ensures { IfOk result (λ drops. entries_of drops ≡ needing_drop items.now (all_entries (scopes_of scopes.entry.now))) }
 {
-    let mut drops = List::new(alloc);
-    add_drops(items, scopes, &mut drops)?;
-    Ok(drops)
+    let mut drops = Vec::new(alloc);
+    let mut at = scopes;
+    while let Scopes::Innermost(scope, around) = at {
+        add_scope(items, scope, &mut drops)?;
+        at = around;
+    }
+    drops.reverse();
+    Ok(List::from_vec(drops))
 }

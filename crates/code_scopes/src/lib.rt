@@ -8,10 +8,12 @@ mod afterwards;
 mod changing;
 mod dropping;
 mod entries;
+mod reaching;
 mod scope;
 
 pub use afterwards::after;
 pub use changing::{change, enter, leave, take};
-pub use dropping::panic_drops;
+pub use dropping::{drops_none, panic_drops};
 pub use entries::copied_entries;
+pub use reaching::reaches_of;
 pub use scope::{Entries, Scope, Scopes, depth};

@@ -29,6 +29,7 @@ returns c =
     record {
       body = body_is c.args.items.now tree c.in_ok-params.params found c.add_tys.new.tys c.in_ok-made.made c.add_parts.new.blocks
           count c.in_ok-found.ensures typed built blocks;
+      locals = c.in_ok-found.ensures;
       nodes = nodes_of_is c.args.items.now tree found c.add_tys.new.tys c.in_ok-made.made (map ids_of c.add_parts.new.nodes)
           c.in_ok-found.ensures typed built nodes;
     }

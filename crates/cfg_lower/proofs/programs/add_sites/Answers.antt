@@ -14,10 +14,10 @@ use Rattle.cfg_lower.proofs.programs.add_sites.Goals as goal
 pub returns : goal.returns
 returns c =
     let tree : BodyTree = body_of c.args.body.now in
-    let found : map entry_of c.as_slice.result.now ≡ locals c.args.items.now tree = search rules in
+    let entries : map entry_of c.as_slice.result.now ≡ c.args.lowered.now.locals = search rules in
     let nodes : trees c.as_slice-all.result.now ≡ body_nodes tree = search rules in
     let blocks : c.as_slice-blocks.result.now ≡ c.args.lowered.now.body.blocks = search rules in
     let ids : c.as_slice-2.result.now ≡ c.args.lowered.now.nodes = search rules in
     on_ok_weaker c.body_sites.result
-    (λ made body_is nodes_are. made tree (found, nodes) (blocks ∙ ap (λ (b : Body). b.blocks) body_is)
+    (λ made body_is found nodes_are. made tree (entries ∙ found, nodes) (blocks ∙ ap (λ (b : Body). b.blocks) body_is)
     (ap (λ (all : List (List NodeId)). map ids_of all) ids ∙ nodes_are)) c.body_sites.ensures

@@ -1,4 +1,4 @@
-use Rattle.std.proofs.Common.{rules, ◌≡◌, ◌∙◌, ℕ, suc, Bool, true, false, List, Some, map, slice_get, refl, sym, ap, subst}
+use Rattle.std.proofs.Common.{rules, ◌≡◌, ◌∙◌, ℕ, suc, Bool, true, false, List, Option, None, Some, map, slice_get, refl, sym, ap, subst}
 use Rattle.std.proofs.lemmas.Option.{none-some}
 use Rattle.std.proofs.lemmas.Result.{IfOk-weaker}
 use Rattle.cfg_build.specs.Build as build
@@ -14,7 +14,20 @@ use Rattle.code_scopes.specs.Scoped.{scopes_of}
 use Rattle.code_scopes.specs.declared.scope.Scopes.{Scopes as Held}
 use Rattle.std.specs.Borrow.{Bor}
 use Rattle.code_scopes.proofs.Behind.{word_at, of_change, of_leave, of_replaced, of_from, of_scope, of_both, of_either, stays, before_is, found_first, found_second}
+use Rattle.code_scopes.specs.Reaching.{Keeps, reach_at}
+use Rattle.code_scopes.proofs.Reached.{no_word, no_word_of}
 use Rattle.code_scopes.proofs.afterwards.+after.Goals as goal
+
+pub after-returns-then-stays : goal.after-returns-then-stays
+after-returns-then-stays t c = λ f code start stands.
+    let kept : Keeps (reach_at c.args.reaches.now c.args.end) (lowers f code).after = c.requires f code start c.args.end stands in
+    sym (subst (λ (r : Option ℕ). Keeps r (lowers f code).after) (c.if-stays.ensures refl) kept (scopes_of c.args.scopes.now))
+
+pub after-returns-in_default : goal.after-returns-in_default
+after-returns-in_default t c = λ f code start stands.
+    let none : slice_get (map op_of c.args.code.words.now) c.args.end ≡ None =
+    no_word_of c.args.code.words.now c.args.end (sym c.in_default.ensures) in
+    absurd (no_word f (map op_of c.args.code.words.now) c.args.code.marks.now code start c.args.end stands none)
 
 pub after-returns-in-Changes : goal.after-returns-in-Changes
 after-returns-in-Changes t c =
