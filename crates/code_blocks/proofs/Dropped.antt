@@ -1,10 +1,19 @@
 -- One entry more is dropped.
-use Rattle.std.proofs.Common.{◌≡◌, ◌∙◌, ◌++◌, ◌∷◌, Bool, true, false, List, refl, sym, ap, if◌then◌else◌}
+use Rattle.std.proofs.Common.{◌≡◌, ◌∙◌, ◌++◌, ◌∷◌, Bool, true, false, List, [], refl, sym, ap, append_assoc, if◌then◌else◌}
 use Rattle.cfg_build.specs.Build.{Frame, Rest, Building, drop_all, panic_drops}
+use Rattle.code_scopes.proofs.Lists.{needing_append}
 use Rattle.mir_ty.specs.Facts.{needs_drop}
+use Rattle.mir_ty.specs.ItemTable.{ItemTable}
 use Rattle.src_meaning.specs.Scopes as scopes
 use Rattle.src_meaning.specs.Scopes.{Scopes, needing_drop}
 use Rattle.code_blocks.specs.Building.{drop_next}
+
+-- one more entry
+pub one_needing : (items : ItemTable) (e : scopes.Entry) (es old middle new : List scopes.Entry) → middle ≡ needing_drop items es ++ old → new ≡ needing_drop items (e ∷ []) ++ middle → new ≡ needing_drop items (e ∷ es) ++ old
+one_needing items e es old middle new first then_one =
+    then_one ∙ ap (λ (rest : List scopes.Entry). needing_drop items (e ∷ []) ++ rest) first
+    ∙ sym (append_assoc (needing_drop items (e ∷ [])) (needing_drop items es) old)
+    ∙ ap (λ (all : List scopes.Entry). all ++ old) (sym (needing_append items (e ∷ []) es))
 
 module _ (f : Frame) where
   drop_if : (b : Bool) (e : scopes.Entry) (es : List scopes.Entry) (S : Scopes) (k : Rest) (s : Building) → drop_all f (if b then (e ∷ es) else es) S k s ≡ drop_next f b e (es ++ panic_drops f S) (drop_all f es S k s)
