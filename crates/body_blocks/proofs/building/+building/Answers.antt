@@ -1,5 +1,4 @@
 use Rattle.std.proofs.Common.{rules, ◌≡◌, ◌∙◌, ◌∷◌, ◌++◌, ℕ, suc, Bool, true, false, List, Some, length, map, slice_get, sym, ap, subst}
-use Rattle.std.proofs.lemmas.List.{length-reverse, length-map}
 use Rattle.std.proofs.lemmas.Option.{none-some}
 use Rattle.std.proofs.lemmas.Result.{on_ok_weaker}
 use Rattle.cfg_build.specs.Build as build
@@ -10,7 +9,7 @@ use Rattle.cfg_graph.specs.declared.graph.Kind.{Kind}
 use Rattle.cfg_graph.specs.declared.terminator.Term.{Term}
 use Rattle.code_blocks.specs.Building.{built_of, rest_of, building_of, ways_of}
 use Rattle.code_blocks.specs.declared.ways.LoopWay.{LoopWay}
-use Rattle.code_scopes.specs.Scoped.{scopes_of, scope_of}
+use Rattle.code_scopes.specs.Scoped.{scopes_of}
 use Rattle.code_scopes.proofs.Behind.{before_is, found_first, found_second}
 use Rattle.code_spans.specs.Spans.{Stands}
 use Rattle.code_spans.specs.declared.marks.Mark.{Mark}
