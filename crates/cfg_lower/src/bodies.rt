@@ -168,8 +168,8 @@ pub fn lower_body(alloc: Global, items: &Items, body: &TBody) -> Result<LoweredB
         tys: tys.as_slice(),
     };
     let made = built(alloc, frame, body)?;
-    let mut blocks = List::new(alloc);
-    let mut nodes = List::new(alloc);
+    let mut blocks = List::from_vec(Vec::with_capacity(alloc, made.len())?);
+    let mut nodes = List::from_vec(Vec::with_capacity(alloc, made.len())?);
     add_parts(alloc, made, &mut blocks, &mut nodes)?;
     Ok(LoweredBody {
         body: Body {

@@ -1,10 +1,17 @@
-use Rattle.std.proofs.Common.{rules, ◌≡◌}
+use Rattle.std.proofs.Common.{rules, ◌≡◌, List, Option, ℕ, map, subst}
 use Rattle.std.proofs.lemmas.Result.{on_ok_weaker}
 use Rattle.code_lines.specs.Framed.{frame_of}
+use Rattle.code_scopes.specs.Reaching.{AreReaches}
 use Rattle.scope_code.specs.Forms.{entire_function}
+use Rattle.scope_code.specs.View.{op_of}
 use Rattle.typed_tree.specs.View.{body_of}
 use Rattle.cfg_lower.proofs.Whole.{whole}
 use Rattle.cfg_lower.proofs.bodies.build_body.Goals as goal
+
+pub build_entire-requires : goal.build_entire-requires
+build_entire-requires c = λ f.
+    let slice : c.in_ok-reaches.reaches ≡ c.as_slice-3.result.now = search rules in
+    subst (λ (rs : List (Option ℕ)). AreReaches f (map op_of c.as_slice.result.now) c.as_slice-2.result.now rs) slice (c.in_ok-reaches.ensures f)
 
 pub returns : goal.returns
 returns c =

@@ -10,5 +10,5 @@ returns c =
     (λ pushed. (
       pushed_is c.args.bodies.now c.push.new.self c.in_ok-lowered.lowered.body (low.body_of c.args.items.now (body_of c.args.body.now))
           pushed c.in_ok-lowered.ensures.body,
-      c.in_ok-add_sites.ensures c.in_ok-lowered.ensures.body c.in_ok-lowered.ensures.nodes,
+      c.in_ok-add_sites.ensures c.in_ok-lowered.ensures.body c.in_ok-lowered.ensures.locals c.in_ok-lowered.ensures.nodes,
     )) c.push.ensures.pushed

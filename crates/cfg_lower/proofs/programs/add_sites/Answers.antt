@@ -2,7 +2,6 @@ use Rattle.std.proofs.Common.{rules, ◌≡◌, ◌∙◌, List, map, ap}
 use Rattle.std.proofs.lemmas.Result.{on_ok_weaker}
 use Rattle.cfg_graph.specs.declared.graph.Body.{Body}
 use Rattle.mir_base.specs.declared.place_in_text.NodeId.{NodeId}
-use Rattle.src_meaning.specs.Locals.OfBody.{locals}
 use Rattle.typed_tree.specs.Nodes.{body_nodes}
 use Rattle.typed_tree.specs.Tree.{BodyTree}
 use Rattle.typed_tree.specs.View.{body_of}
