@@ -9,7 +9,7 @@ ghost use Rattle.scope_code.specs.Ops.{onto, params_onto};
 ghost use Rattle.scope_code.specs.View.{ops_of};
 
 use crate::forms::node_code;
-use mir_base::{Key, NoMemory};
+use mir_base::{Key, List, NoMemory};
 use mir_ty::Items;
 use pattern_lower::bindings;
 use scope_code::{
@@ -75,7 +75,7 @@ fn params_entered(
 }
 
 /// The code of a body, with the scope of its entire function: its parameters, and then its block, whose value is the
-/// result.
+/// result. Room for so many words is made first; where there are more, they are moved as they come.
 ///
 /// It takes memory and time by the nodes of the body, for each place by its length, for each loop by the loops around
 /// it, and for the fields of a struct or a variant by the square of their count.
@@ -83,7 +83,7 @@ fn params_entered(
 /// # Errors
 ///
 /// [`NoMemory`] where memory is wanted.
-pub fn body_code(alloc: Global, items: &Items, body: &TBody) -> Result<Code, NoMemory>
+pub fn body_code(alloc: Global, items: &Items, body: &TBody, room: usize) -> Result<Code, NoMemory>
     ensures code { IfOk result (λ made. ops_of made ≡ onto (forms.entire_function items.now (body_of body.now)) []) }
 {
     let around = Around {
@@ -91,7 +91,9 @@ pub fn body_code(alloc: Global, items: &Items, body: &TBody) -> Result<Code, NoM
         loops: &[],
         aliases: &[],
     };
-    let mut code = Code::new(alloc);
+    let mut code = Code {
+        ops: List::from_vec(Vec::with_capacity(alloc, room)?),
+    };
     params_entered(alloc, items, body.params.as_slice(), &mut code)?;
     node_code(
         alloc,

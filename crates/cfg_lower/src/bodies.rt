@@ -95,6 +95,18 @@ fn build_entire<'a>(
     blocks.fill(alloc, Kind::Plain, 0)
 }
 
+/// How many words a body has for each of its locals, at most but for few bodies.
+const WORDS_OF_A_LOCAL: usize = 8;
+
+/// For how many words room is made before the code of a body.
+fn room_for(frame: Frame) -> usize {
+    frame
+        .locals
+        .as_slice()
+        .len()
+        .saturating_mul(WORDS_OF_A_LOCAL)
+}
+
 /// All blocks of a body, over no block yet.
 fn build_body(
     alloc: Global,
@@ -105,7 +117,7 @@ fn build_body(
     ensures { OnOk result (built_of blocks.old ≡ unbuilt body.now.block.id.0 →
         building_of blocks.new ≡ low.built (frame_of frame.entry) (body_of body.now)) }
 {
-    let code = body_code(alloc, frame.items, body)?;
+    let code = body_code(alloc, frame.items, body, room_for(frame))?;
     let marks = marks_of(alloc, frame, &code)?;
     let spans = Spans {
         words: code.ops.as_slice(),

@@ -36,6 +36,24 @@ fn point(block: u32, stage: Stage) -> Point
     Point { block, stage }
 }
 
+/// Whether the store of a result on a way out of a block is bad by a row. Most ways have none, and then the row is not
+/// copied.
+fn way_shows(alloc: Global, watch: &Watch<'_>, at: Point, row: &BitRow) -> Result<bool, NoMemory>
+    requires watched { IsWatched watch.now.items.now watch.now.body.now watch.now.forest watch.now.below }
+    requires row { length row.now ≡ length watch.now.forest.paths }
+    ensures { IfOk result (λ shown. shown ≡ (problem watch.now.items.now watch.now.body.now watch.now.forest.paths).bad at row.now) }
+{
+    let done = acts(alloc, watch.items, watch.body, at)?;
+    if done.is_empty() {
+        return Ok(false);
+    }
+    let mut left = copy_of(alloc, row)?;
+    match first_bad(alloc, watch, done.as_slice(), &mut left)? {
+        Some(_) => Ok(true),
+        None => Ok(false),
+    }
+}
+
 /// Whether a use within a block, or the store of its result, is bad by a row at its start.
 fn block_shows(alloc: Global, watch: &Watch<'_>, row: &BitRow, block: u32) -> Result<bool, NoMemory>
     requires watched { IsWatched watch.now.items.now watch.now.body.now watch.now.forest watch.now.below }
@@ -46,14 +64,13 @@ fn block_shows(alloc: Global, watch: &Watch<'_>, row: &BitRow, block: u32) -> Re
     if point_shows(alloc, watch, point(block, Stage::Inside), &mut inside)? {
         return Ok(true);
     }
-    let mut none = copy_of(alloc, &inside)?;
-    if point_shows(alloc, watch, point(block, Stage::Leaving(false)), &mut none)? {
+    if way_shows(alloc, watch, point(block, Stage::Leaving(true)), &inside)? {
         return Ok(true);
     }
     point_shows(
         alloc,
         watch,
-        point(block, Stage::Leaving(true)),
+        point(block, Stage::Leaving(false)),
         &mut inside,
     )
 }

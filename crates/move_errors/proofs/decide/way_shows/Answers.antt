@@ -1,0 +1,11 @@
+use Rattle.std.proofs.Common.{sym, ap, subst, ◌∙◌}
+use Rattle.move_flow.specs.Concerns.{AreOfBody}
+use Rattle.bad_uses.specs.Runs.{actions_of}
+use Rattle.bad_uses.proofs.Using.{acts-used, used-anywhere}
+use Rattle.move_errors.proofs.decide.way_shows.Goals as goal
+
+pub first_bad-requires-clause-used : goal.first_bad-requires-clause-used
+first_bad-requires-clause-used c =
+    let w = c.args.watch.now in
+    used-anywhere w.body.now c.args.at.block c.as_slice.result.now
+    (subst (AreOfBody w.body.now) (sym (ap (actions_of c.args.at.block) c.as_slice.ensures ∙ c.in_ok-done.ensures)) (acts-used w.items.now w.body.now c.args.at.block c.args.at.stage))
