@@ -1,0 +1,9 @@
+pub mod Entering
+mod Examples
+pub mod Following
+pub mod Naming
+pub mod Passing
+pub mod Positions
+pub mod Putting
+pub mod Rules
+pub mod Runs
