@@ -1,4 +1,5 @@
 pub mod Bodies
 pub mod Following
 pub mod OwnFirst
+pub mod Placing
 pub mod Positions

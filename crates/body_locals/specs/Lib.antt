@@ -1,3 +1,4 @@
 pub mod Groups
 pub mod Own
+pub mod Places
 pub mod View

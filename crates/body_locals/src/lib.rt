@@ -7,6 +7,7 @@ mod bool_type;
 mod local;
 mod own;
 mod parts;
+mod places;
 mod table;
 
 pub use body::locals;

@@ -1,30 +1,30 @@
-ghost use Rattle.std.specs.Prelude.{◌≡◌, ◌==◌, ◌+◌, ℕ, IfOk, length, map, nat_eq, slice_get};
-ghost use Rattle.std.specs.HashMap.{get};
+ghost use Rattle.std.specs.Prelude.{◌≡◌, ◌==◌, ◌+◌, ℕ, IfOk, length, map, slice_get};
 ghost use Rattle.std.specs.List.{position};
 ghost use Rattle.std.specs.Option.{option_map_or};
 ghost use Rattle.src_meaning.specs.Locals.OfBody.{local_among};
+ghost use Rattle.body_locals.specs.Places.{found};
 ghost use Rattle.body_locals.specs.View.{entry_of, key_of, keys, tys};
 
 use crate::Local;
+use crate::places::Places;
 use mir_base::{Key, List, NoMemory};
 use mir_ty::TyId;
 use std::alloc::Global;
-use std::collections::HashMap;
 use std::marker::Model;
 
 /// The locals of a body by number: 0 is that of the result. Looking up a key costs about the same for all locals.
 #[derive(Drop)]
 pub struct Locals {
     locals: List<Local>,
-    /// For the number of each key, the first local that has it.
-    places: HashMap<u32, u32>,
+    /// For each key, the first local that has it.
+    places: Places,
 }
 
 impl Model for Locals {
-    ghost use Rattle.std.specs.Prelude.{List as Listed, ℕ, ◌≡◌, ◌==◌, map, nat_eq};
-    ghost use Rattle.std.specs.HashMap.{get};
+    ghost use Rattle.std.specs.Prelude.{List as Listed, ℕ, ◌≡◌, ◌==◌, map};
     ghost use Rattle.std.specs.List.{position};
     ghost use Rattle.src_meaning.specs.Scopes.{Entry};
+    ghost use Rattle.body_locals.specs.Places.{found};
     ghost use Rattle.body_locals.specs.View.{entry_of, key_of};
 
     ghost Value = { Listed Entry };
@@ -32,7 +32,7 @@ impl Model for Locals {
     ghost view = { λ table. map entry_of table.locals };
 
     ghost invariant = { λ table. (key : ℕ) →
-        get nat_eq table.places key ≡ position (λ k. k == key) (map key_of table.locals) };
+        found table.places key ≡ position (λ k. k == key) (map key_of table.locals) };
 }
 
 impl Locals {
@@ -61,7 +61,7 @@ impl Locals {
         ensures among { local_among (keys self.now) key.0
             ≡ option_map_or (λ n. n) result (length (keys self.now) + key.0) }
     {
-        self.places.get(&key.0).copied()
+        self.places.find(key)
     }
 
     /// The type of a local by its number, and `None` where there is no such local.
@@ -75,18 +75,37 @@ impl Locals {
     }
 }
 
+/// For how many keys of each local there is room in the row, at most. A body has some three nodes for each of its locals.
+const KEYS_OF_A_LOCAL: usize = 8;
+
+/// From which key on how many keys are in the row: all those of the locals, where these are near each other.
+fn row_of(locals: &[Local]) -> (Key, usize) {
+    let mut least = u32::MAX;
+    let mut greatest = 0;
+    for local in locals {
+        least = least.min(local.key.0);
+        greatest = greatest.max(local.key.0);
+    }
+    let count = (greatest.saturating_sub(least) as usize).saturating_add(1);
+    (
+        Key(least),
+        count.min(locals.len().saturating_mul(KEYS_OF_A_LOCAL)),
+    )
+}
+
 /// The first place of each key among locals. A place that is put in takes the place of the one before, so they are put
 /// in from the last to the first.
-fn first_places(alloc: Global, locals: &[Local]) -> Result<HashMap<u32, u32>, NoMemory>
+fn first_places(alloc: Global, locals: &[Local]) -> Result<Places, NoMemory>
     ensures { IfOk result (λ places. (key : ℕ) →
-        get nat_eq places key ≡ position (λ k. k == key) (map key_of locals.now)) }
+        found places key ≡ position (λ k. k == key) (map key_of locals.now)) }
 {
     if locals.len() > u32::MAX as usize {
         return Err(NoMemory);
     }
-    let mut places = HashMap::new(alloc);
+    let (first, count) = row_of(locals);
+    let mut places = Places::new(alloc, first, count)?;
     for number in (0..locals.len()).rev() {
-        places.insert(locals[number].key.0, number as u32)?;
+        places.put(locals[number].key, number as u32)?;
     }
     Ok(places)
 }

@@ -6,10 +6,10 @@ use smallvec::SmallVec;
 use std::alloc::Global;
 use std::marker::Model;
 
-/// A path: the steps from a value, or from a local, to a part of it, outermost first. Up to four of them take no memory. Contracts see it as the list of its steps.
+/// A path: the steps from a value, or from a local, to a part of it, outermost first. Up to one of them takes no memory: most places of a program are a local, or one step from it, and a graph holds many. Contracts see it as the list of its steps.
 #[derive(Debug, Drop)]
 pub struct Path<S: Drop> {
-    steps: SmallVec<S, 4, Global>,
+    steps: SmallVec<S, 1, Global>,
 }
 
 impl<S: Drop> Model for Path<S> {
@@ -30,7 +30,7 @@ impl<S: Copy + Default + Drop> Path<S> {
         }
     }
 
-    /// The path of these steps, outermost first. It takes memory for more than four.
+    /// The path of these steps, outermost first. It takes memory for more than one.
     pub fn from_slice(alloc: Global, steps: &[S]) -> Result<Path<S>, NoMemory>
         ensures { IfOk result (λ path. path ≡ steps.now) }
     {

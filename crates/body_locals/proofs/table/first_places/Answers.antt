@@ -6,7 +6,7 @@ use Rattle.body_locals.proofs.table.first_places.Goals as goal
 
 pub loop-number-preserved : goal.loop-number-preserved
 loop-number-preserved c = λ key.
-    let updated = c.in_ok-insert.ensures.updates.0 key in
+    let updated = c.in_ok-put.ensures key in
     updated ∙ one_earlier c.args.locals.now c.loop-number.number (c.loop-number.number - 1) _ key _ (omega arith) (omega arith) (c.loop-number.invariant key)
 
 pub returns : goal.returns

@@ -1,15 +1,14 @@
 use Rattle.std.proofs.Common.{rules, ◌≡◌, ◌==◌, ◌∙◌, ◌+◌, map, sym, ap, length}
 use Rattle.std.specs.List.{position}
 use Rattle.std.specs.Option.{option_map_or}
-use Rattle.body_locals.specs.View.{entry_of, key_of, keys}
+use Rattle.body_locals.specs.View.{entry_of, keys}
 use Rattle.body_locals.proofs.Positions.{keys_are}
 use Rattle.body_locals.proofs.table.Locals.local_of.Goals as goal
 
 first : goal.returns-clause-first
 first c =
     let seen : c.args.self.now ≡ map entry_of c.self.inside.locals = search rules in
-    let found : c.copied.result ≡ position (λ k. k == c.args.key.0) (map key_of c.self.inside.locals) = search (rules, c.self.invariant c.args.key.0) in
-    found ∙ ap (λ ks. position (λ k. k == c.args.key.0) ks) (sym (ap keys seen ∙ keys_are c.self.inside.locals))
+    c.find.ensures ∙ c.self.invariant c.args.key.0 ∙ ap (λ ks. position (λ k. k == c.args.key.0) ks) (sym (ap keys seen ∙ keys_are c.self.inside.locals))
 
 pub returns-clause-first : goal.returns-clause-first
 returns-clause-first c = first c
