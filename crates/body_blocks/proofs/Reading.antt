@@ -37,7 +37,7 @@ module _ (f : Frame) (all : List Op) (marks : List Mark) (c : Code) (s e : ℕ) 
   leaf words.Op.Then at a b d g h i j = absurd (b refl)
   leaf words.Op.BackIn at a b d g h i j = absurd (d refl)
   leaf (words.Op.Acts node action) at a b d g h i j =
-      leaf_by (ops.Acts node.0 (effect_of node.0 action)) (code.Acts node.0 (effect_of node.0 action)) (reads f all marks c s e (ops.Acts node.0 (effect_of node.0 action)) stands at) refl
+      leaf_by (ops.Acts node.0 (effect_of node.0 action.value)) (code.Acts node.0 (effect_of node.0 action.value)) (reads f all marks c s e (ops.Acts node.0 (effect_of node.0 action.value)) stands at) refl
   leaf (words.Op.InScope node t) at a b d g h i j = absurd (g node t refl)
   leaf words.Op.Leaves at a b d g h i j = leaf_by ops.Leaves code.Leaves (reads f all marks c s e ops.Leaves stands at) refl
   leaf (words.Op.Branches node on) at a b d g h i j = absurd (h node on refl)
@@ -46,7 +46,7 @@ module _ (f : Frame) (all : List Op) (marks : List Mark) (c : Code) (s e : ℕ) 
       leaf_by (ops.Exits node.0 (exit_of exit)) (code.Exits node.0 (exit_of exit)) (reads f all marks c s e (ops.Exits node.0 (exit_of exit)) stands at) refl
   leaf (words.Op.Panics node why) at a b d g h i j = leaf_by (ops.Panics node.0 why) (code.Panics node.0 why) (reads f all marks c s e (ops.Panics node.0 why) stands at) refl
   leaf (words.Op.Replaces node place key) at a b d g h i j =
-      leaf_by (op_of (words.Op.Replaces node place key)) (code.Replaces (record { node = node.0; place = named place }) key.0) (reads f all marks c s e (op_of (words.Op.Replaces node place key)) stands at) refl
+      leaf_by (op_of (words.Op.Replaces node place key)) (code.Replaces (record { node = node.0; place = named place.value }) key.0) (reads f all marks c s e (op_of (words.Op.Replaces node place key)) stands at) refl
   leaf (words.Op.Drops key) at a b d g h i j = leaf_by (ops.Drops key.0) (code.Drops key.0) (reads f all marks c s e (ops.Drops key.0) stands at) refl
   leaf words.Op.BeforeArms at a b d g h i j = absurd (reads f all marks c s e ops.BeforeArms stands at)
   leaf (words.Op.Arm tests guard) at a b d g h i j =

@@ -1,5 +1,5 @@
 -- What is built by the steps of a function is what the lowering builds.
-use Rattle.std.proofs.Common.{◌≡◌, ◌∙◌, ◌++◌, ◌||◌, ◌∷◌, ℕ, Bool, true, false, List, [], length, map, refl, sym, ap}
+use Rattle.std.proofs.Common.{◌≡◌, ◌∙◌, ◌++◌, ◌||◌, ◌∷◌, ℕ, Bool, true, false, not, List, [], length, map, refl, sym, ap}
 use Rattle.cfg_graph.specs.declared.graph.Kind.{Kind}
 use Rattle.cfg_graph.specs.declared.terminator.Term.{Term}
 use Rattle.mir_base.specs.declared.trace.Why.{Why}
@@ -10,13 +10,19 @@ use Rattle.scope_code.specs.Code.{Code, Arms, Guard, no_guard, a_guard}
 use Rattle.src_meaning.specs.Forms.{moved}
 use Rattle.src_meaning.specs.Shape.{PatternTests}
 use Rattle.cfg_build.specs.Build as build
-use Rattle.cfg_build.specs.Build.{Frame, Rest, Building, Lowers, closing, joined, then_build, with_exit, leave, ending, next_number, reserved, filled, is_left_by, tests, panic_drops, unwinding}
+use Rattle.cfg_build.specs.Build.{Frame, Rest, Building, Lowers, closing, joined, then_build, with_exit, leave, act_by, Done, ending, next_number, reserved, filled, is_left_by, tests, panic_drops, unwinding}
 use Rattle.cfg_build.specs.Lower.{LowersArm, guard_from}
 use Rattle.cfg_build.specs.Codes.{lowers, lowers_arms, behind_tests, some_end, built_from, asked}
 use Rattle.code_blocks.specs.Building.{loop_of}
 use Rattle.code_blocks.specs.declared.ways.LoopWay.{LoopWay}
 use Rattle.body_blocks.specs.Builds.{behind, behind_guard}
 use Rattle.body_blocks.proofs.Ignoring.{Ignores, never, left_false, right_false, ignores, arms_ignore}
+
+-- an effect, by whether a run comes behind it
+
+pub by_end : (f : Frame) (last ends : Bool) (node : ℕ) (by : Done) → ends ≡ (act_by f last node by).has_end → act_by f (not ends) node by ≡ act_by f last node by
+by_end f true ends node by is = ap (λ (e : Bool). act_by f (not e) node by) is
+by_end f false ends node by is = ap (λ (e : Bool). act_by f (not e) node by) is
 
 -- one before the other
 

@@ -45,7 +45,7 @@ pub fn build(alloc: Global, at: Setting, end: usize, blocks: &mut Blocks) -> Res
         Op::Branches { node, on } => build_branches(alloc, at, *node, on, end, blocks),
         Op::Loops(id) => build_loop(alloc, at, *id, end, blocks),
         Op::Matches(node) => build_match(alloc, at, *node, end, blocks),
-        _ => build_word(alloc, at, word, blocks),
+        _ => build_word(alloc, at, word, has_end(at.code, end), blocks),
     }
 }
 

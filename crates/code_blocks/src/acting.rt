@@ -12,7 +12,7 @@ use crate::blocks::Blocks;
 use crate::ways::Ways;
 use bumpalo::Bump;
 use cfg_graph::{Kind, Operand, Place, Stmt, Term, Unwind};
-use code_lines::{Frame, is_last, place, statement, terminator, whole_place};
+use code_lines::{Frame, place, statement, terminator, whole_place};
 use code_scopes::{Scopes, panic_drops, take};
 use mir_base::{Key, NoMemory, NodeId, Why};
 use scope_code::Action;
@@ -47,7 +47,8 @@ fn done(
     }
 }
 
-/// An effect. No run comes behind one that stores into a place of type `!`: the block goes on to the one that returns.
+/// An effect. No run comes behind the last one of a body, which stores into a place of type `!`: the block goes on to the
+/// one that returns.
 ///
 /// # Errors
 ///
@@ -57,15 +58,16 @@ pub fn act(
     frame: Frame,
     node: NodeId,
     action: &Action,
+    last: bool,
     ways: Ways,
     scopes: &Scopes,
     blocks: &mut Blocks,
 ) -> Result<(), NoMemory>
     ensures { OnOk result (built_of blocks.new ≡
-        (build.act (frame_of frame.entry) node.0 (effect_of node.0 action.now)).build (ways_of ways.entry)
-        (scopes_of scopes.entry.now) (rest_of blocks.old.rest) (building_of blocks.old)) }
+        (build.act_by (frame_of frame.entry) last node.0 (build.done_by (frame_of frame.entry) (effect_of node.0 action.now))).build
+        (ways_of ways.entry) (scopes_of scopes.entry.now) (rest_of blocks.old.rest) (building_of blocks.old)) }
 {
-    if is_last(alloc, frame, action)? {
+    if last {
         blocks.end(alloc, Term::Goto(ways.returns), node);
     }
     done(alloc, frame, node, action, scopes, blocks)

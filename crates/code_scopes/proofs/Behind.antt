@@ -10,6 +10,8 @@ use Rattle.scope_code.specs.Code as code
 use Rattle.scope_code.specs.Code.{Code, Change, changed_by}
 use Rattle.scope_code.specs.Ops as ops
 use Rattle.scope_code.specs.Ops.{Op}
+use Rattle.std.specs.Prelude.{Box}
+use Rattle.std.specs.declared.alloc.Global.{Global}
 use Rattle.cfg_graph.specs.declared.place.Place.{Place}
 use Rattle.mir_base.specs.declared.place_in_text.Key.{Key}
 use Rattle.mir_base.specs.declared.place_in_text.NodeId.{NodeId}
@@ -90,7 +92,7 @@ module _ (f : Frame) (all : List Op) (marks : List Mark) (c : Code) (s e : ℕ) 
   abbrev stay : (other : Code) → c ≡ other → S ≡ (lowers f other).after S → S ≡ (lowers f c).after S
   stay other is same = by_code f all marks c s e stands S S other is same
 
-  pub stays : (w : words.Op) → slice_get all e ≡ Some (op_of w) → ((by : changing.Change) → w ≡ words.Op.Changes by → ⊥) → ((by : changing.Change) → w ≡ words.Op.From by → ⊥) → (w ≡ words.Op.Then → ⊥) → ((node : NodeId) (t : Bool) → w ≡ words.Op.InScope node t → ⊥) → (w ≡ words.Op.Leaves → ⊥) → ((node : NodeId) (on : Condition) → w ≡ words.Op.Branches node on → ⊥) → ((node : NodeId) (place : Place) (key : Key) → w ≡ words.Op.Replaces node place key → ⊥) → S ≡ (lowers f c).after S
+  pub stays : (w : words.Op) → slice_get all e ≡ Some (op_of w) → ((by : changing.Change) → w ≡ words.Op.Changes by → ⊥) → ((by : changing.Change) → w ≡ words.Op.From by → ⊥) → (w ≡ words.Op.Then → ⊥) → ((node : NodeId) (t : Bool) → w ≡ words.Op.InScope node t → ⊥) → (w ≡ words.Op.Leaves → ⊥) → ((node : NodeId) (on : Condition) → w ≡ words.Op.Branches node on → ⊥) → ((node : NodeId) (place : Box Place Global) (key : Key) → w ≡ words.Op.Replaces node place key → ⊥) → S ≡ (lowers f c).after S
   stays words.Op.Nothing at a b d g h i j = stay code.Nothing (reads f all marks c s e ops.Nothing stands at) refl
   stays (words.Op.Changes by) at a b d g h i j = absurd (a by refl)
   stays (words.Op.From by) at a b d g h i j = absurd (b by refl)
@@ -100,8 +102,8 @@ module _ (f : Frame) (all : List Op) (marks : List Mark) (c : Code) (s e : ℕ) 
       stay (code.BackIn is.0) is.1.0 refl
   stays (words.Op.Acts node action) at a b d g h i j =
       let own : Op = op_of (words.Op.Acts node action) in
-      stay (code.Acts node.0 (effect_of node.0 action)) (reads f all marks c s e own stands at)
-      (acts_stay f (is_last f (effect_of node.0 action)) node.0 (done_by f (effect_of node.0 action)) S)
+      stay (code.Acts node.0 (effect_of node.0 action.value)) (reads f all marks c s e own stands at)
+      (acts_stay f (is_last f (effect_of node.0 action.value)) node.0 (done_by f (effect_of node.0 action.value)) S)
   stays (words.Op.InScope node t) at a b d g h i j = absurd (g node t refl)
   stays words.Op.Leaves at a b d g h i j = absurd (h refl)
   stays (words.Op.Branches node on) at a b d g h i j = absurd (i node on refl)

@@ -142,7 +142,7 @@ pub fn reaches_of(alloc: Global, code: Spans) -> Result<List<Option<u32>>, NoMem
     ensures { IfOk result (λ reaches. (f : Frame) →
         AreReaches f (map op_of code.entry.words.now) code.entry.marks.now reaches) }
 {
-    let mut reaches = List::new(alloc);
+    let mut reaches = List::from_vec(Vec::with_capacity(alloc, code.words.len())?);
     for end in 0..code.words.len() {
         let reach = reach_of(code, reaches.as_slice(), end);
         reaches.push(reach)?;

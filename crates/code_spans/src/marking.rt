@@ -309,7 +309,7 @@ pub fn marks_of(alloc: Global, frame: Frame, code: &Code) -> Result<List<Mark>, 
         Stands (frame_of frame.entry) (map op_of code.now.ops) marks c 0 (length code.now.ops - 1)) }
 {
     let mut marks = Marks {
-        marks: List::new(alloc),
+        marks: List::from_vec(Vec::with_capacity(alloc, code.ops.len())?),
         jumps: List::new(alloc),
     };
     for word in code.ops.as_slice() {

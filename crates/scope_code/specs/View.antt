@@ -91,14 +91,14 @@ op_of (Op.Changes change) = ops.Changes (change_of change)
 op_of (Op.From change) = ops.From (change_of change)
 op_of Op.Then = ops.Then
 op_of Op.BackIn = ops.BackIn
-op_of (Op.Acts node action) = ops.Acts node.0 (effect_of node.0 action)
+op_of (Op.Acts node action) = ops.Acts node.0 (effect_of node.0 action.value)
 op_of (Op.InScope node for_temporaries) = ops.InScope node.0 for_temporaries
 op_of Op.Leaves = ops.Leaves
 op_of (Op.Branches node on) = ops.Branches node.0 (condition_of on)
 op_of (Op.Loops id) = ops.Loops id.0
 op_of (Op.Exits node exit) = ops.Exits node.0 (exit_of exit)
 op_of (Op.Panics node why) = ops.Panics node.0 why
-op_of (Op.Replaces node place key) = ops.Replaces (record { node = node.0; place = named place }) key.0
+op_of (Op.Replaces node place key) = ops.Replaces (record { node = node.0; place = named place.value }) key.0
 op_of (Op.Drops key) = ops.Drops key.0
 op_of Op.BeforeArms = ops.BeforeArms
 op_of (Op.Arm tests guard) = ops.IsArm (tests_in tests) (maybe_key guard)

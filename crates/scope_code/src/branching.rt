@@ -56,7 +56,8 @@ pub fn scrutinised(
         onto (forms.touched (shape items.now (tree_of node.now)).is_place
         (record { node = node.now.id.0; place = named place.now })) (ops_of code.old)) }
 {
-    touched(is_place(items, node), node.id, copied(alloc, place)?, code)?;
+    let place = copied(alloc, place)?;
+    touched(alloc, is_place(items, node), node.id, place, code)?;
     code.push(Op::Then)
 }
 

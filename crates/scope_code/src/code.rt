@@ -1,5 +1,7 @@
 ghost use Rattle.std.specs.Prelude.{◌≡◌, [], ◌∷◌, OnOk};
-ghost use Rattle.scope_code.specs.View.{op_of, ops_of};
+ghost use Rattle.cfg_graph.specs.Places.{named};
+ghost use Rattle.scope_code.specs.Ops as ops;
+ghost use Rattle.scope_code.specs.View.{op_of, ops_of, effect_of};
 
 use cfg_graph::{Operand, Place, Stmt};
 use mir_base::{Key, List, Math, NoMemory, NodeId, Why};
@@ -101,10 +103,10 @@ pub enum Op {
     Then,
     /// Code behind which the scopes are those before it.
     BackIn,
-    /// An effect of a node.
+    /// An effect of a node. It stands apart from the words, most of which are small.
     Acts {
         node: NodeId,
-        action: Action,
+        action: Box<Action, Global>,
     },
     /// Code in a scope of its own, which is left behind it.
     InScope {
@@ -131,7 +133,7 @@ pub enum Op {
     /// What a place holds is dropped, and what stands under the key is stored there.
     Replaces {
         node: NodeId,
-        place: Place,
+        place: Box<Place, Global>,
         key: Key,
     },
     /// What stands under a key is dropped.
@@ -170,6 +172,29 @@ impl Code {
         ensures { OnOk result (ops_of self.new ≡ op_of op ∷ ops_of self.old) }
     {
         self.ops.push(op)
+    }
+
+    /// An effect of a node.
+    pub fn act(&mut self, alloc: Global, node: NodeId, action: Action) -> Result<(), NoMemory>
+        ensures { OnOk result (ops_of self.new ≡ ops.Acts node.0 (effect_of node.0 action) ∷ ops_of self.old) }
+    {
+        let action = Box::new(alloc, action)?;
+        self.push(Op::Acts { node, action })
+    }
+
+    /// What a place holds is dropped, and what stands under the key is stored there.
+    pub fn replace(
+        &mut self,
+        alloc: Global,
+        node: NodeId,
+        place: Place,
+        key: Key,
+    ) -> Result<(), NoMemory>
+        ensures { OnOk result (ops_of self.new ≡
+            ops.Replaces (record { node = node.0; place = named place }) key.0 ∷ ops_of self.old) }
+    {
+        let place = Box::new(alloc, place)?;
+        self.push(Op::Replaces { node, place, key })
     }
 }
 

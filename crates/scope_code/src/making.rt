@@ -66,10 +66,7 @@ pub fn delivers(
     ensures { OnOk result (ops_of code.new ≡
         onto (forms.delivers number.0 id.0 (effect_of number.0 action) (destination_of to)) (ops_of code.old)) }
 {
-    code.push(Op::Acts {
-        node: number,
-        action,
-    })?;
+    code.act(alloc, number, action)?;
     match to {
         Destination::Into(_) => Ok(()),
         Destination::Coerced { key, trait_no, to } => {
@@ -79,7 +76,7 @@ pub fn delivers(
                 from: Operand::Moved(whole(alloc, key)),
             };
             let action = Action::Stmt(stmt);
-            code.push(Op::Acts { node: id, action })?;
+            code.act(alloc, id, action)?;
             code.push(Op::Then)
         }
     }

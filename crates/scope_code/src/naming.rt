@@ -23,10 +23,7 @@ fn takes(alloc: Global, binding: &Binding, code: &mut Code) -> Result<(), NoMemo
         _ => Operand::Copied(part),
     };
     let action = Action::Stmt(Stmt::Put(whole(alloc, binding.key), part));
-    code.push(Op::Acts {
-        node: NodeId(binding.key.0),
-        action,
-    })
+    code.act(alloc, NodeId(binding.key.0), action)
 }
 
 /// Behind what names take, each is an entry from there on.

@@ -32,15 +32,12 @@ pub fn element(
         ∷ ops.Acts id.0 (effects.Touch (record { node = id.0; place = named array })) ∷ ops_of code.old) }
 {
     let action = Action::Stmt(Stmt::Touch(array));
-    code.push(Op::Acts { node: id, action })?;
+    code.act(alloc, id, action)?;
     let action = Action::Bounds {
         index: Operand::Copied(whole(alloc, Key(index.0))),
         length,
     };
-    code.push(Op::Acts {
-        node: index,
-        action,
-    })?;
+    code.act(alloc, index, action)?;
     code.push(Op::Then)?;
     code.push(Op::Then)?;
     code.push(Op::Then)
@@ -83,10 +80,10 @@ fn replaces(
 {
     if drops {
         let key = Key(value.0);
-        return code.push(Op::Replaces { node, place, key });
+        return code.replace(alloc, node, place, key);
     }
     let action = Action::Stmt(Stmt::Put(place, moved_from(alloc, value)));
-    code.push(Op::Acts { node, action })?;
+    code.act(alloc, node, action)?;
     code.push(Op::From(Change::Takes(one_key(alloc, value)?)))
 }
 

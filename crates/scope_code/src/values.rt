@@ -64,7 +64,7 @@ pub fn unit_after(
     ensures { OnOk result (ops_of code.new ≡
         onto (forms.unit_after id.0 (effect_of id.0 action) (destination_of to)) (ops_of code.old)) }
 {
-    code.push(Op::Acts { node: id, action })?;
+    code.act(alloc, id, action)?;
     put_unit(alloc, id, to, code)?;
     code.push(Op::Then)
 }
@@ -109,13 +109,19 @@ pub fn jump(id: NodeId, exit: Exit, code: &mut Code) -> Result<(), NoMemory>
 }
 
 /// A place is read as a whole, if it is one.
-pub fn touched(is_place: bool, node: NodeId, place: Place, code: &mut Code) -> Result<(), NoMemory>
+pub fn touched(
+    alloc: Global,
+    is_place: bool,
+    node: NodeId,
+    place: Place,
+    code: &mut Code,
+) -> Result<(), NoMemory>
     ensures { OnOk result (ops_of code.new ≡
         onto (forms.touched is_place (record { node = node.0; place = named place })) (ops_of code.old)) }
 {
     if is_place {
         let action = Action::Stmt(Stmt::Touch(place));
-        code.push(Op::Acts { node, action })
+        code.act(alloc, node, action)
     } else {
         code.push(Op::Nothing)
     }

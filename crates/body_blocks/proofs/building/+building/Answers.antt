@@ -110,7 +110,8 @@ build-returns-in_default-word t c =
     on_ok_weaker c.build_word.result
     (λ made code start stands. made code (leaf f (map op_of ws) c.args.at.code.marks.now code start c.args.end stands w at
     c.in_default-word.not-From c.in_default-word.not-Then c.in_default-word.not-BackIn c.in_default-word.not-InScope
-    c.in_default-word.not-Branches c.in_default-word.not-Loops c.in_default-word.not-Matches)) c.build_word.ensures
+    c.in_default-word.not-Branches c.in_default-word.not-Loops c.in_default-word.not-Matches)
+    (c.has_end.ensures f code start stands)) c.build_word.ensures
 
 pub build_one-returns-in-Some : goal.build_one-returns-in-Some
 build_one-returns-in-Some t c =

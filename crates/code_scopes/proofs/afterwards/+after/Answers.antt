@@ -73,7 +73,7 @@ after-returns-in-Replaces t c =
     word_at ws c.args.end c.in-Some.word.now (words.Op.Replaces c.in-Replaces.node c.in-Replaces.place c.in-Replaces.key) (sym c.in-Some.ensures) c.in-Replaces.is in
     IfOk-weaker c.take.result _ _
     (λ (behind : Bor Held) made f code start stands. of_replaced f (map op_of ws) c.args.code.marks.now code start c.args.end stands
-    (scopes_of c.args.scopes.now) (scopes_of behind.now) (record { node = c.in-Replaces.node.0; place = named c.in-Replaces.place }) c.in-Replaces.key.0 at made) c.take.ensures
+    (scopes_of c.args.scopes.now) (scopes_of behind.now) (record { node = c.in-Replaces.node.0; place = named c.in-Replaces.place.value }) c.in-Replaces.key.0 at made) c.take.ensures
 
 pub after-returns-in-Then : goal.after-returns-in-Then
 after-returns-in-Then t c =
