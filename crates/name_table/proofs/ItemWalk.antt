@@ -12,7 +12,7 @@ use Rattle.src_ast.specs.Seen.{syn_of}
 use Rattle.src_ast.specs.Syntax.{Syn, Word}
 use Rattle.src_tree.specs.Layout.{node}
 use Rattle.src_ast.specs.View.{view}
-use Rattle.typing_rules.specs.Check.{Check, State, Broken, and_then}
+use Rattle.typing_rules.specs.Check.{State, Broken, and_then}
 use Rattle.typing_rules.specs.Collected as walk
 use Rattle.typing_rules.specs.Collected.{heads_collected, item_head, body_sigs}
 use Rattle.typing_rules.specs.Items.{ItemSyn, items_of, item_syns, bodies_in, bodies_among, is_body_row, with_body, impl_owner, body_path, body_paths}

@@ -1,5 +1,5 @@
 //! The names of structs and enums, of traits, and the paths of bodies, each by its number.
-ghost use Rattle.std.specs.Prelude.{◌≡◌, ◌∷◌, [], ◌++◌, IfOk, IfErr, List as Listed, ℕ, map, codes};
+ghost use Rattle.std.specs.Prelude.{◌≡◌, ◌∷◌, [], ◌++◌, IfOk, IfErr, OnOk, List as Listed, ℕ, map, codes};
 ghost use Rattle.std.specs.List.{filter_map};
 ghost use Rattle.std.specs.String.{string_bytes};
 ghost use Rattle.mir_base.specs.declared.rule.RuleError.{RuleError};
@@ -16,6 +16,7 @@ use mir_base::{NoMemory, RuleError};
 use src_ast::{ItemForm, item_form, name_of};
 use src_tree::{Node, Piece, Row};
 use std::alloc::{AllocError, Global};
+use std::mem;
 
 /// Of which items the names are.
 #[derive(Clone, Copy)]
@@ -88,6 +89,16 @@ fn with_name(alloc: Global, table: NameTable, name: &str) -> Result<NameTable, R
         Ok(more) => Ok(more),
         Err(NoMemory) => Err(RuleError::Memory),
     }
+}
+
+/// A name is put behind the others.
+fn add_name(alloc: Global, table: &mut NameTable, name: &str) -> Result<(), RuleError>
+    ensures named { OnOk result (table.new ≡ table.old ++ name.now ∷ []) }
+    ensures short { IfErr result (λ e. e ≡ RuleError.Memory) }
+{
+    let names = mem::replace(table, NameTable::new(alloc));
+    *table = with_name(alloc, names, name)?;
+    Ok(())
 }
 
 /// A table with one name more, where there is one.
@@ -192,17 +203,17 @@ fn body_path(alloc: Global, names: ImplNames, node: &Node) -> Result<String, All
     }
 }
 
-fn with_body(
+fn add_body(
     alloc: Global,
-    table: NameTable,
+    table: &mut NameTable,
     names: ImplNames,
     node: &Node,
-) -> Result<NameTable, RuleError>
-    ensures found { IfOk result (λ more. more ≡ table ++ path_of_body names.entry (syn_of node.now) ∷ []) }
+) -> Result<(), RuleError>
+    ensures found { OnOk result (table.new ≡ table.old ++ path_of_body names.entry (syn_of node.now) ∷ []) }
     ensures short { IfErr result (λ e. e ≡ RuleError.Memory) }
 {
     match body_path(alloc, names, node) {
-        Ok(path) => with_name(alloc, table, path.as_str()),
+        Ok(path) => add_name(alloc, table, path.as_str()),
         Err(_) => Err(RuleError::Memory),
     }
 }
@@ -216,91 +227,89 @@ fn is_body(row: Row) -> bool
     }
 }
 
-/// The paths so far, with that of a node, if it is a body.
-fn with_own(
+/// The path of a node, if it is a body, is put behind the others.
+fn add_own(
     alloc: Global,
-    table: NameTable,
+    table: &mut NameTable,
     names: ImplNames,
     node: &Node,
-) -> Result<NameTable, RuleError>
-    ensures found { IfOk result (λ more. more ≡ table ++ own_paths (path_of_body names.entry) node.now.row (syn_of node.now)) }
+) -> Result<(), RuleError>
+    ensures found { OnOk result (table.new ≡ table.old ++ own_paths (path_of_body names.entry) node.now.row (syn_of node.now)) }
     ensures short { IfErr result (λ e. e ≡ RuleError.Memory) }
 {
     if is_body(node.row) {
-        with_body(alloc, table, names, node)
+        add_body(alloc, table, names, node)
     } else {
-        Ok(table)
+        Ok(())
     }
 }
 
-/// The paths so far, with those of the bodies among the parts of a node.
+/// The paths of the bodies among the parts of a node are put behind the others.
 #[cycle(paths)]
-fn with_inner(
+fn add_inner(
     alloc: Global,
-    table: NameTable,
+    table: &mut NameTable,
     names: ImplNames,
     pieces: &[Piece],
-) -> Result<NameTable, RuleError>
-    ensures found { IfOk result (λ more. more ≡ table ++ map (path_of_body names.entry) (bodies_among (parts_in pieces.now))) }
+) -> Result<(), RuleError>
+    ensures found { OnOk result (table.new ≡ table.old ++ map (path_of_body names.entry) (bodies_among (parts_in pieces.now))) }
     ensures short { IfErr result (λ e. e ≡ RuleError.Memory) }
 {
-    let mut table = table;
     for piece in pieces {
-        table = with_piece(alloc, table, names, piece)?;
+        add_piece(alloc, table, names, piece)?;
     }
-    Ok(table)
+    Ok(())
 }
 
 #[cycle(paths)]
 #[tactic(auto, using(crate::proofs::ItemWalk::inner_token, crate::proofs::ItemWalk::inner_node))]
-fn with_piece(
+fn add_piece(
     alloc: Global,
-    table: NameTable,
+    table: &mut NameTable,
     names: ImplNames,
     piece: &Piece,
-) -> Result<NameTable, RuleError>
-    ensures found { IfOk result (λ more. more ≡ table ++ map (path_of_body names.entry) (bodies_in_piece (piece_of piece.now))) }
+) -> Result<(), RuleError>
+    ensures found { OnOk result (table.new ≡ table.old ++ map (path_of_body names.entry) (bodies_in_piece (piece_of piece.now))) }
     ensures short { IfErr result (λ e. e ≡ RuleError.Memory) }
 {
     match piece {
-        Piece::Node(node) => with_node(alloc, table, names, node),
-        Piece::Token(_) => Ok(table),
+        Piece::Node(node) => add_node(alloc, table, names, node),
+        Piece::Token(_) => Ok(()),
     }
 }
 
-/// The paths so far, with that of a node and those of the bodies in it.
+/// The path of a node, if it is a body, and those of the bodies in it are put behind the others.
 #[cycle(paths)]
 #[tactic(auto, using(crate::proofs::ItemWalk::node_found))]
-fn with_node(
+fn add_node(
     alloc: Global,
-    table: NameTable,
+    table: &mut NameTable,
     names: ImplNames,
     node: &Node,
-) -> Result<NameTable, RuleError>
-    ensures found { IfOk result (λ more. more ≡ table ++ map (path_of_body names.entry) (bodies_in (layout_of node.now))) }
+) -> Result<(), RuleError>
+    ensures found { OnOk result (table.new ≡ table.old ++ map (path_of_body names.entry) (bodies_in (layout_of node.now))) }
     ensures short { IfErr result (λ e. e ≡ RuleError.Memory) }
 {
-    let own = with_own(alloc, table, names, node)?;
-    let all = with_inner(alloc, own, names, node.parts.as_slice())?;
-    Ok(all)
+    add_own(alloc, table, names, node)?;
+    add_inner(alloc, table, names, node.parts.as_slice())
 }
 
-/// The paths so far, with those of the bodies of an item.
-fn with_item(alloc: Global, table: NameTable, node: &Node) -> Result<NameTable, RuleError>
-    ensures found { IfOk result (λ more. more ≡ table ++ map (told.body_path (syn_of node.now)) (bodies_in (layout_of node.now))) }
+/// The paths of the bodies of an item are put behind the others.
+fn add_item(alloc: Global, table: &mut NameTable, node: &Node) -> Result<(), RuleError>
+    ensures found { OnOk result (table.new ≡ table.old ++ map (told.body_path (syn_of node.now)) (bodies_in (layout_of node.now))) }
     ensures short { IfErr result (λ e. e ≡ RuleError.Memory) }
 {
-    with_node(alloc, table, impl_names(node), node)
+    add_node(alloc, table, impl_names(node), node)
 }
 
 #[tactic(auto, using(crate::proofs::ItemWalk::paths_token, crate::proofs::ItemWalk::paths_node))]
-fn with_item_at(alloc: Global, table: NameTable, piece: &Piece) -> Result<NameTable, RuleError>
-    ensures found { IfOk result (λ more. more ≡ table ++ paths_in_piece (piece_of piece.now)) }
+fn add_item_at(alloc: Global, table: &mut NameTable, piece: &Piece) -> Result<(), RuleError>
+    ensures found { OnOk result (table.new ≡ table.old ++ paths_in_piece (piece_of piece.now)) }
     ensures short { IfErr result (λ e. e ≡ RuleError.Memory) }
 {
     match piece {
-        Piece::Node(node) => with_item(alloc, table, node),
-        Piece::Token(_) => Ok(table),
+        Piece::Node(node) => add_item(alloc, table, node),
+        Piece::Token(_) => Ok(()),
     }
 }
 
@@ -311,7 +320,7 @@ fn body_paths(alloc: Global, pieces: &[Piece]) -> Result<NameTable, RuleError>
 {
     let mut table = NameTable::new(alloc);
     for piece in pieces {
-        table = with_item_at(alloc, table, piece)?;
+        add_item_at(alloc, &mut table, piece)?;
     }
     Ok(table)
 }
