@@ -4,12 +4,12 @@ use Rattle.std.specs.Prelude.{slice_index_or}
 use Rattle.std.specs.Option.{MatchOption}
 use Rattle.std.proofs.lemmas.Bool.{false≢true}
 use Rattle.store_model.specs.Places.Place.{Place}
-use Rattle.bit_rows.specs.Words.{difference}
+use Rattle.bit_rows.specs.Words.{any_both}
 use Rattle.init_flow.specs.Carried.{Row}
 use Rattle.move_paths.specs.Trie.{AreOnce}
 use Rattle.move_paths.specs.Forest.{IsRoot, IsStepBelow}
 use Rattle.move_flow.proofs.Marking.{above-step, above-root}
-use Rattle.bad_uses.specs.Rows.{some_on, any_both, above, place_at}
+use Rattle.bad_uses.specs.Rows.{some_on, above, place_at}
 
 and-off : (a : Bool) → (a && false) ≡ false
 and-off true = refl
@@ -55,65 +55,11 @@ above-up paths row of (Some p) once within off step =
     some-same (above paths (Some of)) (above paths (Some p)) paths row
     (λ i here on. above-step paths once i of p here within (λ same. false≢true (sym off ∙ ap (λ (n : ℕ). slice_index_or row n false) (sym same) ∙ on)) step)
 
-first_of : Row → Bool
-first_of [] = false
-first_of (x ∷ xs) = x
-
-rest_of : Row → Row
-rest_of [] = []
-rest_of (x ∷ xs) = xs
-
--- rows that have a bit in common
-pub apart : (mask row : Row) → length mask ≡ length row → difference mask row ≡ row → any_both mask row ≡ false
-unfolding first_of rest_of
-apart [] row long same = refl
-apart (m ∷ mask) [] long same = absurd (omega (long, arith))
-apart (m ∷ mask) (b ∷ row) long same =
-    λ i. one m b (ap (first_of) same) i || apart mask row (omega (long, arith)) (ap rest_of same) i
-  where
-    one : (m b : Bool) → (not m && b) ≡ b → (m && b) ≡ false
-    one true b h = sym h
-    one false b h = refl
-
-pub apart-back : (mask row : Row) → length mask ≡ length row → any_both mask row ≡ false → difference mask row ≡ row
-apart-back [] [] long none = refl
-apart-back [] (b ∷ row) long none = absurd (omega (long, arith))
-apart-back (m ∷ mask) [] long none = absurd (omega (long, arith))
-apart-back (m ∷ mask) (b ∷ row) long none =
-    λ i. one m b (first (m && b) none) i ∷ apart-back mask row (omega (long, arith)) (second (m && b) none) i
-  where
-    first : (a : Bool) → (a || any_both mask row) ≡ false → a ≡ false
-    first true h = h
-    first false h = refl
-
-    second : (a : Bool) → (a || any_both mask row) ≡ false → any_both mask row ≡ false
-    second true h = absurd (false≢true (sym h))
-    second false h = h
-
-    one : (m b : Bool) → (m && b) ≡ false → (not m && b) ≡ b
-    one true b h = sym h
-    one false b h = refl
-
 -- a mask of paths
 pub both-some : (f : Place → Bool) (paths : List Place) (row : Row) → any_both (map f paths) row ≡ some_on f paths row
 both-some f [] row = refl
 both-some f (q ∷ qs) [] = refl
 both-some f (q ∷ qs) (b ∷ row) = ap (λ (z : Bool). (f q && b) || z) (both-some f qs row)
-
-not-false : (b : Bool) → (b ≡ false → ⊥) → b ≡ true
-not-false true h = refl
-not-false false h = absurd (h refl)
-
--- a difference tells whether two rows have a bit in common
-pub meets : (mask row rest new : Row) (changed : Bool) → length mask ≡ length row → rest ≡ row → new ≡ difference mask rest
-    → (changed ≡ false ↔ (new ≡ rest)) → changed ≡ any_both mask row
-meets mask row rest new changed long is new_is change = by (any_both mask row) refl
-  where
-    by : (b : Bool) → any_both mask row ≡ b → changed ≡ b
-    by false e = change.1 (new_is ∙ ap (difference mask) is ∙ apart-back mask row long e ∙ sym is)
-    by true e = not-false changed (λ off.
-        let same : difference mask row ≡ row = sym (new_is ∙ ap (difference mask) is) ∙ change.0 off ∙ is in
-        false≢true (sym (apart mask row long same) ∙ e))
 
 -- tests of which one holds
 pub some-or : (f g : Place → Bool) (paths : List Place) (row : Row) → some_on (λ q. f q || g q) paths row ≡ (some_on f paths row || some_on g paths row)

@@ -31,12 +31,6 @@ some_on test [] row = false
 some_on test (path ∷ paths) [] = false
 some_on test (path ∷ paths) (gone ∷ row) = (test path && gone) || some_on test paths row
 
--- a bit is on in both of two rows
-abbrev pub any_both : Row → Row → Bool
-any_both [] row = false
-any_both (marked ∷ mask) [] = false
-any_both (marked ∷ mask) (gone ∷ row) = (marked && gone) || any_both mask row
-
 abbrev pub place_at : List Place → ℕ → Place
 place_at paths n = slice_index_or paths n (whole_local 0)
 

@@ -1,5 +1,5 @@
 //! What is done at a point of a body.
-ghost use Rattle.std.specs.Prelude.{◌≡◌, ℕ, ◌+◌, ◌++◌, map, length, IfOk, OnOk};
+ghost use Rattle.std.specs.Prelude.{◌≡◌, ℕ, ◌+◌, ◌++◌, [], map, length, IfOk, OnOk};
 ghost use Rattle.std.specs.Option.{option_copied};
 ghost use Rattle.cfg_graph.specs.Uses as graph;
 ghost use Rattle.move_paths.specs.Uses.{listed, optional};
@@ -10,7 +10,7 @@ use cfg_graph::{Block, Body, Place, Stmt, Term};
 use init_flow::target;
 use mir_base::{List, NoMemory};
 use mir_ty::Items;
-use move_paths::{Use, Used, stmt_uses, term_uses};
+use move_paths::{Use, Used, add_stmt_uses, add_term_uses};
 use std::alloc::Global;
 
 /// A use of a place, at a line of its block.
@@ -34,12 +34,17 @@ fn add_uses<'a>(acts: &mut List<Act<'a>>, line: u32, uses: &[Used<'a>]) -> Resul
     Ok(())
 }
 
-fn add_stmts<'a>(alloc: Global, acts: &mut List<Act<'a>>, stmts: &'a [Stmt]) -> Result<(), NoMemory>
+fn add_stmts<'a>(
+    acts: &mut List<Act<'a>>,
+    uses: &mut List<Used<'a>>,
+    stmts: &'a [Stmt],
+) -> Result<(), NoMemory>
     ensures { OnOk result ((block : ℕ) → runs.actions_of block acts.new ≡ runs.actions_of block acts.old ++ runs.stmt_actions block 0 stmts.now) }
 {
     let mut line = 0;
     for stmt in stmts {
-        let uses = stmt_uses(alloc, stmt)?;
+        uses.truncate(0);
+        add_stmt_uses(uses, stmt)?;
         add_uses(acts, line, uses.as_slice())?;
         line = next_line(line)?;
     }
@@ -55,17 +60,21 @@ fn next_line(line: u32) -> Result<u32, NoMemory>
     }
 }
 
-fn block_acts<'a>(alloc: Global, block: &'a Block) -> Result<List<Act<'a>>, NoMemory>
-    ensures { IfOk result (λ acts. (n : ℕ) → runs.actions_of n acts ≡ runs.stmt_actions n 0 block.now.stmts ++ runs.at_line n (length block.now.stmts) (graph.term_uses block.now.term)) }
+fn block_acts<'a>(
+    acts: &mut List<Act<'a>>,
+    uses: &mut List<Used<'a>>,
+    block: &'a Block,
+) -> Result<(), NoMemory>
+    ensures { OnOk result ((n : ℕ) → runs.actions_of n acts.new ≡ runs.stmt_actions n 0 block.now.stmts ++ runs.at_line n (length block.now.stmts) (graph.term_uses block.now.term)) }
 {
     let Ok(line) = u32::try_from(block.stmts.len()) else {
         return Err(NoMemory);
     };
-    let mut acts = List::new(alloc);
-    add_stmts(alloc, &mut acts, block.stmts.as_slice())?;
-    let uses = term_uses(alloc, &block.term)?;
-    add_uses(&mut acts, line, uses.as_slice())?;
-    Ok(acts)
+    acts.truncate(0);
+    add_stmts(acts, uses, block.stmts.as_slice())?;
+    uses.truncate(0);
+    add_term_uses(uses, &block.term)?;
+    add_uses(acts, line, uses.as_slice())
 }
 
 /// Where a terminator stores its result on its way to a block.
@@ -83,51 +92,77 @@ fn stored(term: &Term, next: u32) -> Option<&Place>
     }
 }
 
-fn store_acts<'a>(alloc: Global, block: &'a Block, next: u32) -> Result<List<Act<'a>>, NoMemory>
-    ensures { IfOk result (λ acts. (n : ℕ) → runs.actions_of n acts ≡ runs.at_line n (length block.now.stmts) (map (λ place. (graph.Stores, place)) (runs.stored_towards block.now.term next))) }
+fn store_acts<'a>(acts: &mut List<Act<'a>>, block: &'a Block, next: u32) -> Result<(), NoMemory>
+    ensures { OnOk result ((n : ℕ) → runs.actions_of n acts.new ≡ runs.at_line n (length block.now.stmts) (map (λ place. (graph.Stores, place)) (runs.stored_towards block.now.term next))) }
 {
     let Ok(line) = u32::try_from(block.stmts.len()) else {
         return Err(NoMemory);
     };
-    let mut acts = List::new(alloc);
-    if let Some(place) = stored(&block.term, next) {
-        acts.push(Act {
+    acts.truncate(0);
+    match stored(&block.term, next) {
+        Some(place) => acts.push(Act {
             line,
             how: Use::Stores,
             place,
-        })?;
+        }),
+        None => Ok(()),
     }
-    Ok(acts)
 }
 
 fn way_acts<'a>(
-    alloc: Global,
+    acts: &mut List<Act<'a>>,
     block: &'a Block,
     next: Option<u32>,
-) -> Result<List<Act<'a>>, NoMemory>
-    ensures { IfOk result (λ acts. (n : ℕ) → runs.actions_of n acts ≡ runs.stored_between block.now n next) }
+) -> Result<(), NoMemory>
+    ensures { OnOk result ((n : ℕ) → runs.actions_of n acts.new ≡ runs.stored_between block.now n next) }
 {
     match next {
-        Some(next) => store_acts(alloc, block, next),
-        None => Ok(List::new(alloc)),
+        Some(next) => store_acts(acts, block, next),
+        None => {
+            acts.truncate(0);
+            Ok(())
+        }
     }
 }
 
-/// What is done at a point of a body, in order: within a block its uses, on a way out of it the store of its result.
-pub fn acts<'a>(
-    alloc: Global,
-    items: &Items,
-    body: &'a Body,
-    at: Point,
-) -> Result<List<Act<'a>>, NoMemory>
-    ensures { IfOk result (λ acts. runs.actions_of at.block acts ≡ runs.acts_at items.now body.now at.block at.stage) }
-{
-    let Some(block) = body.blocks.get(at.block as usize) else {
-        return Ok(List::new(alloc));
-    };
-    match at.stage {
-        Stage::Entry => Ok(List::new(alloc)),
-        Stage::Inside => block_acts(alloc, block),
-        Stage::Leaving(way) => { way_acts(alloc, block, target(items, body, at.block, way as u32)) }
+/// What is done at a point of a body, in order, and room for the uses of a line.
+#[derive(Drop)]
+pub struct Acts<'a> {
+    pub acts: List<Act<'a>>,
+    pub uses: List<Used<'a>>,
+}
+
+impl<'a> Acts<'a> {
+    /// Nothing.
+    pub fn new(alloc: Global) -> Acts<'a>
+        ensures { result.acts ≡ [] }
+    {
+        Acts {
+            acts: List::new(alloc),
+            uses: List::new(alloc),
+        }
+    }
+
+    /// Makes them what is done at a point of a body, in order: within a block its uses, on a way out of it the store of
+    /// its result.
+    pub fn fill(&mut self, items: &Items, body: &'a Body, at: Point) -> Result<(), NoMemory>
+        ensures { OnOk result (runs.actions_of at.block self.new.acts ≡ runs.acts_at items.now body.now at.block at.stage) }
+    {
+        let Some(block) = body.blocks.get(at.block as usize) else {
+            self.acts.truncate(0);
+            return Ok(());
+        };
+        match at.stage {
+            Stage::Entry => {
+                self.acts.truncate(0);
+                Ok(())
+            }
+            Stage::Inside => block_acts(&mut self.acts, &mut self.uses, block),
+            Stage::Leaving(way) => way_acts(
+                &mut self.acts,
+                block,
+                target(items, body, at.block, way as u32),
+            ),
+        }
     }
 }

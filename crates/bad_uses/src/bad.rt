@@ -1,5 +1,5 @@
 //! Which uses are bad by a row that says of each path whether it is gone, and what they make of the row.
-ghost use Rattle.std.specs.Prelude.{◌≡◌, ◌<◌, ◌&&◌, ℕ, IfOk, None, length};
+ghost use Rattle.std.specs.Prelude.{◌≡◌, ◌<◌, ◌&&◌, ℕ, None, length};
 ghost use Rattle.std.specs.Option.{option_map};
 ghost use Rattle.cfg_graph.specs.Places.{named, named_step};
 ghost use Rattle.cfg_graph.specs.Moves.Gone.{is_at_or_above};
@@ -8,25 +8,23 @@ ghost use Rattle.move_paths.specs.Trie.{AreOnce};
 ghost use Rattle.move_paths.specs.Uses.{use_of};
 ghost use Rattle.move_flow.specs.Concerns.{AreOfBody};
 ghost use Rattle.move_flow.specs.Moved.{masks_of};
-ghost use Rattle.bad_uses.specs.Rows.{some_on, any_both, above, place_at, depth_from, is_depth, OnlyAbove, Asks, concerns, left, after, first_by, use_at, IsUsed, IsWatched};
+ghost use Rattle.bad_uses.specs.Rows.{some_on, above, place_at, depth_from, is_depth, OnlyAbove, Asks, concerns, left, after, first_by, use_at, IsUsed, IsWatched};
 ghost use Rattle.bad_uses.specs.Runs.{actions_of, action_of};
 
 use crate::act::Act;
 use bit_rows::BitRow;
 use cfg_graph::{Body, Place, Step};
-use mir_base::{List, NoMemory};
 use mir_ty::Items;
-use move_flow::switch_of;
+use move_flow::{Masks, switch_of};
 use move_paths::{Forest, Near, Use};
-use std::alloc::Global;
 
-/// A body, its forest, and for each path the mask of those at or below it.
+/// A body, its forest, and the masks of the paths of that.
 #[derive(Drop)]
 pub struct Watch<'a> {
     pub items: &'a Items,
     pub body: &'a Body,
     pub forest: Forest,
-    pub below: List<BitRow>,
+    pub below: Masks,
 }
 
 /// Whether one of the paths at or above a path is gone.
@@ -44,16 +42,6 @@ fn is_gone_above(forest: &Forest, row: &BitRow, path: Option<u32>) -> bool
         at = forest.parent(of);
     }
     false
-}
-
-/// Whether a bit is on in two rows of one length.
-fn meet(alloc: Global, mask: &BitRow, row: &BitRow) -> Result<bool, NoMemory>
-    requires { length mask.now ≡ length row.now }
-    ensures { IfOk result (λ both. both ≡ any_both mask.now row.now) }
-{
-    let mut rest = BitRow::new(alloc, row.len())?;
-    row.or_into(&mut rest);
-    Ok(mask.and_not_into(&mut rest))
 }
 
 /// How many steps of a place lead to the array of its first index, if it has one.
@@ -81,22 +69,16 @@ fn ends_in_array(place: &Place, depth: usize) -> bool
 }
 
 /// Whether one of the paths at or below a path is gone, if these are asked for.
-fn is_gone_within(
-    alloc: Global,
-    watch: &Watch<'_>,
-    row: &BitRow,
-    path: u32,
-    asked: bool,
-) -> Result<bool, NoMemory>
+fn is_gone_within(watch: &Watch<'_>, row: &BitRow, path: u32, asked: bool) -> bool
     requires masks { watch.now.below ≡ masks_of watch.now.forest.paths }
     requires path { path < length watch.now.forest.paths }
     requires row { length row.now ≡ length watch.now.forest.paths }
-    ensures { IfOk result (λ gone. gone ≡ (asked && some_on (is_at_or_above (place_at watch.now.forest.paths path)) watch.now.forest.paths row.now)) }
+    ensures { result ≡ (asked && some_on (is_at_or_above (place_at watch.now.forest.paths path)) watch.now.forest.paths row.now) }
 {
     if asked {
-        meet(alloc, &watch.below.as_slice()[path as usize], row)
+        watch.below.meets(path, row)
     } else {
-        Ok(false)
+        false
     }
 }
 
@@ -151,24 +133,18 @@ fn asked_for(forest: &Forest, how: Use, place: &Place, near: Near) -> Asked
 }
 
 /// Whether a use of a place is bad.
-fn is_bad(
-    alloc: Global,
-    watch: &Watch<'_>,
-    row: &BitRow,
-    how: Use,
-    place: &Place,
-) -> Result<bool, NoMemory>
+fn is_bad(watch: &Watch<'_>, row: &BitRow, how: Use, place: &Place) -> bool
     requires watched { IsWatched watch.now.items.now watch.now.body.now watch.now.forest watch.now.below }
     requires local { place.now.local < length watch.now.body.now.locals }
     requires row { length row.now ≡ length watch.now.forest.paths }
-    ensures { IfOk result (λ bad. bad ≡ some_on (λ path. concerns (use_of how) path (named place.now)) watch.now.forest.paths row.now) }
+    ensures { result ≡ some_on (λ path. concerns (use_of how) path (named place.now)) watch.now.forest.paths row.now }
 {
     let _ = watch.forest.len();
     let near = watch.forest.nearest(place);
     let asked = asked_for(&watch.forest, how, place, near);
-    let within = is_gone_within(alloc, watch, row, near.path, asked.within)?;
+    let within = is_gone_within(watch, row, near.path, asked.within);
     let over = is_gone_above(&watch.forest, row, asked.above);
-    Ok(over | within)
+    over | within
 }
 
 /// Makes a row the one after a use of a place.
@@ -178,37 +154,24 @@ fn apply(watch: &Watch<'_>, how: Use, place: &Place, row: &mut BitRow)
     requires row { length row.old ≡ length watch.now.forest.paths }
     ensures { row.new ≡ left watch.now.items.now watch.now.body.now (use_at (use_of how) (named place.now)) watch.now.forest.paths row.old }
 {
-    let Some(switch) = switch_of(&watch.forest, how, place, true) else {
-        return;
-    };
-    let Some(mask) = watch.below.get(switch.path as usize) else {
-        return;
-    };
-    if switch.on {
-        mask.or_into(row);
-    } else {
-        mask.and_not_into(row);
+    if let Some(switch) = switch_of(&watch.forest, how, place, true) {
+        watch.below.turn(switch.path, switch.on, row);
     }
 }
 
 /// The first of these acts that is bad. Where there is none, the row becomes the one after them.
-pub fn first_bad<'a>(
-    alloc: Global,
-    watch: &Watch<'_>,
-    acts: &[Act<'a>],
-    row: &mut BitRow,
-) -> Result<Option<Act<'a>>, NoMemory>
+pub fn first_bad<'a>(watch: &Watch<'_>, acts: &[Act<'a>], row: &mut BitRow) -> Option<Act<'a>>
     requires watched { IsWatched watch.now.items.now watch.now.body.now watch.now.forest watch.now.below }
     requires used { AreOfBody watch.now.body.now (actions_of 0 acts.now) }
     requires row { length row.old ≡ length watch.now.forest.paths }
-    ensures first { IfOk result (λ bad. (block : ℕ) → option_map (action_of block) bad ≡ first_by watch.now.items.now watch.now.body.now watch.now.forest.paths (actions_of block acts.now) row.old) }
-    ensures after { IfOk result (λ bad. (block : ℕ) → bad ≡ None → row.new ≡ after watch.now.items.now watch.now.body.now watch.now.forest.paths (actions_of block acts.now) row.old) }
+    ensures first { (block : ℕ) → option_map (action_of block) result ≡ first_by watch.now.items.now watch.now.body.now watch.now.forest.paths (actions_of block acts.now) row.old }
+    ensures after { (block : ℕ) → result ≡ None → row.new ≡ after watch.now.items.now watch.now.body.now watch.now.forest.paths (actions_of block acts.now) row.old }
 {
     for act in acts {
-        if is_bad(alloc, watch, row, act.how, act.place)? {
-            return Ok(Some(*act));
+        if is_bad(watch, row, act.how, act.place) {
+            return Some(*act);
         }
         apply(watch, act.how, act.place, row);
     }
-    Ok(None)
+    None
 }

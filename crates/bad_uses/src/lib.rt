@@ -8,7 +8,7 @@ mod laws;
 mod locals;
 mod point;
 
-pub use act::{Act, acts};
+pub use act::{Act, Acts};
 pub use bad::{Watch, first_bad};
 pub use laws::law_of_locals;
 pub use locals::has_locals;

@@ -1,14 +1,14 @@
 //! Whether a body has the locals that its uses name.
-ghost use Rattle.std.specs.Prelude.{◌≡◌, IfOk, flat_map, nat_lt};
+ghost use Rattle.std.specs.Prelude.{◌≡◌, ◌++◌, IfOk, flat_map, map, nat_lt};
 ghost use Rattle.std.specs.List.{list_all};
 ghost use Rattle.cfg_graph.specs.Uses as graph;
 ghost use Rattle.std.specs.Option.{option_copied};
 ghost use Rattle.move_paths.specs.Uses.{block_uses, listed, optional};
 ghost use Rattle.bad_uses.specs.Locals.{is_local, has_locals as has_its_locals};
 
-use cfg_graph::{Block, Body, Place, Stmt};
-use mir_base::NoMemory;
-use move_paths::{Used, result_place, stmt_uses, term_uses};
+use cfg_graph::{Block, Body, Place, Term};
+use mir_base::{List, NoMemory};
+use move_paths::{Used, add_inner_uses, result_place};
 use std::alloc::Global;
 
 fn are_local(uses: &[Used<'_>], count: usize) -> bool
@@ -22,18 +22,6 @@ fn are_local(uses: &[Used<'_>], count: usize) -> bool
     true
 }
 
-fn stmts_are_local(alloc: Global, stmts: &[Stmt], count: usize) -> Result<bool, NoMemory>
-    ensures { IfOk result (λ all. all ≡ list_all (is_local count) (flat_map graph.stmt_uses stmts.now)) }
-{
-    for stmt in stmts {
-        let uses = stmt_uses(alloc, stmt)?;
-        if !are_local(uses.as_slice(), count) {
-            return Ok(false);
-        }
-    }
-    Ok(true)
-}
-
 fn is_here(place: Option<&Place>, count: usize) -> bool
     ensures { result ≡ list_all (λ place. nat_lt place.local count) (optional (option_copied place.entry)) }
 {
@@ -43,23 +31,21 @@ fn is_here(place: Option<&Place>, count: usize) -> bool
     }
 }
 
-fn block_is_local(alloc: Global, block: &Block, count: usize) -> Result<bool, NoMemory>
-    ensures { IfOk result (λ all. all ≡ list_all (is_local count) (block_uses block.now)) }
+/// Whether the uses within a block are of such locals, and the store of the result of its terminator.
+fn block_is_local(uses: &[Used<'_>], term: &Term, count: usize) -> bool
+    ensures { result ≡ list_all (is_local count) (listed uses.now ++ map (λ place. (graph.Stores, place)) (graph.stored_by_term term.now)) }
 {
-    if !stmts_are_local(alloc, block.stmts.as_slice(), count)? {
-        return Ok(false);
-    }
-    let uses = term_uses(alloc, &block.term)?;
-    let used = are_local(uses.as_slice(), count);
-    let stored = is_here(result_place(&block.term), count);
-    Ok(used && stored)
+    are_local(uses, count) && is_here(result_place(term), count)
 }
 
 fn blocks_are_local(alloc: Global, blocks: &[Block], count: usize) -> Result<bool, NoMemory>
     ensures { IfOk result (λ all. all ≡ list_all (is_local count) (flat_map block_uses blocks.now)) }
 {
+    let mut uses = List::new(alloc);
     for block in blocks {
-        if !block_is_local(alloc, block, count)? {
+        uses.truncate(0);
+        add_inner_uses(&mut uses, block)?;
+        if !block_is_local(uses.as_slice(), &block.term, count) {
             return Ok(false);
         }
     }

@@ -23,7 +23,7 @@ bits-ext len words row long each =
     ext_get_or false (bits len words) row (length-bits len words ∙ sym long)
     (λ i h. let within : i < len = omega (h, length-bits len words, arith) in bits-at len words i false within ∙ each i within)
 
-word-of_none : (n k : ℕ) → get_or {A = ℕ} (replicate n 0) k 0 ≡ 0
+pub word-of_none : (n k : ℕ) → get_or {A = ℕ} (replicate n 0) k 0 ≡ 0
 word-of_none n k =
     let none : List ℕ = replicate n 0 in
     elim (cases_lt k n) [ inl h ↦ get_or-replicate n k 0 0 h | inr h ↦ get_or-eq_default none 0 (omega (h, length-replicate {A = ℕ} n 0, arith)) ]

@@ -1,3 +1,4 @@
 pub mod Bits
 pub mod Passes
 pub mod Rows
+pub mod Sharing

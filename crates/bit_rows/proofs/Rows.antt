@@ -1,13 +1,14 @@
 -- What an operation on the words of two rows makes of the second row.
-use Rattle.std.proofs.Common.{◌≡◌, ◌≢◌, ℕ, ◌+◌, ◌/◌, ◌%◌, ◌^◌, ◌==◌, inl, inr, ◌<◌, ◌↔◌, Bool, not, ◌&&◌, ◌||◌, IsFalse, List, length, get_or, ap, sym, subst, ◌∙◌, refl, arith, bit_or}
+use Rattle.std.proofs.Common.{◌≡◌, ◌≢◌, ℕ, ◌+◌, ◌/◌, ◌%◌, ◌^◌, ◌==◌, inl, inr, ◌<◌, ◌↔◌, Bool, not, ◌&&◌, ◌||◌, IsFalse, List, length, get_or, ap, sym, subst, ◌∙◌, refl, arith, bit_or, bit_and}
 use Rattle.std.specs.Simd.Lanes.{zip2}
 use Rattle.bit_rows.specs.declared.row.BitRow.TheInside.{Inside}
-use Rattle.bit_rows.specs.Words.{bit, bits, without, IsRow}
+use Rattle.bit_rows.specs.Words.{any_both, bit, bits, share, without, IsRow}
 use Rattle.std.specs.Int.{bit_at}
 use Rattle.std.proofs.Math.ListN.{set}
 use Rattle.std.proofs.lemmas.Bool.{cases_eq}
 use Rattle.std.proofs.lemmas.List.{get_or-set_same, get_or-set_other, length-set}
 use Rattle.bit_rows.proofs.Bits.{length-bits, bits-set, bit-set_other, or-bitwise, or-width, without-bitwise, without-width, Operation, enough_then, rest_then, bits_then, same_then, width_then}
+use Rattle.bit_rows.proofs.Sharing.{and-bitwise, and-width, share-bits}
 
 -- two rows as contracts see them, with their words
 pub record Pair : Type 0 where
@@ -70,8 +71,39 @@ module _ (p : Pair) where
         off_ys = p.is_row_other.rest;
       }
 
+  pub and_operation : Operation p.other.len bit_and (λ a b. a && b) p.one.words.items p.other.words.items
+  and_operation =
+      record {
+        bitwise = and-bitwise;
+        width = and-width;
+        none = refl;
+        fit_xs = p.is_row_one.width;
+        fit_ys = p.is_row_other.width;
+        long_xs = p.is_row_one.enough ∙ ap (λ n. (n + 63) / 64) one_len;
+        long_ys = p.is_row_other.enough;
+        off_xs = λ i h. p.is_row_one.rest i (omega (h, one_len, arith));
+        off_ys = p.is_row_other.rest;
+      }
+
+  pub share_is : share p.one.words.items p.other.words.items ≡ any_both p.row_one p.row_other
+  share_is =
+      share-bits p.other.len p.one.words.items p.other.words.items and_operation
+      ∙ ap (λ l. any_both l (bits p.other.len p.other.words.items)) (ap (λ n. bits n p.one.words.items) (sym one_len) ∙ p.one_is) ∙ ap (any_both p.row_one) p.other_is
+
   pub as_many_words : length p.one.words.items ≡ length p.other.words.items
   as_many_words = p.is_row_one.enough ∙ ap (λ n. (n + 63) / 64) one_len ∙ sym p.is_row_other.enough
+
+  -- the second row with the words of the first
+  pub same_row : (row : Inside) → row.len ≡ p.other.len → row.words.items ≡ p.one.words.items → IsRow row
+  same_row row len words =
+      record {
+        enough = ap length words ∙ p.is_row_one.enough ∙ ap (λ n. (n + 63) / 64) (one_len ∙ sym len);
+        width = λ k. subst (λ (l : List ℕ). get_or l k 0 < 2 ^ 64) (sym words) (p.is_row_one.width k);
+        rest = λ i h. ap (λ l. bit l i) words ∙ p.is_row_one.rest i (omega (h, len, one_len, arith));
+      }
+
+  pub same_bits : (words : List ℕ) → words ≡ p.one.words.items → bits p.other.len words ≡ p.row_one
+  same_bits words is = ap (bits p.other.len) is ∙ ap (λ n. bits n p.one.words.items) (sym one_len) ∙ p.one_is
 
   module _ (f : ℕ → ℕ → ℕ) (g : Bool → Bool → Bool) (o : Operation p.other.len f g p.one.words.items p.other.words.items) (new : List ℕ) (is : new ≡ zip2 f p.one.words.items p.other.words.items) where
     pub bits_are : bits p.other.len new ≡ zip2 g p.row_one p.row_other

@@ -1,5 +1,5 @@
 -- A row of bits as words of 64 bits, the lowest bit of the first word first.
-use Rattle.std.specs.Prelude.{◌≡◌, ℕ, ◌+◌, ◌/◌, ◌%◌, ◌^◌, ◌<◌, ◌≤◌, ◌==◌, Bool, false, not, ◌&&◌, ◌||◌, List, length, map, slice_index_or, bit_and}
+use Rattle.std.specs.Prelude.{◌≡◌, ℕ, ◌+◌, ◌/◌, ◌%◌, ◌^◌, ◌<◌, ◌≤◌, ◌==◌, Bool, false, not, ◌&&◌, ◌||◌, List, [], ◌∷◌, length, map, slice_index_or, bit_and}
 use Rattle.std.specs.Int.{bit_at, bit_not, w64}
 use Rattle.std.specs.List.{range_with_len}
 use Rattle.std.specs.Simd.Lanes.{zip2}
@@ -30,3 +30,15 @@ union = zip2 (λ a b. a || b)
 -- the bits of the second row that are not on in the first
 abbrev pub difference : List Bool → List Bool → List Bool
 difference = zip2 (λ a b. not a && b)
+
+-- a bit is on in both of two rows
+abbrev pub any_both : List Bool → List Bool → Bool
+any_both [] row = false
+any_both (marked ∷ mask) [] = false
+any_both (marked ∷ mask) (on ∷ row) = (marked && on) || any_both mask row
+
+-- a bit is on in both of two words with one number
+abbrev pub share : List ℕ → List ℕ → Bool
+share [] others = false
+share (word ∷ words) [] = false
+share (word ∷ words) (other ∷ others) = not (bit_and word other == 0) || share words others

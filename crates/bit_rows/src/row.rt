@@ -1,7 +1,7 @@
 ghost use Rattle.std.specs.Prelude.{◌≡◌, ◌<◌, false, length, replicate, slice_index_or, slice_set, IfOk, IsFalse, ◌↔◌};
-ghost use Rattle.bit_rows.specs.Words.{union, difference};
+ghost use Rattle.bit_rows.specs.Words.{any_both, union, difference};
 
-use crate::words::{and_not_all, empty_words, or_all, set_bit};
+use crate::words::{and_not_all, copy_all, empty_words, or_all, set_bit, words_share};
 use mir_base::NoMemory;
 use std::alloc::Global;
 use std::marker::Model;
@@ -73,5 +73,21 @@ impl BitRow {
         ensures change { IsFalse result ↔ (into.new ≡ into.old) }
     {
         and_not_all(self.words.as_slice(), &mut into.words)
+    }
+
+    /// Makes another row of as many bits the same as this one.
+    pub fn copy_into(&self, into: &mut BitRow)
+        requires { length self.now ≡ length into.old }
+        ensures { into.new ≡ self.now }
+    {
+        copy_all(self.words.as_slice(), &mut into.words);
+    }
+
+    /// Whether a bit is on in this row and in another of as many bits.
+    pub fn meets(&self, other: &BitRow) -> bool
+        requires { length self.now ≡ length other.now }
+        ensures { result ≡ any_both self.now other.now }
+    {
+        words_share(self.words.as_slice(), other.words.as_slice())
     }
 }

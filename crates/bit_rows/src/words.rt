@@ -2,7 +2,7 @@
 ghost use Rattle.std.specs.Prelude.{◌≡◌, ◌≢◌, ◌==◌, ◌<◌, ◌^◌, ◌↔◌, ℕ, length, slice_set, slice_index_or, replicate, IfOk, IsFalse, bit_or};
 ghost use Rattle.std.specs.Int.{bit_at};
 ghost use Rattle.std.specs.Simd.Lanes.{zip2};
-ghost use Rattle.bit_rows.specs.Words.{without};
+ghost use Rattle.bit_rows.specs.Words.{share, without};
 
 use mir_base::NoMemory;
 use std::alloc::Global;
@@ -125,6 +125,27 @@ pub fn and_not_all(from: &[u64], into: &mut Vec<u64>) -> bool
     ensures change { IsFalse result ↔ (into.new.items ≡ into.old.items) }
 {
     and_not_words(from, into.as_mut_slice())
+}
+
+/// Whether a bit is on in both of two words with one number.
+pub fn words_share(one: &[u64], other: &[u64]) -> bool
+    requires { length one.now ≡ length other.now }
+    ensures { result ≡ share one.now other.now }
+{
+    for at in 0..one.len() {
+        if one[at] & other[at] != 0 {
+            return true;
+        }
+    }
+    false
+}
+
+/// The same words in the place of as many others.
+pub fn copy_all(from: &[u64], into: &mut Vec<u64>)
+    requires { length from.now ≡ length into.old.items }
+    ensures { into.new.items ≡ from.now }
+{
+    into.as_mut_slice().copy_from_slice(from);
 }
 
 /// Turns a bit of words on or off.

@@ -37,51 +37,45 @@ impl Solution {
     }
 }
 
-fn copy_of(alloc: Global, bits: u32, row: &BitRow) -> Result<BitRow, NoMemory>
-    requires { length row.now ≡ bits }
-    ensures { IfOk result (λ copy. copy ≡ row.now) }
-{
-    let mut copy = BitRow::new(alloc, bits)?;
-    row.or_into(&mut copy);
-    Ok(copy)
-}
-
-/// Reaches block 0 with the row that an analysis starts with.
+/// Reaches block 0 with the row that an analysis starts with, which is made in a row of as many bits.
 fn begin<A: Analysis>(
-    alloc: Global,
     analysis: &A,
     items: &Items,
     body: &Body,
     flow: &mut Flow,
+    row: &mut BitRow,
 ) -> Result<(), NoMemory>
+    requires row { length row.old ≡ A.width analysis.now }
     requires state { state_of flow.old ≡ untouched (A.width analysis.now) (length body.now.blocks) }
     requires heap { ways_in flow.old ≡ [] }
     ensures good { OnOk result (Good (problem (A.width analysis.now) (A.first analysis.now) (A.passed analysis.now) items.now body.now) (state_of flow.new) (ways_in flow.new) (length body.now.blocks * 2)) }
     ensures started { OnOk result (Started (problem (A.width analysis.now) (A.first analysis.now) (A.passed analysis.now) items.now body.now) (state_of flow.new)) }
+    ensures row { length row.new ≡ A.width analysis.now }
 {
     if body.blocks.is_empty() {
         return Ok(());
     }
-    let mut row = BitRow::new(alloc, analysis.bits())?;
-    analysis.start(&mut row);
-    flow.arrive(rank(body, 0).unwrap_or(0), 0, &row)
+    analysis.start(row);
+    flow.arrive(rank(body, 0).unwrap_or(0), 0, row)
 }
 
-/// Takes what a block has along a way to the next block.
+/// Takes what a block has along a way to the next block. It is made in a row of as many bits.
 fn turn<A: Analysis>(
-    alloc: Global,
     analysis: &A,
     items: &Items,
     body: &Body,
     flow: &mut Flow,
+    row: &mut BitRow,
     block: u32,
     way: bool,
 ) -> Result<(), NoMemory>
+    requires row { length row.old ≡ A.width analysis.now }
     requires is_for { A.IsFor analysis.now body.now }
     requires good { Good (problem (A.width analysis.now) (A.first analysis.now) (A.passed analysis.now) items.now body.now) (state_of flow.old) (ways_in flow.old) (way_at block (bit way)) }
     requires block { block < length body.now.blocks }
     requires reached { is_reached (state_of flow.old) block ≡ true }
-    ensures { OnOk result (Turns (problem (A.width analysis.now) (A.first analysis.now) (A.passed analysis.now) items.now body.now) flow.old flow.new) }
+    ensures turns { OnOk result (Turns (problem (A.width analysis.now) (A.first analysis.now) (A.passed analysis.now) items.now body.now) flow.old flow.new) }
+    ensures row { length row.new ≡ A.width analysis.now }
 {
     let Some(to) = target(items, body, block, way as u32) else {
         return Ok(());
@@ -89,9 +83,9 @@ fn turn<A: Analysis>(
     if to as usize >= flow.rows.len() {
         return Ok(());
     }
-    let mut row = copy_of(alloc, analysis.bits(), flow.row_of(block as usize))?;
-    analysis.pass(body, block, way as u32, &mut row);
-    flow.arrive(rank(body, to).unwrap_or(0), to, &row)
+    flow.row_of(block as usize).copy_into(row);
+    analysis.pass(body, block, way as u32, row);
+    flow.arrive(rank(body, to).unwrap_or(0), to, row)
 }
 
 /// The rows that an analysis has at the start of each block of a body, at its fixed point: exactly the bits that some
@@ -113,9 +107,10 @@ pub fn solve<A: Analysis>(
 {
     let bits = analysis.bits();
     let mut flow = Flow::new(alloc, bits, body.blocks.len())?;
-    begin(alloc, analysis, items, body, &mut flow)?;
+    let mut row = BitRow::new(alloc, bits)?;
+    begin(analysis, items, body, &mut flow, &mut row)?;
     while let Some((block, way)) = flow.take() {
-        turn(alloc, analysis, items, body, &mut flow, block, way)?;
+        turn(analysis, items, body, &mut flow, &mut row, block, way)?;
     }
     Ok(Solution { rows: flow.rows })
 }

@@ -4,18 +4,17 @@ ghost use Rattle.bad_uses.specs.Rows.{IsWatched};
 ghost use Rattle.bad_uses.specs.Runs.{problem};
 ghost use Rattle.move_errors.specs.Shown.{ShowsNone};
 
-use crate::search::copy_of;
-use bad_uses::{Point, Stage, Watch, acts, first_bad};
+use bad_uses::{Acts, Point, Stage, Watch, first_bad};
 use bit_rows::BitRow;
 use init_flow::Solution;
 use mir_base::NoMemory;
 use std::alloc::Global;
 
 /// Whether a use at a point is bad by a row. Where none is, the row becomes the one past the point.
-fn point_shows(
-    alloc: Global,
-    watch: &Watch<'_>,
+fn point_shows<'a>(
+    watch: &Watch<'a>,
     at: Point,
+    acts: &mut Acts<'a>,
     row: &mut BitRow,
 ) -> Result<bool, NoMemory>
     requires watched { IsWatched watch.now.items.now watch.now.body.now watch.now.forest watch.now.below }
@@ -23,8 +22,8 @@ fn point_shows(
     ensures shown { IfOk result (λ shown. shown ≡ (problem watch.now.items.now watch.now.body.now watch.now.forest.paths).bad at row.old) }
     ensures row { IfOk result (λ shown. shown ≡ false → row.new ≡ (problem watch.now.items.now watch.now.body.now watch.now.forest.paths).pass at row.old) }
 {
-    let done = acts(alloc, watch.items, watch.body, at)?;
-    match first_bad(alloc, watch, done.as_slice(), row)? {
+    acts.fill(watch.items, watch.body, at)?;
+    match first_bad(watch, acts.acts.as_slice(), row) {
         Some(_) => Ok(true),
         None => Ok(false),
     }
@@ -38,41 +37,80 @@ fn point(block: u32, stage: Stage) -> Point
 
 /// Whether the store of a result on a way out of a block is bad by a row. Most ways have none, and then the row is not
 /// copied.
-fn way_shows(alloc: Global, watch: &Watch<'_>, at: Point, row: &BitRow) -> Result<bool, NoMemory>
+fn way_shows<'a>(
+    alloc: Global,
+    watch: &Watch<'a>,
+    at: Point,
+    acts: &mut Acts<'a>,
+    row: &BitRow,
+) -> Result<bool, NoMemory>
     requires watched { IsWatched watch.now.items.now watch.now.body.now watch.now.forest watch.now.below }
     requires row { length row.now ≡ length watch.now.forest.paths }
     ensures { IfOk result (λ shown. shown ≡ (problem watch.now.items.now watch.now.body.now watch.now.forest.paths).bad at row.now) }
 {
-    let done = acts(alloc, watch.items, watch.body, at)?;
-    if done.is_empty() {
+    acts.fill(watch.items, watch.body, at)?;
+    if acts.acts.is_empty() {
         return Ok(false);
     }
-    let mut left = copy_of(alloc, row)?;
-    match first_bad(alloc, watch, done.as_slice(), &mut left)? {
+    let mut left = BitRow::new(alloc, row.len())?;
+    row.copy_into(&mut left);
+    match first_bad(watch, acts.acts.as_slice(), &mut left) {
         Some(_) => Ok(true),
         None => Ok(false),
     }
 }
 
-/// Whether a use within a block, or the store of its result, is bad by a row at its start.
-fn block_shows(alloc: Global, watch: &Watch<'_>, row: &BitRow, block: u32) -> Result<bool, NoMemory>
+/// Whether a use within a block, or the store of its result, is bad by a row at its start. It is looked for in a row of
+/// as many bits.
+fn block_shows<'a>(
+    alloc: Global,
+    watch: &Watch<'a>,
+    row: &BitRow,
+    block: u32,
+    acts: &mut Acts<'a>,
+    inside: &mut BitRow,
+) -> Result<bool, NoMemory>
     requires watched { IsWatched watch.now.items.now watch.now.body.now watch.now.forest watch.now.below }
     requires row { length row.now ≡ length watch.now.forest.paths }
-    ensures { IfOk result (λ shown. shown ≡ false → ShowsNone (problem watch.now.items.now watch.now.body.now watch.now.forest.paths) block row.now) }
+    requires inside { length inside.old ≡ length watch.now.forest.paths }
+    ensures shown { IfOk result (λ shown. shown ≡ false → ShowsNone (problem watch.now.items.now watch.now.body.now watch.now.forest.paths) block row.now) }
+    ensures inside { IfOk result (λ shown. shown ≡ false → length inside.new ≡ length watch.now.forest.paths) }
 {
-    let mut inside = copy_of(alloc, row)?;
-    if point_shows(alloc, watch, point(block, Stage::Inside), &mut inside)? {
+    row.copy_into(inside);
+    if point_shows(watch, point(block, Stage::Inside), acts, inside)? {
         return Ok(true);
     }
-    if way_shows(alloc, watch, point(block, Stage::Leaving(true)), &inside)? {
-        return Ok(true);
-    }
-    point_shows(
+    if way_shows(
         alloc,
         watch,
-        point(block, Stage::Leaving(false)),
-        &mut inside,
-    )
+        point(block, Stage::Leaving(true)),
+        acts,
+        inside,
+    )? {
+        return Ok(true);
+    }
+    point_shows(watch, point(block, Stage::Leaving(false)), acts, inside)
+}
+
+/// The same by the row of a block among those of all blocks.
+fn row_shows<'a>(
+    alloc: Global,
+    watch: &Watch<'a>,
+    rows: &Solution,
+    block: u32,
+    acts: &mut Acts<'a>,
+    inside: &mut BitRow,
+) -> Result<bool, NoMemory>
+    requires watched { IsWatched watch.now.items.now watch.now.body.now watch.now.forest watch.now.below }
+    requires row { length (slice_index_or rows.now block []) ≡ length watch.now.forest.paths }
+    requires inside { length inside.old ≡ length watch.now.forest.paths }
+    ensures shown { IfOk result (λ shown. shown ≡ false → ShowsNone (problem watch.now.items.now watch.now.body.now watch.now.forest.paths) block (slice_index_or rows.now block [])) }
+    ensures inside { IfOk result (λ shown. shown ≡ false → length inside.new ≡ length watch.now.forest.paths) }
+{
+    match rows.at(block) {
+        Some(row) => block_shows(alloc, watch, row, block, acts, inside),
+        None => Ok(true),
+    }
 }
 
 /// Whether a use in some block is bad by the row at its start. Where none is, no path meets a bad use; a block that no
@@ -86,11 +124,11 @@ pub fn rows_show(alloc: Global, watch: &Watch<'_>, rows: &Solution) -> Result<bo
     let Ok(count) = u32::try_from(watch.body.blocks.len()) else {
         return Err(NoMemory);
     };
+    let mut acts = Acts::new(alloc);
+    let mut inside = BitRow::new(alloc, watch.forest.len())?;
     for block in 0..count {
-        if let Some(row) = rows.at(block) {
-            if block_shows(alloc, watch, row, block)? {
-                return Ok(true);
-            }
+        if row_shows(alloc, watch, rows, block, &mut acts, &mut inside)? {
+            return Ok(true);
         }
     }
     Ok(false)

@@ -2,13 +2,13 @@
 ghost use Rattle.std.specs.Prelude.{◌≡◌, ◌<◌, [], IfOk, IfErr, OnOk, Some, None, length, slice_get, true};
 ghost use Rattle.cfg_graph.specs.declared.graph.Body.{Body as GraphBody};
 ghost use Rattle.cfg_graph.specs.WellFormed.Faults.{IsWellFormed};
-ghost use Rattle.move_paths.specs.Forest.{IsForest};
 ghost use Rattle.move_paths.specs.Uses.{use_of};
 ghost use Rattle.bad_uses.specs.Locals.{has_locals};
 ghost use Rattle.bad_uses.specs.Reaches.{MeetsNone, rule_of};
 ghost use Rattle.move_errors.specs.Refusal.{IsRefusal, refused_by};
 ghost use Rattle.bad_uses.specs.Rows.{IsWatched, state};
 ghost use Rattle.bad_uses.specs.Runs.{problem};
+ghost use Rattle.move_errors.specs.Shown.{AreSolved};
 ghost use Rattle.move_errors.specs.Stands.{IsFound, MeetsNoBad};
 
 use crate::decide::rows_show;
@@ -16,12 +16,11 @@ use crate::search::{Trace, least_bad};
 use crate::trail::trail;
 use bad_uses::Watch;
 use bit_rows::BitRow;
-use cfg_graph::{Body, Graph, Place};
-use init_flow::{Analysis, solve};
+use cfg_graph::{Graph, Place};
+use init_flow::{Solution, solve};
 use mir_base::{List, NoMemory};
-use mir_ty::Items;
-use move_flow::{MaybeGone, masks_below};
-use move_paths::{Forest, Use, paths};
+use move_flow::MaybeGone;
+use move_paths::{Use, paths};
 use std::alloc::Global;
 
 /// A bad use of a body: what is used is gone there on a path.
@@ -64,46 +63,47 @@ impl From<NoMemory> for UseError {
     }
 }
 
-/// The body of a graph as the search watches it.
-fn watched<'a>(alloc: Global, graph: &'a Graph, body: u32) -> Result<Watch<'a>, NoMemory>
+/// The body of a graph as the search watches it, what is gone before it does anything, and the rows of its solution.
+#[derive(Drop)]
+struct Solved<'a> {
+    watch: Watch<'a>,
+    first: BitRow,
+    rows: Solution,
+}
+
+fn solution<'a>(alloc: Global, graph: &'a Graph, body: u32) -> Result<Solved<'a>, NoMemory>
     requires locals { (found : GraphBody) → slice_get graph.now.bodies body ≡ Some found → has_locals found ≡ true }
     requires body { body < length graph.now.bodies }
-    ensures items { IfOk result (λ watch. watch.items.now ≡ graph.now.items) }
-    ensures body { IfOk result (λ watch. slice_get graph.now.bodies body ≡ Some watch.body.now) }
-    ensures watched { IfOk result (λ watch. IsWatched watch.items.now watch.body.now watch.forest watch.below) }
+    ensures items { IfOk result (λ solved. solved.watch.items.now ≡ graph.now.items) }
+    ensures body { IfOk result (λ solved. slice_get graph.now.bodies body ≡ Some solved.watch.body.now) }
+    ensures watched { IfOk result (λ solved. IsWatched solved.watch.items.now solved.watch.body.now solved.watch.forest solved.watch.below) }
+    ensures first { IfOk result (λ solved. solved.first ≡ state solved.watch.items.now solved.watch.body.now solved.watch.forest.paths []) }
+    ensures rows { IfOk result (λ solved. AreSolved solved.watch.items.now solved.watch.body.now solved.watch.forest.paths solved.rows) }
 {
     let forest = paths(alloc, graph, body)?;
-    let below = masks_below(alloc, &forest)?;
-    Ok(Watch {
-        items: &graph.items,
-        body: &graph.bodies.as_slice()[body as usize],
-        forest,
-        below,
+    let gone = MaybeGone::new(alloc, graph, body, &forest)?;
+    let found = &graph.bodies.as_slice()[body as usize];
+    let rows = solve(alloc, &gone, &graph.items, found)?;
+    let (first, below) = gone.into_parts();
+    Ok(Solved {
+        watch: Watch {
+            items: &graph.items,
+            body: found,
+            forest,
+            below,
+        },
+        first,
+        rows,
     })
 }
 
 /// Whether the rows of a body show no bad use, so that no path meets one.
-fn is_plain(alloc: Global, graph: &Graph, body: u32, watch: &Watch<'_>) -> Result<bool, NoMemory>
-    requires body { slice_get graph.now.bodies body ≡ Some watch.now.body.now }
-    requires items { watch.now.items.now ≡ graph.now.items }
-    requires watched { IsWatched watch.now.items.now watch.now.body.now watch.now.forest watch.now.below }
-    ensures { IfOk result (λ plain. plain ≡ true → MeetsNoBad (problem watch.now.items.now watch.now.body.now watch.now.forest.paths)) }
+fn is_plain(alloc: Global, solved: &Solved<'_>) -> Result<bool, NoMemory>
+    requires watched { IsWatched solved.now.watch.items.now solved.now.watch.body.now solved.now.watch.forest solved.now.watch.below }
+    requires rows { AreSolved solved.now.watch.items.now solved.now.watch.body.now solved.now.watch.forest.paths solved.now.rows }
+    ensures { IfOk result (λ plain. plain ≡ true → MeetsNoBad (problem solved.now.watch.items.now solved.now.watch.body.now solved.now.watch.forest.paths)) }
 {
-    let gone = MaybeGone::new(alloc, graph, body, &watch.forest)?;
-    let rows = solve(alloc, &gone, watch.items, watch.body)?;
-    Ok(!rows_show(alloc, watch, &rows)?)
-}
-
-/// What is gone before a body does anything.
-fn first_row(alloc: Global, graph: &Graph, body: u32, forest: &Forest) -> Result<BitRow, NoMemory>
-    requires body { body < length graph.now.bodies }
-    requires forest { (found : GraphBody) → slice_get graph.now.bodies body ≡ Some found → IsForest graph.now.items found forest.now }
-    ensures { IfOk result (λ row. (found : GraphBody) → slice_get graph.now.bodies body ≡ Some found → row ≡ state graph.now.items found forest.now.paths []) }
-{
-    let gone = MaybeGone::new(alloc, graph, body, forest)?;
-    let mut row = BitRow::new(alloc, gone.bits())?;
-    gone.start(&mut row);
-    Ok(row)
+    Ok(!rows_show(alloc, &solved.watch, &solved.rows)?)
 }
 
 fn copy_of(alloc: Global, place: &Place) -> Result<Place, NoMemory>
@@ -157,11 +157,11 @@ pub fn check_body(alloc: Global, graph: &Graph, body: u32) -> Result<(), UseErro
     ensures accepted { OnOk result ((found : GraphBody) → slice_get graph.now.bodies body ≡ Some found → MeetsNone graph.now.items found) }
     ensures refused { IfErr result (λ error. (found : GraphBody) → slice_get graph.now.bodies body ≡ Some found → IsRefusal graph.now.items found body error) }
 {
-    let watch = watched(alloc, graph, body)?;
-    if is_plain(alloc, graph, body, &watch)? {
+    let solved = solution(alloc, graph, body)?;
+    if is_plain(alloc, &solved)? {
         return Ok(());
     }
-    let first = first_row(alloc, graph, body, &watch.forest)?;
+    let Solved { watch, first, .. } = solved;
     match least_bad(alloc, &watch, first)? {
         None => Ok(()),
         Some(trace) => Err(refusal(alloc, &watch, body, &trace)?),

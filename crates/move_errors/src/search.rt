@@ -9,7 +9,7 @@ ghost use Rattle.bad_uses.specs.Rows.{IsWatched, state};
 ghost use Rattle.bad_uses.specs.Runs.{problem};
 ghost use Rattle.move_errors.specs.Stands.{Stands, IsFound, MeetsNoBad, remaining, pushed_items, chosen_items};
 
-use bad_uses::{Act, Onward, Point, Stage, Watch, acts, first_bad, goes_on};
+use bad_uses::{Act, Acts, Onward, Point, Stage, Watch, first_bad, goes_on};
 use bit_rows::BitRow;
 use mir_base::{List, NoMemory};
 use std::alloc::Global;
@@ -56,11 +56,11 @@ fn empty_rows(alloc: Global, bits: u32, count: usize) -> Result<List<BitRow>, No
     Ok(rows)
 }
 
-pub fn copy_of(alloc: Global, row: &BitRow) -> Result<BitRow, NoMemory>
+fn copy_of(alloc: Global, row: &BitRow) -> Result<BitRow, NoMemory>
     ensures { IfOk result (λ copy. copy ≡ row.now) }
 {
     let mut copy = BitRow::new(alloc, row.len())?;
-    row.or_into(&mut copy);
+    row.copy_into(&mut copy);
     Ok(copy)
 }
 
@@ -229,9 +229,10 @@ fn turn<'a>(
         return Ok(None);
     }
     let number = search.visit(item.visit)?;
-    let done = acts(alloc, watch.items, watch.body, item.visit.at)?;
+    let mut done = Acts::new(alloc);
+    done.fill(watch.items, watch.body, item.visit.at)?;
     let mut row = item.row;
-    if let Some(act) = first_bad(alloc, watch, done.as_slice(), &mut row)? {
+    if let Some(act) = first_bad(watch, done.acts.as_slice(), &mut row) {
         return Ok(Some(Found { visit: number, act }));
     }
     let onward = goes_on(watch.items, watch.body, item.visit.at);

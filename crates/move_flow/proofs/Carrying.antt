@@ -15,7 +15,7 @@ use Rattle.move_paths.specs.Forest.{PathForest, IsForest}
 use Rattle.move_flow.specs.declared.switches.Switches.{Switches}
 use Rattle.move_flow.specs.Fits.{AreSwitches, way_uses}
 use Rattle.move_flow.specs.Moved.{Says}
-use Rattle.move_flow.specs.Switches.{passed_by, all_switched}
+use Rattle.move_flow.specs.Switches.{passed_by, all_switched, way_switches}
 use Rattle.move_flow.proofs.Following.{state, AreIn}
 use Rattle.move_flow.proofs.Along.{actions_in, actions_between, came, came-is, step}
 
@@ -57,8 +57,8 @@ module _ (items : ItemTable) (body : Body) (forest : PathForest) (is : IsForest 
       → pass n way (state items body forest.paths gone earlier) ≡ state items body forest.paths gone (earlier ++ (actions_in body n ++ actions_between body n to))
   one_way n way to earlier small there =
       let at = way-of items body n way to there in
-      ap (λ (z : List Row). all_switched z (slice_index_or s.ways (n * 2 + way) []) (state items body forest.paths gone earlier)) are.below
-      ∙ step items body forest is gone n way to at.0 (slice_index_or s.ways (n * 2 + way) []) earlier at.1 at.2 (are.ways.each n way at.0 small at.1) (inside n way at.0 small at.1)
+      ap (λ (z : List Row). all_switched z (way_switches (slice_get s.blocks n) way) (state items body forest.paths gone earlier)) are.below
+      ∙ step items body forest is gone n way to at.0 (way_switches (slice_get s.blocks n) way) earlier at.1 at.2 (are.ways.each n at.0 at.1 way small) (inside n way at.0 small at.1)
 
   along : (path : List ℕ) (n : ℕ) (row end : Row) (earlier : List Action) → row ≡ state items body forest.paths gone earlier
       → Contains (rows_along (target items body) pass n row path) end → end ≡ state items body forest.paths gone (earlier ++ came body n path)

@@ -1,12 +1,13 @@
 -- Switches that uses make, one list after another.
-use Rattle.std.proofs.Common.{Bool, List, [], ◌∷◌, ◌++◌, Some, None, refl, sym, ap, subst, ◌∙◌, Result, Ok, Err}
+use Rattle.std.proofs.Common.{Bool, Option, List, [], ◌∷◌, ◌++◌, Some, None, refl, sym, ap, subst, ◌∙◌, Result, Ok, Err}
 use Rattle.std.specs.Prelude.{OnOk}
 use Rattle.std.proofs.lemmas.List.{append-nil, append_assoc}
 use Rattle.store_model.specs.Places.Place.{Place as Named}
 use Rattle.cfg_graph.specs.declared.place.Place.{Place}
 use Rattle.cfg_graph.specs.Uses.{Use}
 use Rattle.move_flow.specs.declared.switches.Switch.{Switch}
-use Rattle.move_flow.specs.Fits.{Fits, IsSwitch, AreSwitched, at_most_one}
+use Rattle.move_flow.specs.Fits.{Fits, IsSwitch, AreSwitched}
+use Rattle.move_flow.specs.Switches.{at_most_one}
 
 pub on_ok : {T E P Q : Type 0} → (P → Q) → (r : Result T E) → OnOk r P → OnOk r Q
 on_ok to (Ok x) h = to h
@@ -41,3 +42,6 @@ module _ (paths : List Named) (gone : Bool) where
 
   pub switched-all : (switches : List Switch) (uses : List (Use × Place)) → AreSwitched paths gone [] switches uses → Fits paths gone switches uses
   switched-all switches uses is = subst (λ (z : List Switch). Fits paths gone z uses) (sym is.1) is.2
+
+  pub fits-one : (made : Use × Place) (o : Option Switch) → IsSwitch paths gone made o → Fits paths gone (at_most_one o) (made ∷ [])
+  fits-one made o is = (o, [], sym (append-nil (at_most_one o)), is, refl)

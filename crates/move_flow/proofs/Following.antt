@@ -24,9 +24,9 @@ use Rattle.move_paths.specs.Forest.{PathForest, IsForest, is_local, is_above_cha
 use Rattle.move_paths.specs.Uses.{block_uses}
 use Rattle.move_paths.proofs.Naming.{either}
 use Rattle.move_flow.specs.declared.switches.Switch.{Switch}
-use Rattle.move_flow.specs.Fits.{Fits, IsSwitch, at_most_one}
+use Rattle.move_flow.specs.Fits.{Fits, IsSwitch}
 use Rattle.move_flow.specs.Moved.{mask_of, masks_of, says}
-use Rattle.move_flow.specs.Switches.{by_mask, switch_by, all_switched}
+use Rattle.move_flow.specs.Switches.{all_switched, at_most_one, by_mask, switch_by}
 use Rattle.move_flow.proofs.Upward.{counts-up}
 
 or-last : (a b c : Option Bool) → option_or (option_or a b) c ≡ option_or a (option_or b c)
@@ -78,7 +78,7 @@ abbrev pub AreIn : ItemTable → Body → List Place → List (Use × GraphPlace
 AreIn items body paths [] = ⊤
 AreIn items body paths (made ∷ uses) = IsIn items body paths made × AreIn items body paths uses
 
-all-append : (below : List Row) (xs ys : List Switch) (row : Row) → all_switched below (xs ++ ys) row ≡ all_switched below ys (all_switched below xs row)
+pub all-append : (below : List Row) (xs ys : List Switch) (row : Row) → all_switched below (xs ++ ys) row ≡ all_switched below ys (all_switched below xs row)
 all-append below [] ys row = refl
 all-append below (x ∷ xs) ys row = all-append below xs ys (switch_by below x row)
 

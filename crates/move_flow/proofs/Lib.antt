@@ -4,6 +4,7 @@ pub mod Fitting
 pub mod Following
 pub mod Inside
 pub mod Marking
+pub mod Masking
 pub mod OnPaths
 pub mod Starting
 pub mod Telling

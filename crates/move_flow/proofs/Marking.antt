@@ -14,8 +14,9 @@ use Rattle.move_paths.specs.Trie.{AreOnce}
 use Rattle.move_paths.specs.Forest.{IsRoot, IsStepBelow}
 use Rattle.move_paths.proofs.Above.{above-refl, above-stays, above-pushed, above-local}
 use Rattle.init_flow.specs.Carried.{Row}
-use Rattle.move_flow.specs.Marks.{cell, place_at, IsSquare, IsMarked, marked}
+use Rattle.move_flow.specs.Marks.{cell, place_at, IsSquare, IsMarked, marked, masks_from, single}
 use Rattle.move_flow.specs.Moved.{mask_of, masks_of}
+use Rattle.move_flow.proofs.Masking.{alone-at, alone-long, length-single, single-at}
 
 pub same_true : (a b : Bool) → (a ≡ true → b ≡ true) → (b ≡ true → a ≡ true) → a ≡ b
 same_true true true f g = refl
@@ -80,7 +81,7 @@ module _ (paths : List Place) where
   pub record Marked (masks : List Row) (count : ℕ) : Type 0 where
     pub long : length masks ≡ length paths
     pub square : IsSquare masks
-    pub cells : (n k : ℕ) → n < length paths → cell masks n k ≡ (nat_lt k count && above_it n k)
+    pub cells : (n k : ℕ) → n < length paths → cell masks n k ≡ ((n == k) || (nat_lt k count && above_it n k))
 
 module _ (paths : List Place) (once : AreOnce paths) where
   abbrev above : ℕ → ℕ → Bool
@@ -247,24 +248,27 @@ module _ (paths : List Place) (once : AreOnce paths) where
                 (ap (λ (z : Place). is_at_or_above z (place_at paths of)) upper ∙ ap (is_at_or_above step.place) lower ∙ above-stays step.place step.place (step.step ∷ []) (above-refl step.place)) chained.1),
           )
 
-  pub marked-none : (bits : ℕ) → bits ≡ length paths → Marked paths (replicate bits (replicate bits false)) 0
+  pub marked-none : (bits : ℕ) → bits ≡ length paths → Marked paths (masks_from bits 0 (replicate bits None)) 0
   marked-none bits size = record {
-    long = length-replicate bits (replicate bits false) ∙ size;
-    square = λ n here. ap length (get_or-replicate bits n (replicate bits false) [] (let k = length-replicate bits (replicate bits false) in omega (k, here, arith)))
-        ∙ length-replicate bits false ∙ sym (length-replicate bits (replicate bits false));
-    cells = λ n k here. ap (λ (z : Row). slice_index_or z k false) (get_or-replicate bits n (replicate bits false) [] (omega (size, here, arith))) ∙ none bits k ∙ sym (ap (λ (z : Bool). z && above n k) (le-ltb k 0 (omega arith)));
+    long = alone-long bits 0 bits ∙ size;
+    square = λ n here. ap length (own n (let k = alone-long bits 0 bits in omega (k, here, arith))) ∙ length-single bits n ∙ sym (alone-long bits 0 bits);
+    cells = λ n k here. ap (λ (z : Row). slice_index_or z k false) (own n (omega (size, here, arith))) ∙ single-at bits n k (omega (size, here, arith))
+        ∙ sym (ap (λ (z : Bool). (n == k) || (z && above n k)) (le-ltb k 0 (omega arith)) ∙ or-false (n == k));
   }
     where
-      none : (n k : ℕ) → slice_index_or (replicate n false) k false ≡ false
-      none zero k = refl
-      none (suc n) zero = refl
-      none (suc n) (suc k) = none n k
+      own : (n : ℕ) → n < bits → slice_index_or (masks_from bits 0 (replicate bits None)) n [] ≡ single bits n
+      own n inside = alone-at bits 0 bits n inside ∙ ap (single bits) (let e : 0 + n ≡ n = omega arith in e)
+
+  or-or : (a b c : Bool) → ((a || b) || c) ≡ (a || (b || c))
+  or-or true b c = refl
+  or-or false b c = refl
 
   pub marked-more : (old new : List Row) (count : ℕ) → Marked paths old count → IsMarked paths old new count → Marked paths new (count + 1)
   marked-more old new count m more = record {
     long = more.long ∙ m.long;
     square = more.square;
-    cells = λ n k here. more.cells n k here ∙ ap (λ (z : Bool). z || ((k == count) && above n count)) (m.cells n k here) ∙ by n k (cases_lt k count);
+    cells = λ n k here. more.cells n k here ∙ ap (λ (z : Bool). z || ((k == count) && above n count)) (m.cells n k here)
+        ∙ or-or (n == k) (nat_lt k count && above n k) ((k == count) && above n count) ∙ ap (λ (z : Bool). (n == k) || z) (by n k (cases_lt k count));
   }
     where
       by : (n k : ℕ) → (k < count) ⊎ (count ≤ k) → ((nat_lt k count && above n k) || ((k == count) && above n count)) ≡ (nat_lt k (count + 1) && above n k)
@@ -285,6 +289,10 @@ module _ (paths : List Place) (once : AreOnce paths) where
   pub marked-all : (masks : List Row) (count : ℕ) → Marked paths masks count → length paths ≤ count → masks ≡ masks_of paths
   marked-all masks count m all = same_lists masks (masks_of paths) (m.long ∙ sym (length-map paths (mask_of paths))) row
     where
+      own : (n k : ℕ) → (n ≡ k) ⊎ (n ≢ k) → ((n == k) || above n k) ≡ above n k
+      own n k (inl same) = ap (λ (z : Bool). z || above n k) (eq-eqb n k same) ∙ sym (ap (above n) (sym same) ∙ above-refl (place_at paths n))
+      own n k (inr other) = ap (λ (z : Bool). z || above n k) (ne_eqb n k other)
+
       row : (n : ℕ) (d : Row) → n < length masks → slice_index_or masks n d ≡ slice_index_or (masks_of paths) n d
       row n d here =
           let inside : n < length paths = (let k = m.long in omega (k, here, arith)) in
@@ -294,6 +302,7 @@ module _ (paths : List Place) (once : AreOnce paths) where
           (λ k b small. let within : k < length paths = (let z = m.square n here in let y = m.long in omega (z, y, small, arith)) in
           get_or_default (slice_index_or masks n []) k b false small
           ∙ m.cells n k inside
-          ∙ ap (λ (z : Bool). z && above n k) (lt-ltb k count (omega (within, all, arith)))
+          ∙ ap (λ (z : Bool). (n == k) || (z && above n k)) (lt-ltb k count (omega (within, all, arith)))
+          ∙ own n k (cases_eq n k)
           ∙ sym (get_or-map (is_at_or_above (place_at paths n)) paths k (whole_local 0) b within))
           ∙ sym (get_or-map (mask_of paths) paths n (whole_local 0) d inside)

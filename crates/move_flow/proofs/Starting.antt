@@ -1,18 +1,18 @@
 -- Rows at the start, and tables of ways.
-use Rattle.std.proofs.Common.{◌≡◌, ◌≢◌, ◌⊎◌, inl, inr, ℕ, zero, suc, ◌+◌, ◌-◌, ◌*◌, ◌<◌, ◌≤◌, Bool, false, List, [], ◌∷◌, ◌++◌, length, get_or, Some, slice_get, refl, sym, ap, subst, ◌∙◌, arith}
+use Rattle.std.proofs.Common.{◌≡◌, ◌≢◌, ◌⊎◌, inl, inr, ℕ, zero, suc, ◌+◌, ◌-◌, ◌*◌, ◌<◌, ◌≤◌, Bool, false, List, [], ◌∷◌, ◌++◌, length, Option, Some, slice_get, refl, sym, ap, subst, ◌∙◌, arith}
 use Rattle.std.specs.Prelude.{slice_index_or, slice_set}
 use Rattle.std.proofs.lemmas.Bool.{cases_eq}
 use Rattle.std.proofs.lemmas.Option.{none-some, slice_get_within, get_or_from_slice_get}
 use Rattle.std.proofs.lemmas.List.{length-append, length-map, get_or_append_left, get_or-append_right, get_or-set_same, get_or-set_other, get_or-map, get_or_default, same_lists}
-use Rattle.mir_ty.proofs.ListLemmas.{slice_get-push_cases}
+use Rattle.mir_ty.proofs.ListLemmas.{slice_get-below, slice_get-last, slice_get-push_cases}
 use Rattle.store_model.specs.Places.Place.{Place as Named, whole_local}
 use Rattle.cfg_graph.specs.declared.graph.Block.{Block}
 use Rattle.cfg_graph.specs.declared.graph.Body.{Body}
 use Rattle.cfg_graph.specs.Moves.Gone.{below}
 use Rattle.init_flow.specs.Carried.{Row}
 use Rattle.move_paths.specs.Forest.{IsStepBelow}
-use Rattle.move_flow.specs.declared.switches.Switch.{Switch}
-use Rattle.move_flow.specs.Fits.{Fits, AddsWays, AreWays, FirstBit, start_bit, start_row, way_uses}
+use Rattle.move_flow.specs.declared.switches.BlockSwitches.{BlockSwitches}
+use Rattle.move_flow.specs.Fits.{AreWays, FirstBit, FitsBlock, start_bit, start_row}
 use Rattle.move_flow.specs.Marks.{place_at}
 
 -- the bit of a path is that of the path above it
@@ -44,42 +44,22 @@ start-all paths body gone row count long all bits =
 
 module _ (paths : List Named) (gone : Bool) where
   pub ways-none : AreWays paths gone [] []
-  ways-none = record { long = refl; each = λ n way block small is. absurd (none-some block is) }
+  ways-none = record { long = refl; each = λ n block is way small. absurd (none-some block is) }
 
-  pub ways-more : (old new : List (List Switch)) (blocks : List Block) (block : Block) → AreWays paths gone old blocks → AddsWays paths gone old new block → AreWays paths gone new (blocks ++ block ∷ [])
-  ways-more old new blocks block ways adds =
-      subst (λ (z : List (List Switch)). AreWays paths gone z (blocks ++ block ∷ [])) (sym adds.2)
-      (record {
-        long = (let a = length-append (old ++ adds.0 ∷ []) (adds.1 ∷ []) in let b = length-append old (adds.0 ∷ []) in let c = length-append blocks (block ∷ []) in let d = ways.long in omega (a, b, c, d, arith));
-        each = λ n way other small is. by n way other small (slice_get-push_cases blocks block n other is);
-      })
+  pub ways-more : (made : List BlockSwitches) (blocks : List Block) (one : BlockSwitches) (block : Block) → AreWays paths gone made blocks → FitsBlock paths gone (Some one) block
+      → AreWays paths gone (made ++ one ∷ []) (blocks ++ block ∷ [])
+  ways-more made blocks one block ways fits =
+      record {
+        long = (let a = length-append made (one ∷ []) in let b = length-append blocks (block ∷ []) in let c = ways.long in omega (a, b, c, arith));
+        each = λ n other is. by n other (slice_get-push_cases blocks block n other is);
+      }
     where
-      two : List (List Switch)
-      two = (old ++ adds.0 ∷ []) ++ adds.1 ∷ []
-
-      last : (way : ℕ) → way < 2 → Fits paths gone (slice_index_or two (length blocks * 2 + way) []) (way_uses block way)
-      last zero small =
-          subst (λ (z : List Switch). Fits paths gone z (way_uses block 0))
-          (sym (get_or_append_left (old ++ adds.0 ∷ []) (adds.1 ∷ []) [] (length blocks * 2 + 0) (let b = length-append old (adds.0 ∷ []) in let d = ways.long in omega (b, d, arith))
-          ∙ get_or-append_right old (adds.0 ∷ []) (length blocks * 2) (length blocks * 2 + 0) [] ways.long (omega arith)
-          ∙ ap (λ (k : ℕ). get_or (adds.0 ∷ []) k []) (let k : length blocks * 2 + 0 - length blocks * 2 ≡ 0 = omega arith in k)))
-          adds.3
-      last (suc zero) small =
-          subst (λ (z : List Switch). Fits paths gone z (way_uses block 1))
-          (sym (get_or-append_right (old ++ adds.0 ∷ []) (adds.1 ∷ []) (length blocks * 2 + 1) (length blocks * 2 + 1) [] (let b = length-append old (adds.0 ∷ []) in let d = ways.long in omega (b, d, arith)) (omega arith)
-          ∙ ap (λ (k : ℕ). get_or (adds.1 ∷ []) k []) (let k : length blocks * 2 + 1 - (length blocks * 2 + 1) ≡ 0 = omega arith in k)))
-          adds.4
-      last (suc (suc way)) small = absurd (omega (small, arith))
-
-      by : (n way : ℕ) (other : Block) → way < 2 → (slice_get blocks n ≡ Some other) ⊎ ((n ≡ length blocks) × (block ≡ other)) → Fits paths gone (slice_index_or two (n * 2 + way) []) (way_uses other way)
-      by n way other small (inl before) =
+      by : (n : ℕ) (other : Block) → (slice_get blocks n ≡ Some other) ⊎ ((n ≡ length blocks) × (block ≡ other)) → FitsBlock paths gone (slice_get (made ++ one ∷ []) n) other
+      by n other (inl before) =
           let within = slice_get_within blocks n other before in
-          let d = ways.long in
-          let b = length-append old (adds.0 ∷ []) in
-          subst (λ (z : List Switch). Fits paths gone z (way_uses other way))
-          (sym (get_or_append_left (old ++ adds.0 ∷ []) (adds.1 ∷ []) [] (n * 2 + way) (omega (within, small, d, b, arith))
-          ∙ get_or_append_left old (adds.0 ∷ []) [] (n * 2 + way) (omega (within, small, d, arith))))
-          (ways.each n way other small before)
-      by n way other small (inr end) =
-          subst (λ (z : Block). Fits paths gone (slice_index_or two (n * 2 + way) []) (way_uses z way)) end.1
-          (subst (λ (k : ℕ). Fits paths gone (slice_index_or two (k * 2 + way) []) (way_uses block way)) (sym end.0) (last way small))
+          subst (λ (z : Option BlockSwitches). FitsBlock paths gone z other)
+          (sym (slice_get-below made (one ∷ []) n (let c = ways.long in omega (within, c, arith)))) (ways.each n other before)
+      by n other (inr end) =
+          subst (FitsBlock paths gone (slice_get (made ++ one ∷ []) n)) end.1
+          (subst (λ (z : Option BlockSwitches). FitsBlock paths gone z block)
+          (sym (ap (slice_get (made ++ one ∷ [])) (end.0 ∙ sym ways.long) ∙ slice_get-last made one)) fits)

@@ -1,5 +1,5 @@
 -- Which switches uses make; no public contract speaks of it.
-use Rattle.std.specs.Prelude.{◌≡◌, ◌⊎◌, ℕ, ◌<◌, ◌+◌, ◌*◌, nat_lt, nat_le, slice_index_or, length, ◌==◌, Bool, true, false, not, ◌&&◌, ◌||◌, List, [], ◌∷◌, ◌++◌, map, flat_map, Option, Some, None, slice_get, Contains}
+use Rattle.std.specs.Prelude.{◌≡◌, ◌⊎◌, ℕ, ◌<◌, nat_lt, nat_le, slice_index_or, length, ◌==◌, Bool, true, false, not, ◌&&◌, ◌||◌, List, [], ◌∷◌, ◌++◌, map, flat_map, Option, Some, None, slice_get, Contains}
 use Rattle.store_model.specs.Places.Place.{Place as Named}
 use Rattle.cfg_graph.specs.declared.place.Place.{Place}
 use Rattle.cfg_graph.specs.declared.terminator.Term.{Term}
@@ -11,9 +11,11 @@ use Rattle.cfg_graph.specs.Moves.Gone.{leaves_gone}
 use Rattle.init_flow.specs.Carried.{Row}
 use Rattle.cfg_graph.specs.declared.graph.Body.{Body}
 use Rattle.move_flow.specs.declared.switches.Switch.{Switch}
+use Rattle.move_flow.specs.declared.switches.BlockSwitches.{BlockSwitches}
 use Rattle.move_flow.specs.declared.switches.Switches.{Switches}
 use Rattle.move_flow.specs.Marks.{place_at}
 use Rattle.move_flow.specs.Moved.{says, masks_of}
+use Rattle.move_flow.specs.Switches.{at_most_one, way_switches}
 
 -- what a use switches, if anything
 abbrev pub IsSwitch : (paths : List Named) (gone : Bool) → Use × Place → Option Switch → Type 0
@@ -21,10 +23,6 @@ IsSwitch paths gone made None = (leaves_gone made.0 ≡ None) ⊎ (¬ Contains p
 IsSwitch paths gone made (Some switch) =
     (takes : Bool) × (leaves_gone made.0 ≡ Some takes) × (slice_get paths switch.path ≡ Some (named made.1))
     × (switch.on ≡ says gone takes)
-
-abbrev pub at_most_one : Option Switch → List Switch
-at_most_one None = []
-at_most_one (Some switch) = switch ∷ []
 
 -- switches of uses, one use after another
 abbrev pub Fits : (paths : List Named) (gone : Bool) → List Switch → List (Use × Place) → Type 0
@@ -82,20 +80,16 @@ FirstBit paths body row path gone bit =
     ((n : ℕ) → n < path → slice_index_or row n false ≡ start_bit body gone (place_at paths n))
     → bit ≡ start_bit body gone (place_at paths path)
 
--- both ways of a block are added
-abbrev pub AddsWays : (paths : List Named) (gone : Bool) (old new : List (List Switch)) → Block → Type 0
-AddsWays paths gone old new block =
-    (none : List Switch) × (one : List Switch) × (new ≡ (old ++ none ∷ []) ++ one ∷ [])
-    × Fits paths gone none (way_uses block 0) × Fits paths gone one (way_uses block 1)
+-- what a block switches on each way out of it
+abbrev pub FitsBlock : (paths : List Named) (gone : Bool) → Option BlockSwitches → Block → Type 0
+FitsBlock paths gone made block = (way : ℕ) → way < 2 → Fits paths gone (way_switches made way) (way_uses block way)
 
--- what all ways of blocks switch
-pub record AreWays (paths : List Named) (gone : Bool) (ways : List (List Switch)) (blocks : List Block) : Type 0 where
-  pub long : length ways ≡ length blocks * 2
-  pub each :
-      (n way : ℕ) (block : Block) → way < 2 → slice_get blocks n ≡ Some block →
-      Fits paths gone (slice_index_or ways (n * 2 + way) []) (way_uses block way)
+-- what all blocks switch
+pub record AreWays (paths : List Named) (gone : Bool) (made : List BlockSwitches) (blocks : List Block) : Type 0 where
+  pub long : length made ≡ length blocks
+  pub each : (n : ℕ) (block : Block) → slice_get blocks n ≡ Some block → FitsBlock paths gone (slice_get made n) block
 
 pub record AreSwitches (paths : List Named) (gone : Bool) (s : Switches) (body : Body) : Type 0 where
   pub first : s.first ≡ start_row paths body gone
   pub below : s.below ≡ masks_of paths
-  pub ways : AreWays paths gone s.ways body.blocks
+  pub ways : AreWays paths gone s.blocks body.blocks

@@ -1,12 +1,12 @@
 -- Switches keep the length of a row, and what they make of a union is the union of what they make of the two.
-use Rattle.std.specs.Prelude.{◌≡◌, ℕ, suc, ◌*◌, ◌+◌, nat_eq, Bool, true, false, not, ◌||◌, ◌&&◌, List, [], ◌∷◌, length, Option, Some, None, slice_get, slice_index_or, if◌then◌else◌}
+use Rattle.std.specs.Prelude.{◌≡◌, ℕ, suc, nat_eq, Bool, true, false, not, ◌||◌, ◌&&◌, List, [], ◌∷◌, length, Option, Some, None, slice_get, if◌then◌else◌}
 use Rattle.std.proofs.Common.{refl, ap, sym, ◌∙◌, arith}
 use Rattle.std.proofs.lemmas.Bool.{eqb-true}
 use Rattle.bit_rows.specs.Words.{union, difference}
 use Rattle.init_flow.specs.Carried.{Row}
 use Rattle.move_flow.specs.declared.switches.Switch.{Switch}
 use Rattle.move_flow.specs.declared.switches.Switches.{Switches}
-use Rattle.move_flow.specs.Switches.{switched, by_mask, switch_by, all_switched, passed_by}
+use Rattle.move_flow.specs.Switches.{switched, by_mask, switch_by, all_switched, passed_by, way_switches}
 
 length-union : (a b : Row) → length a ≡ length b → length (union a b) ≡ length b
 length-union [] [] e = refl
@@ -103,10 +103,10 @@ all-union below (switch ∷ switches) a b same =
 -- the laws of an analysis
 pub keeps : (s : Switches) (block way : ℕ) (row : Row) → length row ≡ length s.first
     → length (passed_by s block way row) ≡ length s.first
-keeps s block way row long = length-all s.below (slice_index_or s.ways (block * 2 + way) []) row ∙ long
+keeps s block way row long = length-all s.below (way_switches (slice_get s.blocks block) way) row ∙ long
 
 pub distributes :
     (s : Switches) (block way : ℕ) (a b : Row) → length a ≡ length s.first → length b ≡ length s.first
     → passed_by s block way (union a b) ≡ union (passed_by s block way a) (passed_by s block way b)
 distributes s block way a b long other =
-    all-union s.below (slice_index_or s.ways (block * 2 + way) []) a b (long ∙ sym other)
+    all-union s.below (way_switches (slice_get s.blocks block) way) a b (long ∙ sym other)

@@ -1,5 +1,5 @@
 -- How masks are marked, one path after another; no public contract speaks of it.
-use Rattle.std.specs.Prelude.{◌≡◌, ℕ, ◌<◌, ◌==◌, Bool, true, false, ◌||◌, ◌&&◌, List, [], length, slice_index_or, slice_set}
+use Rattle.std.specs.Prelude.{◌≡◌, ℕ, suc, ◌<◌, ◌==◌, Bool, true, false, ◌||◌, ◌&&◌, List, [], ◌∷◌, length, replicate, Option, Some, None, slice_index_or, slice_set}
 use Rattle.store_model.specs.Places.Place.{Place, whole_local}
 use Rattle.cfg_graph.specs.Moves.Gone.{is_at_or_above}
 use Rattle.init_flow.specs.Carried.{Row}
@@ -25,3 +25,17 @@ pub record IsMarked (paths : List Place) (old new : List Row) (path : ℕ) : Typ
   pub cells :
       (n k : ℕ) → n < length paths →
       cell new n k ≡ (cell old n k || ((k == path) && is_at_or_above (place_at paths n) (place_at paths path)))
+
+-- so many bits, of which one is on
+abbrev pub single : (bits n : ℕ) → Row
+single bits n = slice_set (replicate bits false) n true
+
+-- the mask of the path with a number: its row, and without one that path alone
+abbrev pub mask_by : (bits n : ℕ) → Option Row → Row
+mask_by bits n None = single bits n
+mask_by bits n (Some row) = row
+
+-- the masks of paths, the first of which has this number
+abbrev pub masks_from : (bits n : ℕ) → List (Option Row) → List Row
+masks_from bits n [] = []
+masks_from bits n (row ∷ rows) = mask_by bits n row ∷ masks_from bits (suc n) rows

@@ -1,8 +1,9 @@
 -- What switches make of rows.
-use Rattle.std.specs.Prelude.{ℕ, ◌*◌, ◌+◌, nat_eq, Bool, List, [], ◌∷◌, length, Option, Some, None, slice_get, slice_index_or, if◌then◌else◌}
+use Rattle.std.specs.Prelude.{ℕ, ◌==◌, nat_eq, Bool, List, [], ◌∷◌, ◌++◌, length, Option, Some, None, slice_get, if◌then◌else◌}
 use Rattle.bit_rows.specs.Words.{union, difference}
 use Rattle.init_flow.specs.Carried.{Row}
 use Rattle.move_flow.specs.declared.switches.Switch.{Switch}
+use Rattle.move_flow.specs.declared.switches.BlockSwitches.{BlockSwitches}
 use Rattle.move_flow.specs.declared.switches.Switches.{Switches}
 
 -- the bits of a mask that is as long as the row turn on or off
@@ -23,6 +24,19 @@ abbrev pub all_switched : (below : List Row) → List Switch → Row → Row
 all_switched below [] row = row
 all_switched below (switch ∷ switches) row = all_switched below switches (switch_by below switch row)
 
+abbrev pub at_most_one : Option Switch → List Switch
+at_most_one None = []
+at_most_one (Some switch) = switch ∷ []
+
+-- what the store of a block's result switches on a way out of it
+abbrev pub result_switch : BlockSwitches → (way : ℕ) → Option Switch
+result_switch block way = if way == 0 then block.first else block.second
+
+-- what a block switches on a way out of it, its uses first
+abbrev pub way_switches : Option BlockSwitches → (way : ℕ) → List Switch
+way_switches None way = []
+way_switches (Some block) way = block.uses ++ at_most_one (result_switch block way)
+
 -- the row past a way out of a block
 abbrev pub passed_by : Switches → (block way : ℕ) → Row → Row
-passed_by s block way row = all_switched s.below (slice_index_or s.ways (block * 2 + way) []) row
+passed_by s block way row = all_switched s.below (way_switches (slice_get s.blocks block) way) row

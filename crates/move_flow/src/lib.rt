@@ -9,7 +9,7 @@ mod switches;
 mod ways;
 
 pub use laws::{law_of_bad_uses, law_of_moves};
-pub use masks::masks as masks_below;
+pub use masks::Masks;
 pub use maybe::{MaybeGone, MaybeInit};
-pub use switches::{Switch, Switches};
+pub use switches::{BlockSwitches, Switch, Switches};
 pub use ways::switch_of;

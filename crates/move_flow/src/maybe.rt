@@ -1,22 +1,22 @@
 //! The two analyses of moves.
-ghost use Rattle.std.specs.Prelude.{◌≡◌, ◌<◌, ◌*◌, length, slice_get, Some, IfOk, OnOk, true, false};
+ghost use Rattle.std.specs.Prelude.{◌≡◌, ◌<◌, length, slice_get, Some, IfOk, true, false};
 ghost use Rattle.std.proofs.Common.{refl};
 ghost use Rattle.cfg_graph.specs.declared.graph.Body.{Body as GraphBody};
 ghost use Rattle.init_flow.specs.Ways.{target};
 ghost use Rattle.move_paths.specs.Forest.{IsForest};
 ghost use Rattle.move_flow.specs.Laws.{keeps as lengths, distributes as over_union};
-ghost use Rattle.move_flow.specs.Moved.{Says};
-ghost use Rattle.move_flow.specs.Fits.{param_of, FirstBit, start_row, AddsWays, AreWays, AreSwitches};
+ghost use Rattle.move_flow.specs.Moved.{Says, masks_of};
+ghost use Rattle.move_flow.specs.Fits.{param_of, FirstBit, start_row, AreWays, AreSwitches};
 ghost use Rattle.move_flow.specs.Switches.{passed_by};
 
-use crate::masks::masks;
-use crate::switches::{Switch, Switches};
-use crate::ways::way_switches;
+use crate::masks::{Masks, masks_of_paths};
+use crate::switches::{BlockSwitches, Switches};
+use crate::ways::block_switches;
 use bit_rows::BitRow;
-use cfg_graph::{Block, Body, Graph};
+use cfg_graph::{Body, Graph};
 use init_flow::Analysis;
 use mir_base::{List, NoMemory};
-use move_paths::Forest;
+use move_paths::{Forest, add_inner_uses};
 use std::alloc::Global;
 
 /// Which paths are gone on some path of a body: the bit of a path says this of its own part.
@@ -32,7 +32,7 @@ impl Analysis for MaybeGone {
 
     ghost passed = { λ a body block way row. passed_by a.switches block way row };
 
-    ghost IsFor = { λ a body. length a.switches.ways ≡ length body.blocks * 2 };
+    ghost IsFor = { λ a body. length a.switches.blocks ≡ length body.blocks };
 
     fn bits(&self) -> u32 {
         self.switches.first.len()
@@ -66,7 +66,7 @@ impl Analysis for MaybeInit {
 
     ghost passed = { λ a body block way row. passed_by a.switches block way row };
 
-    ghost IsFor = { λ a body. length a.switches.ways ≡ length body.blocks * 2 };
+    ghost IsFor = { λ a body. length a.switches.blocks ≡ length body.blocks };
 
     fn bits(&self) -> u32 {
         self.switches.first.len()
@@ -118,32 +118,22 @@ fn first_row(alloc: Global, body: &Body, forest: &Forest, gone: bool) -> Result<
     Ok(row)
 }
 
-fn add_ways(
-    alloc: Global,
-    ways: &mut List<List<Switch>>,
-    forest: &Forest,
-    block: &Block,
-    gone: bool,
-) -> Result<(), NoMemory>
-    ensures { OnOk result (AddsWays forest.now.paths gone ways.old ways.new block.now) }
-{
-    ways.push(way_switches(alloc, forest, block, 0, gone)?)?;
-    ways.push(way_switches(alloc, forest, block, 1, gone)?)
-}
-
-fn all_ways(
+fn all_blocks(
     alloc: Global,
     body: &Body,
     forest: &Forest,
     gone: bool,
-) -> Result<List<List<Switch>>, NoMemory>
-    ensures { IfOk result (λ ways. AreWays forest.now.paths gone ways body.now.blocks) }
+) -> Result<List<BlockSwitches>, NoMemory>
+    ensures { IfOk result (λ made. AreWays forest.now.paths gone made body.now.blocks) }
 {
-    let mut ways = List::new(alloc);
+    let mut made = List::new(alloc);
+    let mut uses = List::new(alloc);
     for block in body.blocks.as_slice() {
-        add_ways(alloc, &mut ways, forest, block, gone)?;
+        uses.truncate(0);
+        add_inner_uses(&mut uses, block)?;
+        made.push(block_switches(alloc, forest, block, uses.as_slice(), gone)?)?;
     }
-    Ok(ways)
+    Ok(made)
 }
 
 fn switches_of(
@@ -156,8 +146,8 @@ fn switches_of(
 {
     Ok(Switches {
         first: first_row(alloc, body, forest, gone)?,
-        below: masks(alloc, forest)?,
-        ways: all_ways(alloc, body, forest, gone)?,
+        below: masks_of_paths(alloc, forest)?,
+        blocks: all_blocks(alloc, body, forest, gone)?,
     })
 }
 
@@ -172,13 +162,23 @@ impl MaybeGone {
     ) -> Result<MaybeGone, NoMemory>
         requires body { body < length graph.now.bodies }
         requires forest { (found : GraphBody) → slice_get graph.now.bodies body ≡ Some found → IsForest graph.now.items found forest.now }
-        ensures is_for { IfOk result (λ a. (found : GraphBody) → slice_get graph.now.bodies body ≡ Some found → length a.switches.ways ≡ length found.blocks * 2) }
+        ensures is_for { IfOk result (λ a. (found : GraphBody) → slice_get graph.now.bodies body ≡ Some found → length a.switches.blocks ≡ length found.blocks) }
         ensures says { IfOk result (λ a. (found : GraphBody) → slice_get graph.now.bodies body ≡ Some found → Says graph.now.items found forest.now.paths true (target graph.now.items found) (λ block way row. passed_by a.switches block way row) a.switches.first) }
+        ensures masks { IfOk result (λ a. a.switches.below ≡ masks_of forest.now.paths) }
     {
         let body = &graph.bodies.as_slice()[body as usize];
         Ok(MaybeGone {
             switches: switches_of(alloc, body, forest, true)?,
         })
+    }
+
+    /// What is gone before the body does anything, and the masks of the paths of the forest.
+    pub fn into_parts(self) -> (BitRow, Masks)
+        ensures first { result.0 ≡ self.switches.first }
+        ensures masks { result.1 ≡ self.switches.below }
+    {
+        let Switches { first, below, .. } = self.switches;
+        (first, below)
     }
 }
 
@@ -193,7 +193,7 @@ impl MaybeInit {
     ) -> Result<MaybeInit, NoMemory>
         requires body { body < length graph.now.bodies }
         requires forest { (found : GraphBody) → slice_get graph.now.bodies body ≡ Some found → IsForest graph.now.items found forest.now }
-        ensures is_for { IfOk result (λ a. (found : GraphBody) → slice_get graph.now.bodies body ≡ Some found → length a.switches.ways ≡ length found.blocks * 2) }
+        ensures is_for { IfOk result (λ a. (found : GraphBody) → slice_get graph.now.bodies body ≡ Some found → length a.switches.blocks ≡ length found.blocks) }
         ensures says { IfOk result (λ a. (found : GraphBody) → slice_get graph.now.bodies body ≡ Some found → Says graph.now.items found forest.now.paths false (target graph.now.items found) (λ block way row. passed_by a.switches block way row) a.switches.first) }
     {
         let body = &graph.bodies.as_slice()[body as usize];

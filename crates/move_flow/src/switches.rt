@@ -1,7 +1,8 @@
 //! Analyses whose ways turn bits on and off.
 ghost use Rattle.std.specs.Prelude.{◌≡◌, ◌*◌, ◌+◌, length};
-ghost use Rattle.move_flow.specs.Switches.{switched, all_switched, switch_by, passed_by};
+ghost use Rattle.move_flow.specs.Switches.{all_switched, result_switch, switch_by, passed_by};
 
+use crate::masks::Masks;
 use bit_rows::BitRow;
 use mir_base::List;
 
@@ -12,35 +13,36 @@ pub struct Switch {
     pub on: bool,
 }
 
-/// The row at the start of a body, for each path the mask of the paths at or below it, and what each way out of a block
-/// switches: the ways of block n have the numbers 2 n and 2 n + 1.
+/// What a block switches: its uses in order, and then the store of its result on the first way out of it, and on the
+/// second.
+#[derive(Debug, Drop)]
+pub struct BlockSwitches {
+    pub uses: List<Switch>,
+    pub first: Option<Switch>,
+    pub second: Option<Switch>,
+}
+
+impl BlockSwitches {
+    fn result(&self, way: u32) -> Option<Switch>
+        ensures { result ≡ result_switch self.now way }
+    {
+        if way == 0 { self.first } else { self.second }
+    }
+}
+
+/// The row at the start of a body, for each path the mask of the paths at or below it, and what each block switches.
 #[derive(Debug, Drop)]
 pub struct Switches {
     pub first: BitRow,
-    pub below: List<BitRow>,
-    pub ways: List<List<Switch>>,
-}
-
-fn turn(mask: &BitRow, on: bool, row: &mut BitRow)
-    ensures { row.new ≡ switched mask.now on row.old }
-{
-    if mask.len() != row.len() {
-        return;
-    }
-    if on {
-        mask.or_into(row);
-    } else {
-        mask.and_not_into(row);
-    }
+    pub below: Masks,
+    pub blocks: List<BlockSwitches>,
 }
 
 impl Switches {
     fn switch(&self, switch: Switch, row: &mut BitRow)
         ensures { row.new ≡ switch_by self.now.below switch row.old }
     {
-        if let Some(mask) = self.below.get(switch.path as usize) {
-            turn(mask, switch.on, row);
-        }
+        self.below.turn(switch.path, switch.on, row);
     }
 
     fn all(&self, switches: &[Switch], row: &mut BitRow)
@@ -55,8 +57,12 @@ impl Switches {
     pub fn pass(&self, block: u32, way: u32, row: &mut BitRow)
         ensures { row.new ≡ passed_by self.now block way row.old }
     {
-        if let Some(switches) = self.ways.get(block as usize * 2 + way as usize) {
-            self.all(switches.as_slice(), row);
+        let Some(found) = self.blocks.get(block as usize) else {
+            return;
+        };
+        self.all(found.uses.as_slice(), row);
+        if let Some(switch) = found.result(way) {
+            self.switch(switch, row);
         }
     }
 

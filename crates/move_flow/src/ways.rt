@@ -4,13 +4,14 @@ ghost use Rattle.std.specs.Option.{option_copied};
 ghost use Rattle.cfg_graph.specs.declared.graph.Block.{Block as GraphBlock};
 ghost use Rattle.cfg_graph.specs.Moves.Gone.{leaves_gone};
 ghost use Rattle.cfg_graph.specs.Uses as graph;
-ghost use Rattle.move_paths.specs.Uses.{listed, use_of, optional};
-ghost use Rattle.move_flow.specs.Fits.{Fits, IsSwitch, AreSwitched, way_uses, way_result, leads_on};
+ghost use Rattle.move_paths.specs.Uses.{inner_uses, listed, use_of, optional};
+ghost use Rattle.move_flow.specs.Fits.{Fits, FitsBlock, IsSwitch, AreSwitched, way_result, leads_on};
+ghost use Rattle.move_flow.specs.Switches.{at_most_one};
 
-use crate::switches::Switch;
-use cfg_graph::{Block, Body, Place, Stmt, Term, Unwind};
+use crate::switches::{BlockSwitches, Switch};
+use cfg_graph::{Block, Place, Term, Unwind};
 use mir_base::{List, NoMemory};
-use move_paths::{Forest, Use, Used, stmt_uses, term_uses};
+use move_paths::{Forest, Use, Used};
 use std::alloc::Global;
 
 fn leaves(how: Use) -> Option<bool>
@@ -64,20 +65,18 @@ fn add_uses(
     Ok(())
 }
 
-fn add_stmts(
+/// What uses switch, one use after another.
+fn use_switches(
     alloc: Global,
-    switches: &mut List<Switch>,
     forest: &Forest,
-    stmts: &[Stmt],
+    uses: &[Used<'_>],
     gone: bool,
-) -> Result<(), NoMemory>
-    ensures { OnOk result (AreSwitched forest.now.paths gone switches.old switches.new (flat_map graph.stmt_uses stmts.now)) }
+) -> Result<List<Switch>, NoMemory>
+    ensures { IfOk result (λ switches. Fits forest.now.paths gone switches (listed uses.now)) }
 {
-    for stmt in stmts {
-        let uses = stmt_uses(alloc, stmt)?;
-        add_uses(switches, forest, uses.as_slice(), gone)?;
-    }
-    Ok(())
+    let mut switches = List::new(alloc);
+    add_uses(&mut switches, forest, uses, gone)?;
+    Ok(switches)
 }
 
 /// Whether a way of a terminator that stores its result leads to where it goes on.
@@ -127,36 +126,31 @@ fn result_on(term: &Term, way: u32) -> Option<&Place>
     }
 }
 
-fn add_term(
-    alloc: Global,
-    switches: &mut List<Switch>,
-    forest: &Forest,
-    term: &Term,
-    way: u32,
-    gone: bool,
-) -> Result<(), NoMemory>
-    ensures { OnOk result (AreSwitched forest.now.paths gone switches.old switches.new (graph.term_uses term.now ++ map (λ place. (graph.Stores, place)) (way_result term.now way))) }
+/// What the store of a result on a way out of a terminator switches.
+fn result_switch(forest: &Forest, term: &Term, way: u32, gone: bool) -> Option<Switch>
+    ensures { Fits forest.now.paths gone (at_most_one result) (map (λ place. (graph.Stores, place)) (way_result term.now way)) }
 {
-    let uses = term_uses(alloc, term)?;
-    add_uses(switches, forest, uses.as_slice(), gone)?;
     match result_on(term, way) {
-        Some(place) => add_use(switches, forest, Use::Stores, place, gone),
-        None => Ok(()),
+        Some(place) => switch_of(forest, Use::Stores, place, gone),
+        None => None,
     }
 }
 
-/// What a way out of a block switches, the uses of the block first.
-pub fn way_switches(
+/// What a block switches, by the uses within it.
+pub fn block_switches(
     alloc: Global,
     forest: &Forest,
     block: &Block,
-    way: u32,
+    uses: &[Used<'_>],
     gone: bool,
-) -> Result<List<Switch>, NoMemory>
-    ensures { IfOk result (λ switches. Fits forest.now.paths gone switches (way_uses block.now way)) }
+) -> Result<BlockSwitches, NoMemory>
+    requires { listed uses.now ≡ inner_uses block.now }
+    ensures { IfOk result (λ made. FitsBlock forest.now.paths gone (Some made) block.now) }
 {
-    let mut switches = List::new(alloc);
-    add_stmts(alloc, &mut switches, forest, block.stmts.as_slice(), gone)?;
-    add_term(alloc, &mut switches, forest, &block.term, way, gone)?;
-    Ok(switches)
+    let uses = use_switches(alloc, forest, uses, gone)?;
+    Ok(BlockSwitches {
+        uses,
+        first: result_switch(forest, &block.term, 0, gone),
+        second: result_switch(forest, &block.term, 1, gone),
+    })
 }

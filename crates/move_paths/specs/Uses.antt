@@ -43,6 +43,10 @@ abbrev pub optional : Option Place → List Place
 optional None = []
 optional (Some place) = place ∷ []
 
+-- what a block uses before it takes a way out
+abbrev pub inner_uses : Block → List (graph.Use × Place)
+inner_uses block = flat_map stmt_uses block.stmts ++ term_uses block.term
+
 -- all uses of a block, the store of its terminator's result among them
 abbrev pub block_uses : Block → List (graph.Use × Place)
 block_uses block =

@@ -11,8 +11,8 @@ ghost use Rattle.move_paths.specs.Uses.{block_uses, listed, use_of};
 
 use crate::trie::{Near, Trie};
 use crate::types::{is_behind_reference, is_watched};
-use crate::uses::{Use, Used, result_place, stmt_uses, term_uses};
-use cfg_graph::{Body, Graph, Place, Stmt, Term};
+use crate::uses::{Use, Used, add_inner_uses, result_place};
+use cfg_graph::{Body, Graph, Place, Term};
 use mir_base::{List, NoMemory};
 use mir_ty::{Items, TyId};
 use std::alloc::Global;
@@ -157,35 +157,11 @@ fn add_uses(trie: &mut Trie, items: &Items, body: &Body, uses: &[Used<'_>]) -> R
     Ok(())
 }
 
-fn add_stmts(
-    alloc: Global,
-    trie: &mut Trie,
-    items: &Items,
-    body: &Body,
-    stmts: &[Stmt],
-) -> Result<(), NoMemory>
+/// Adds the place into which a terminator stores its result, if it has one.
+fn add_result(trie: &mut Trie, items: &Items, body: &Body, term: &Term) -> Result<(), NoMemory>
     requires { HasLocals body.now trie.old }
-    ensures { OnOk result (Names items.now body.now trie.old trie.new (flat_map graph.stmt_uses stmts.now)) }
+    ensures { OnOk result (Names items.now body.now trie.old trie.new (map (λ place. (graph.Stores, place)) (graph.stored_by_term term.now))) }
 {
-    for stmt in stmts {
-        let uses = stmt_uses(alloc, stmt)?;
-        add_uses(trie, items, body, uses.as_slice())?;
-    }
-    Ok(())
-}
-
-fn add_term(
-    alloc: Global,
-    trie: &mut Trie,
-    items: &Items,
-    body: &Body,
-    term: &Term,
-) -> Result<(), NoMemory>
-    requires { HasLocals body.now trie.old }
-    ensures { OnOk result (Names items.now body.now trie.old trie.new (graph.term_uses term.now ++ map (λ place. (graph.Stores, place)) (graph.stored_by_term term.now))) }
-{
-    let uses = term_uses(alloc, term)?;
-    add_uses(trie, items, body, uses.as_slice())?;
     match result_place(term) {
         Some(place) => add_use(trie, items, body, Use::Stores, place),
         None => Ok(()),
@@ -196,9 +172,12 @@ fn add_blocks(alloc: Global, trie: &mut Trie, items: &Items, body: &Body) -> Res
     requires { HasLocals body.now trie.old }
     ensures { OnOk result (Names items.now body.now trie.old trie.new (flat_map block_uses body.now.blocks)) }
 {
+    let mut uses = List::new(alloc);
     for block in body.blocks.as_slice() {
-        add_stmts(alloc, trie, items, body, block.stmts.as_slice())?;
-        add_term(alloc, trie, items, body, &block.term)?;
+        uses.truncate(0);
+        add_inner_uses(&mut uses, block)?;
+        add_uses(trie, items, body, uses.as_slice())?;
+        add_result(trie, items, body, &block.term)?;
     }
     Ok(())
 }

@@ -2,9 +2,9 @@
 ghost use Rattle.std.specs.Prelude.{◌≡◌, ◌++◌, [], ◌∷◌, map, flat_map, IfOk, OnOk};
 ghost use Rattle.std.specs.Option.{option_copied};
 ghost use Rattle.cfg_graph.specs.Uses as graph;
-ghost use Rattle.move_paths.specs.Uses.{listed, operand_uses, other_uses, other_term_uses, use_of, optional};
+ghost use Rattle.move_paths.specs.Uses.{inner_uses, listed, operand_uses, other_uses, other_term_uses, use_of, optional};
 
-use cfg_graph::{Operand, Place, Stmt, Term};
+use cfg_graph::{Block, Operand, Place, Stmt, Term};
 use mir_base::{List, NoMemory};
 use std::alloc::Global;
 
@@ -116,14 +116,21 @@ fn add_store<'a>(uses: &mut List<Used<'a>>, stmt: &'a Stmt) -> Result<(), NoMemo
     }
 }
 
+/// Adds the uses of a statement in order: operands from left to right, what it uses otherwise, and last the store.
+pub fn add_stmt_uses<'a>(uses: &mut List<Used<'a>>, stmt: &'a Stmt) -> Result<(), NoMemory>
+    ensures { OnOk result (listed uses.new ≡ listed uses.old ++ graph.stmt_uses stmt.now) }
+{
+    add_stmt_operands(uses, stmt)?;
+    add_other(uses, stmt)?;
+    add_store(uses, stmt)
+}
+
 /// The uses of a statement in order: operands from left to right, what it uses otherwise, and last the store.
 pub fn stmt_uses<'a>(alloc: Global, stmt: &'a Stmt) -> Result<List<Used<'a>>, NoMemory>
     ensures { IfOk result (λ uses. listed uses ≡ graph.stmt_uses stmt.now) }
 {
     let mut uses = List::new(alloc);
-    add_stmt_operands(&mut uses, stmt)?;
-    add_other(&mut uses, stmt)?;
-    add_store(&mut uses, stmt)?;
+    add_stmt_uses(&mut uses, stmt)?;
     Ok(uses)
 }
 
@@ -150,14 +157,31 @@ fn add_other_of_term<'a>(uses: &mut List<Used<'a>>, term: &'a Term) -> Result<()
     }
 }
 
+/// Adds what a terminator uses before it takes a way out, in order.
+pub fn add_term_uses<'a>(uses: &mut List<Used<'a>>, term: &'a Term) -> Result<(), NoMemory>
+    ensures { OnOk result (listed uses.new ≡ listed uses.old ++ graph.term_uses term.now) }
+{
+    add_term_operands(uses, term)?;
+    add_other_of_term(uses, term)
+}
+
 /// What a terminator uses before it takes a way out, in order.
 pub fn term_uses<'a>(alloc: Global, term: &'a Term) -> Result<List<Used<'a>>, NoMemory>
     ensures { IfOk result (λ uses. listed uses ≡ graph.term_uses term.now) }
 {
     let mut uses = List::new(alloc);
-    add_term_operands(&mut uses, term)?;
-    add_other_of_term(&mut uses, term)?;
+    add_term_uses(&mut uses, term)?;
     Ok(uses)
+}
+
+/// Adds what a block uses before it takes a way out: the uses of its statements in order, and those of its terminator.
+pub fn add_inner_uses<'a>(uses: &mut List<Used<'a>>, block: &'a Block) -> Result<(), NoMemory>
+    ensures { OnOk result (listed uses.new ≡ listed uses.old ++ inner_uses block.now) }
+{
+    for stmt in block.stmts.as_slice() {
+        add_stmt_uses(uses, stmt)?;
+    }
+    add_term_uses(uses, &block.term)
 }
 
 /// The place into which a terminator stores its result on its way on.

@@ -4,6 +4,7 @@ use Rattle.cfg_graph.specs.declared.place.Place.{Place}
 use Rattle.cfg_graph.specs.declared.statement.Stmt.{Stmt}
 use Rattle.cfg_graph.specs.Uses.{Use, stmt_uses}
 use Rattle.cfg_graph.specs.Moves.Gone.{Action}
+use Rattle.move_paths.specs.declared.uses.Used.{Used}
 use Rattle.move_paths.specs.Uses.{listed}
 use Rattle.bad_uses.specs.Runs.{actions_of, at_line, stmt_actions}
 use Rattle.bad_uses.proofs.Acting.{stmts-more}
@@ -13,7 +14,7 @@ pub loop-stmt-preserved : goal.loop-stmt-preserved
 loop-stmt-preserved c =
     let item : Stmt = c.stmt-item.result in
     let i = c.loop-stmt.stmt-index in
-    let uses : listed c.as_slice.result.now ≡ stmt_uses item = ap listed c.as_slice.ensures ∙ c.in_ok-uses.ensures in
+    let uses : listed c.as_slice.result.now ≡ stmt_uses item = ap listed c.as_slice.ensures ∙ c.in_ok-add_stmt_uses.ensures ∙ ap (λ (z : List Used). listed z ++ stmt_uses item) c.truncate.ensures in
     let line : c.loop-stmt.line ≡ i = c.loop-stmt.invariant.0 in (
       c.in_ok-line.ensures ∙ ap (λ (n : ℕ). n + 1) line,
       λ block.

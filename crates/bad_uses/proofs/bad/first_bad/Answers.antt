@@ -32,15 +32,15 @@ apply-requires-clause-used c =
     let at = act-at c.args.acts.now c.loop-act.act-index act act c.loop-act-test.true c.act-item.is in
     used-at w.items.now w.body.now w.forest w.below c.requires.watched c.args.acts.now c.loop-act.act-index act c.requires.used at
 
-pub returns-then-branch-clause-first : goal.returns-then-branch-clause-first
-returns-then-branch-clause-first c = λ n.
+pub returns-then-is_bad-clause-first : goal.returns-then-is_bad-clause-first
+returns-then-is_bad-clause-first c = λ n.
     let w = c.args.watch.now in
     let act : Act = c.act-item.result in
     let i : ℕ = c.loop-act.act-index in
     let rest : Option _ = first_by w.items.now w.body.now w.forest.paths (actions_of n (drop (i + 1) c.args.acts.now)) (left w.items.now w.body.now (action_of n act) w.forest.paths c.loop-act.row) in
     sym (c.loop-act.invariant.1 n
     ∙ ap (λ (z : List Act). first_by w.items.now w.body.now w.forest.paths (actions_of n z) c.loop-act.row) (drop-act c.args.acts.now i act act c.loop-act-test.true c.act-item.is)
-    ∙ ap (λ (b : Bool). if b then Some (action_of n act) else rest) (sym c.in_ok-is_bad.ensures ∙ c.if-branch.true))
+    ∙ ap (λ (b : Bool). if b then Some (action_of n act) else rest) (sym c.is_bad.ensures ∙ c.if-is_bad.true))
 
 pub loop-act-preserved : goal.loop-act-preserved
 loop-act-preserved c =
@@ -53,7 +53,7 @@ loop-act-preserved c =
       ap length c.apply.ensures ∙ length-left w.items.now w.body.now (use_at (use_of act.how) (named act.place.now)) w.forest.paths now c.loop-act.invariant.0,
       λ n. c.loop-act.invariant.1 n
           ∙ ap (λ (z : List Act). first_by w.items.now w.body.now w.forest.paths (actions_of n z) now) (drop-act c.args.acts.now i act act c.loop-act-test.true c.act-item.is)
-          ∙ ap (λ (b : Bool). if b then Some (action_of n act) else first_by w.items.now w.body.now w.forest.paths (actions_of n (drop (i + 1) c.args.acts.now)) (left w.items.now w.body.now (action_of n act) w.forest.paths now)) (sym c.in_ok-is_bad.ensures ∙ c.if-branch.false)
+          ∙ ap (λ (b : Bool). if b then Some (action_of n act) else first_by w.items.now w.body.now w.forest.paths (actions_of n (drop (i + 1) c.args.acts.now)) (left w.items.now w.body.now (action_of n act) w.forest.paths now)) (sym c.is_bad.ensures ∙ c.if-is_bad.false)
           ∙ ap (first_by w.items.now w.body.now w.forest.paths (actions_of n (drop (i + 1) c.args.acts.now))) (next n),
       λ n. c.loop-act.invariant.2 n
           ∙ ap (λ (z : List Act). after w.items.now w.body.now w.forest.paths (actions_of n z) now) (drop-act c.args.acts.now i act act c.loop-act-test.true c.act-item.is)

@@ -1,34 +1,36 @@
-use Rattle.std.proofs.Common.{◌≡◌, ◌&&◌, ℕ, ◌<◌, length, List, Bool, Result, Ok, Err, IfOk, sym, ap, ◌∙◌}
+use Rattle.std.proofs.Common.{◌≡◌, ◌&&◌, [], ℕ, ◌<◌, length, List, Bool, sym, ap, ◌∙◌, arith}
 use Rattle.std.specs.Prelude.{slice_index_or}
 use Rattle.std.proofs.lemmas.List.{length-map, get_or-map}
 use Rattle.store_model.specs.Places.Place.{Place, whole_local}
 use Rattle.cfg_graph.specs.Moves.Gone.{is_at_or_above}
+use Rattle.bit_rows.specs.Words.{any_both}
 use Rattle.init_flow.specs.Carried.{Row}
 use Rattle.move_flow.specs.Moved.{masks_of, mask_of}
-use Rattle.bad_uses.specs.Rows.{some_on, any_both, place_at}
+use Rattle.bad_uses.specs.Rows.{some_on, place_at}
 use Rattle.bad_uses.proofs.OnRows.{both-some}
 use Rattle.bad_uses.proofs.bad.is_gone_within.Goals as goal
 
-if-ok : {T E : Type 0} (P Q : T → Type 0) → ((t : T) → P t → Q t) → (r : Result T E) → IfOk r P → IfOk r Q
-if-ok P Q to (Ok t) h = to t h
-if-ok P Q to (Err e) h = h
+mask-at : (paths : List Place) (below : List Row) (n : ℕ) → below ≡ masks_of paths → n < length paths → slice_index_or below n [] ≡ mask_of paths (place_at paths n)
+mask-at paths below n is within = ap (λ (z : List Row). slice_index_or z n []) is ∙ get_or-map (mask_of paths) paths n (whole_local 0) [] within
 
-mask-at : (paths : List Place) (below : List Row) (slice : List Row) (n : ℕ) (mask d : Row) → below ≡ masks_of paths → slice ≡ below → n < length paths
-    → mask ≡ slice_index_or slice n d → mask ≡ mask_of paths (place_at paths n)
-mask-at paths below slice n mask d is same within at =
-    at ∙ ap (λ (z : List Row). slice_index_or z n d) (same ∙ is) ∙ get_or-map (mask_of paths) paths n (whole_local 0) d within
+as-many : (paths : List Place) (below : List Row) → below ≡ masks_of paths → length paths ≡ length below
+as-many paths below is = sym (ap length is ∙ length-map paths (mask_of paths))
 
-pub meet-requires : goal.meet-requires
-meet-requires c =
+pub meets-requires-clause-path : goal.meets-requires-clause-path
+meets-requires-clause-path c =
+    let long = as-many c.args.watch.now.forest.paths c.args.watch.now.below c.requires.masks in let within = c.requires.path in omega (long, within, arith)
+
+pub meets-requires-clause-paths : goal.meets-requires-clause-paths
+meets-requires-clause-paths c = c.requires.row ∙ as-many c.args.watch.now.forest.paths c.args.watch.now.below c.requires.masks
+
+pub meets-requires-clause-mask : goal.meets-requires-clause-mask
+meets-requires-clause-mask c =
     let paths : List Place = c.args.watch.now.forest.paths in
-    ap length (mask-at paths c.args.watch.now.below c.as_slice.result.now c.args.path c.index-as_slice-path.result c.index-as_slice-path.result c.requires.masks c.as_slice.ensures c.requires.path c.index-as_slice-path.is)
-    ∙ length-map paths (is_at_or_above (place_at paths c.args.path)) ∙ sym c.requires.row
+    c.requires.row ∙ sym (ap length (mask-at paths c.args.watch.now.below c.args.path c.requires.masks c.requires.path) ∙ length-map paths (is_at_or_above (place_at paths c.args.path)))
 
 pub returns-then-asked : goal.returns-then-asked
 returns-then-asked c =
     let paths : List Place = c.args.watch.now.forest.paths in
-    let mask = mask-at paths c.args.watch.now.below c.as_slice.result.now c.args.path c.index-as_slice-path.result c.index-as_slice-path.result c.requires.masks c.as_slice.ensures c.requires.path c.index-as_slice-path.is in
-    if-ok (λ (b : Bool). b ≡ any_both c.index-as_slice-path.result c.args.row.now) (λ (b : Bool). b ≡ (c.args.asked && some_on (is_at_or_above (place_at paths c.args.path)) paths c.args.row.now))
-    (λ b e. e ∙ ap (λ (z : Row). any_both z c.args.row.now) mask ∙ both-some (is_at_or_above (place_at paths c.args.path)) paths c.args.row.now
-    ∙ ap (λ (z : Bool). z && some_on (is_at_or_above (place_at paths c.args.path)) paths c.args.row.now) (sym c.if-asked.true))
-    c.meet.result c.meet.ensures
+    c.meets.ensures ∙ ap (λ (z : Row). any_both z c.args.row.now) (mask-at paths c.args.watch.now.below c.args.path c.requires.masks c.requires.path)
+    ∙ both-some (is_at_or_above (place_at paths c.args.path)) paths c.args.row.now
+    ∙ ap (λ (z : Bool). z && some_on (is_at_or_above (place_at paths c.args.path)) paths c.args.row.now) (sym c.if-asked.true)

@@ -8,4 +8,4 @@ pub first_bad-requires-clause-used : goal.first_bad-requires-clause-used
 first_bad-requires-clause-used c =
     let w = c.args.watch.now in
     used-anywhere w.body.now c.args.at.block c.as_slice.result.now
-    (subst (AreOfBody w.body.now) (sym (ap (actions_of c.args.at.block) c.as_slice.ensures ∙ c.in_ok-done.ensures)) (acts-used w.items.now w.body.now c.args.at.block c.args.at.stage))
+    (subst (AreOfBody w.body.now) (sym (ap (actions_of c.args.at.block) c.as_slice.ensures ∙ c.in_ok-fill.ensures)) (acts-used w.items.now w.body.now c.args.at.block c.args.at.stage))

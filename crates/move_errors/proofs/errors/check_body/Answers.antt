@@ -8,8 +8,8 @@ use Rattle.move_errors.proofs.errors.check_body.Goals as goal
 
 pub returns-in-None-clause-accepted : goal.returns-in-None-clause-accepted
 returns-in-None-clause-accepted c = λ found at.
-    let w = c.in_ok-watch.watch in
-    let e = c.in_ok-watch.ensures in
+    let w = c.in_ok-solved.solved.watch in
+    let e = c.in_ok-solved.ensures in
     let body : w.body.now ≡ found = same_Some w.body.now found (sym e.body ∙ at) in
     subst (λ (z : Body). MeetsNone c.args.graph.now.items z) body
     (subst (λ (z : ItemTable). MeetsNone z w.body.now) e.items
@@ -17,8 +17,8 @@ returns-in-None-clause-accepted c = λ found at.
 
 pub returns-then-branch-clause-accepted : goal.returns-then-branch-clause-accepted
 returns-then-branch-clause-accepted c = λ found at.
-    let w = c.in_ok-watch.watch in
-    let e = c.in_ok-watch.ensures in
+    let w = c.in_ok-solved.solved.watch in
+    let e = c.in_ok-solved.ensures in
     let body : w.body.now ≡ found = same_Some w.body.now found (sym e.body ∙ at) in
     subst (λ (z : Body). MeetsNone c.args.graph.now.items z) body
     (subst (λ (z : ItemTable). MeetsNone z w.body.now) e.items

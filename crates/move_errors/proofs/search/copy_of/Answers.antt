@@ -1,9 +1,6 @@
-use Rattle.std.proofs.Common.{ℕ, replicate, false, ap, ◌∙◌}
-use Rattle.bit_rows.specs.Words.{union}
-use Rattle.init_flow.specs.Carried.{Row}
-use Rattle.init_flow.proofs.Rows.{union-none}
+use Rattle.std.proofs.Common.{ℕ, replicate, false, length, sym, ap, ◌∙◌}
+use Rattle.std.proofs.lemmas.List.{length-replicate}
 use Rattle.move_errors.proofs.search.copy_of.Goals as goal
 
-pub returns : goal.returns
-returns c =
-    c.or_into.ensures.bits ∙ ap (λ (z : Row). union c.args.row.now z) (c.in_ok-copy.ensures ∙ ap (λ (n : ℕ). replicate n false) c.len.ensures) ∙ union-none c.args.row.now
+pub copy_into-requires : goal.copy_into-requires
+copy_into-requires c = sym (ap length c.in_ok-copy.ensures ∙ length-replicate c.len.result false ∙ c.len.ensures)

@@ -62,7 +62,7 @@ first_bad-requires-clause-used c =
     let w = c.args.watch.now in
     let at : Point = c.args.item.visit.at in
     used-anywhere w.body.now at.block c.as_slice.result.now
-    (subst (AreOfBody w.body.now) (sym (ap (actions_of at.block) c.as_slice.ensures ∙ c.in_ok-done.ensures)) (acts-used w.items.now w.body.now at.block at.stage))
+    (subst (AreOfBody w.body.now) (sym (ap (actions_of at.block) c.as_slice.ensures ∙ c.in_ok-fill.ensures)) (acts-used w.items.now w.body.now at.block at.stage))
 
 pub first_bad-requires-clause-row : goal.first_bad-requires-clause-row
 first_bad-requires-clause-row c = c.requires.stands.widths c.args.item (here c.args.item c.args.search.now.queue.items)
@@ -79,7 +79,7 @@ returns-in-Some-clause-found c =
     let h = here item old.queue.items in
     let t : Trip = trip_of f s.done item.visit item.row in
     let visits : c.visit.new.self.visits ≡ old.visits ++ item.visit ∷ [] = c.in_ok-number.ensures.visits ∙ ap (λ (z : List Visit). z ++ item.visit ∷ []) c.bring.ensures.visits in
-    let acts : actions_of at.block c.as_slice.result.now ≡ acts_at w.items.now w.body.now at.block at.stage = ap (actions_of at.block) c.as_slice.ensures ∙ c.in_ok-done.ensures in
+    let acts : actions_of at.block c.as_slice.result.now ≡ acts_at w.items.now w.body.now at.block at.stage = ap (actions_of at.block) c.as_slice.ensures ∙ c.in_ok-fill.ensures in
     record {
       done = s.done ++ t ∷ [];
       logged = subst (λ (z : List Visit). Logged f z (s.done ++ t ∷ [])) (sym visits) (logged-more f law old.visits s.done item.visit item.row s.logged (s.from_done item h));
@@ -87,7 +87,7 @@ returns-in-Some-clause-found c =
       at = ap (slice_get (s.done ++ t ∷ [])) (c.in_ok-number.ensures.number ∙ ap length c.bring.ensures.visits ∙ s.logged.long) ∙ slice_get-last s.done t;
       run = s.visited.waiting_runs t (here t (waiting_of f s.done old.queue.items));
       first = ap (λ (z : List Action). first_by w.items.now w.body.now w.forest.paths z item.row) (sym acts)
-          ∙ sym (c.in_ok-act.ensures.first at.block) ∙ ap (option_map (action_of at.block)) c.in-Some.is;
+          ∙ sym (c.first_bad.ensures.first at.block) ∙ ap (option_map (action_of at.block)) c.in-Some.is;
       least = first-least f law s.done t (waiting_of f s.done old.queue.items) s.visited;
     }
 
@@ -118,16 +118,16 @@ returns-clause-stands c = λ none.
     let at : Point = item.visit.at in
     let n : ℕ = index_of at in
     let e = c.bring.ensures in
-    let acts : actions_of at.block c.as_slice.result.now ≡ acts_at w.items.now w.body.now at.block at.stage = ap (actions_of at.block) c.as_slice.ensures ∙ c.in_ok-done.ensures in
+    let acts : actions_of at.block c.as_slice.result.now ≡ acts_at w.items.now w.body.now at.block at.stage = ap (actions_of at.block) c.as_slice.ensures ∙ c.in_ok-fill.ensures in
     goes-on f (owns w.items.now w.body.now w.forest.paths) old new item c.first_bad.new.row c.in_ok-number.number c.requires.stands
     (λ choice to leads. leads-inside w.items.now w.body.now at.block at.stage choice to leads)
     (c.go_on.ensures.seen ∙ c.visit.ensures.seen ∙ set-at old.seen c.bring.new.self.seen item.row c.index.result n c.index.ensures e.seen)
     (c.go_on.ensures.reached ∙ c.visit.ensures.reached ∙ flag-at old.reached c.bring.new.self.reached c.index.result n c.index.ensures e.reached)
     (c.go_on.ensures.visits ∙ c.in_ok-number.ensures.visits ∙ ap (λ (z : List Visit). z ++ item.visit ∷ []) e.visits)
     (c.in_ok-number.ensures.number ∙ ap length e.visits)
-    (c.in_ok-act.ensures.after at.block c.in_default.is ∙ ap (λ (z : List Action). after w.items.now w.body.now w.forest.paths z item.row) acts)
-    (none-first (first_by w.items.now w.body.now w.forest.paths (acts_at w.items.now w.body.now at.block at.stage) item.row) c.in_ok-act.field-0 (action_of at.block)
-    (c.in_ok-act.ensures.first at.block ∙ ap (λ (z : List Action). first_by w.items.now w.body.now w.forest.paths z item.row) acts) c.in_default.is)
+    (c.first_bad.ensures.after at.block c.in_default.is ∙ ap (λ (z : List Action). after w.items.now w.body.now w.forest.paths z item.row) acts)
+    (none-first (first_by w.items.now w.body.now w.forest.paths (acts_at w.items.now w.body.now at.block at.stage) item.row) c.first_bad.result (action_of at.block)
+    (c.first_bad.ensures.first at.block ∙ ap (λ (z : List Action). first_by w.items.now w.body.now w.forest.paths z item.row) acts) c.in_default.is)
     (c.in_ok-go_on.ensures.queue ∙ (λ i. pushed_items (c.goes_on-onward.ensures i) c.in_ok-number.number c.first_bad.new.row (ap (λ q. q.items) (c.visit.ensures.queue ∙ e.queue) i)))
 
 pub returns-clause-less : goal.returns-clause-less

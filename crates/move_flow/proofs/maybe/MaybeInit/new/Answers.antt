@@ -1,4 +1,4 @@
-use Rattle.std.proofs.Common.{length, ◌*◌, ◌≡◌, List, false, get_or, ap, ◌∙◌, subst}
+use Rattle.std.proofs.Common.{length, ◌≡◌, List, false, get_or, ap, ◌∙◌, subst}
 use Rattle.std.proofs.lemmas.Option.{get_or_from_slice_get}
 use Rattle.cfg_graph.specs.declared.graph.Body.{Body}
 use Rattle.move_flow.specs.Fits.{AreSwitches}
@@ -24,4 +24,4 @@ returns-clause-is_for c =
     let body : Body = c.index-as_slice-body.result in
     let same : body ≡ found =
     c.index-as_slice-body.is ∙ ap (λ (z : List Body). get_or z c.args.body body) c.as_slice.ensures ∙ get_or_from_slice_get c.args.graph.now.bodies c.args.body found body at in
-    c.in_ok-switches_of.ensures.ways.long ∙ ap (λ (z : Body). length z.blocks * 2) same
+    c.in_ok-switches_of.ensures.ways.long ∙ ap (λ (z : Body). length z.blocks) same
