@@ -1,4 +1,4 @@
-use Rattle.std.proofs.Common.{ℕ, replicate, false, length, sym, ap, ◌∙◌}
+use Rattle.std.proofs.Common.{false, length, sym, ap, ◌∙◌}
 use Rattle.std.proofs.lemmas.List.{length-replicate}
 use Rattle.move_errors.proofs.search.copy_of.Goals as goal
 
