@@ -109,7 +109,7 @@ pub fn take_nodes(checker: &mut Checker, count: usize) -> Result<List<Node>, Rul
     ensures place { OnOk result (Stays checker.old checker.new) }
     ensures short { IfErr result (λ e. e ≡ RuleError.Memory) }
 {
-    let mut taken = List::new(checker.alloc);
+    let mut taken = checker.list_for(count)?;
     for _n in 0..count {
         take_one(checker, &mut taken)?;
     }

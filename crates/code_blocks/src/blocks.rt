@@ -71,8 +71,9 @@ impl Open {
         ensures { IfOk result (λ made. (made_of made ≡ build.made kind rank (rest_of self.old))
             × (rest_of self.new ≡ build.ending term self.old.node.0)) }
     {
-        let mut stmts = List::new(alloc);
-        let mut nodes = List::new(alloc);
+        let count = self.lines.len();
+        let mut stmts = List::from_vec(Vec::with_capacity(alloc, count)?);
+        let mut nodes = List::from_vec(Vec::with_capacity(alloc, count.saturating_add(1))?);
         take_lines(&mut self.lines, &mut stmts, &mut nodes)?;
         nodes.push(self.node)?;
         let block = Block {

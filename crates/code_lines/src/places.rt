@@ -79,7 +79,7 @@ pub(crate) fn operands(
 ) -> Result<List<Operand>, NoMemory>
     ensures { IfOk result (λ found. found ≡ build.operands_of (frame_of frame.entry) (operands_of 0 all.now)) }
 {
-    let mut found = List::new(alloc);
+    let mut found = List::from_vec(Vec::with_capacity(alloc, all.len())?);
     for one in all {
         found.push(operand(alloc, frame, one)?)?;
     }

@@ -71,7 +71,7 @@ fn take_fields(
     ensures place { OnOk result (Stays checker.old checker.new) }
     ensures short { IfErr result (λ e. e ≡ RuleError.Memory) }
 {
-    let mut taken = List::new(checker.alloc);
+    let mut taken = checker.list_for(given.len())?;
     let mut given = given;
     while let Some(number) = given.pop() {
         take_if(checker, &mut taken, number)?;

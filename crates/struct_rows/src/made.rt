@@ -61,8 +61,8 @@ fn take_fields(
     ensures place { OnOk result (Stays checker.old checker.new) }
     ensures short { IfErr result (λ e. e ≡ RuleError.Memory) }
 {
-    let mut taken = List::new(checker.alloc);
     let count = given.len();
+    let mut taken = checker.list_for(count)?;
     for back in 0..count {
         take_one(checker, &mut taken, number_at(given, count - 1 - back))?;
     }

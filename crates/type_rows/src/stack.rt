@@ -12,7 +12,7 @@ use crate::forms::{
     Four, Leaf, One, Three, Two, form_of_four, form_of_leaf, form_of_one, form_of_three,
     form_of_two,
 };
-use mir_base::{NodeId, Pos, RuleError};
+use mir_base::{List, NodeId, Pos, RuleError};
 use mir_ty::TyId;
 use std::alloc::Global;
 use typed_tree::{Form, Node, Use};
@@ -48,6 +48,17 @@ fn at_if_any(node: Option<&Node>) -> Pos
 }
 
 impl Checker {
+    /// An empty list with room for so many elements, which then take no more memory than they need.
+    pub fn list_for<T>(&self, count: usize) -> Result<List<T>, RuleError>
+        ensures empty { IfOk result (λ list. list ≡ []) }
+        ensures short { IfErr result (λ e. e ≡ RuleError.Memory) }
+    {
+        match Vec::with_capacity(self.alloc, count) {
+            Ok(elements) => Ok(List::from_vec(elements)),
+            Err(_) => Err(RuleError::Memory),
+        }
+    }
+
     /// The node that was made before so many later ones.
     #[tactic(auto, using(crate::proofs::Made::read_at, crate::proofs::Made::read_past))]
     pub fn made_at(&self, back: usize) -> Option<&Node>
