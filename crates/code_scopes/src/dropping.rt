@@ -10,6 +10,9 @@ use mir_ty::Items;
 use scope_code::Entry;
 use std::alloc::Global;
 
+/// For so many entries there is room before a list of drops grows: most lists are no longer.
+const ROOM: usize = 32;
+
 /// An entry is put behind others, if its type needs a drop.
 fn add_if_needing(items: &Items, entry: &Entry, drops: &mut Vec<Entry>) -> Result<(), NoMemory>
     ensures { OnOk result (map entry_of drops.new.items ≡
@@ -68,7 +71,7 @@ pub fn drops_none(items: &Items, entries: &Entries) -> bool
 pub fn panic_drops(alloc: Global, items: &Items, scopes: &Scopes) -> Result<List<Entry>, NoMemory>
     ensures { IfOk result (λ drops. entries_of drops ≡ needing_drop items.now (all_entries (scopes_of scopes.entry.now))) }
 {
-    let mut drops = Vec::new(alloc);
+    let mut drops = Vec::with_capacity(alloc, ROOM)?;
     let mut at = scopes;
     while let Scopes::Innermost(scope, around) = at {
         add_scope(items, scope, &mut drops)?;

@@ -22,7 +22,7 @@ pub struct Flow {
 fn empty_rows(alloc: Global, bits: u32, count: usize) -> Result<List<BitRow>, NoMemory>
     ensures { IfOk result (λ rows. rows ≡ replicate count (replicate bits false)) }
 {
-    let mut rows = List::new(alloc);
+    let mut rows = List::from_vec(Vec::with_capacity(alloc, count)?);
     for _ in 0..count {
         rows.push(BitRow::new(alloc, bits)?)?;
     }

@@ -98,7 +98,7 @@ impl Masks {
 fn no_rows(alloc: Global, bits: u32) -> Result<List<Option<BitRow>>, NoMemory>
     ensures { IfOk result (λ rows. rows ≡ replicate bits None) }
 {
-    let mut rows = List::new(alloc);
+    let mut rows = List::from_vec(Vec::with_capacity(alloc, bits as usize)?);
     for _ in 0..bits {
         rows.push(None)?;
     }

@@ -126,7 +126,7 @@ fn all_blocks(
 ) -> Result<List<BlockSwitches>, NoMemory>
     ensures { IfOk result (λ made. AreWays forest.now.paths gone made body.now.blocks) }
 {
-    let mut made = List::new(alloc);
+    let mut made = List::from_vec(Vec::with_capacity(alloc, body.blocks.len())?);
     let mut uses = List::new(alloc);
     for block in body.blocks.as_slice() {
         uses.truncate(0);
