@@ -141,7 +141,12 @@ fn built(alloc: Global, frame: Frame, body: &TBody) -> Result<List<Option<Made>>
     ensures { IfOk result (λ made.
         map (option_map made_of) made ≡ (low.built (frame_of frame.entry) (body_of body.now)).blocks) }
 {
-    let mut blocks = Blocks::new(alloc, Term::Return, body.block.id);
+    let mut blocks = Blocks::new(
+        alloc,
+        frame.locals.as_slice().len(),
+        Term::Return,
+        body.block.id,
+    )?;
     let done = build_body(alloc, frame, body, &mut blocks);
     let made = mem::replace(&mut blocks.made, List::new(alloc));
     drop(blocks);

@@ -87,19 +87,20 @@ impl Open {
 }
 
 impl Blocks {
-    /// No block, with what is open.
-    pub fn new(alloc: Global, term: Term, node: NodeId) -> Blocks
-        ensures { built_of result ≡ (build.ending term node.0, record { blocks = []; chains = [] }) }
+    /// No block, with what is open, and room for so many blocks.
+    pub fn new(alloc: Global, room: usize, term: Term, node: NodeId) -> Result<Blocks, NoMemory>
+        ensures { IfOk result (λ blocks. built_of blocks ≡ (build.ending term node.0, record { blocks = []; chains = [] })) }
     {
-        Blocks {
-            made: List::new(alloc),
+        let made = List::from_vec(Vec::with_capacity(alloc, room)?);
+        Ok(Blocks {
+            made,
             chains: List::new(alloc),
             rest: Open {
                 lines: List::new(alloc),
                 term,
                 node,
             },
-        }
+        })
     }
 
     /// The number of the next block.

@@ -88,10 +88,11 @@ pub(crate) fn take(frame: &mut Frame, point: Point, token: Token) -> Result<(), 
     Ok(())
 }
 
+/// The parts of a node that begins with a token. Most such nodes have no other part.
 fn one_part(alloc: Global, token: Token) -> Result<List<Piece>, NoMemory>
     ensures { IfOk result (λ parts. parts_in parts ≡ tok token end) }
 {
-    let mut parts = List::new(alloc);
+    let mut parts = List::from_vec(Vec::with_capacity(alloc, 1)?);
     parts.push(Piece::Token(token))?;
     Ok(parts)
 }
@@ -119,10 +120,11 @@ pub(crate) fn inside(
     })
 }
 
+/// The parts of a node that begins with another one and a token; one more is to come most often.
 fn node_and_token(alloc: Global, node: Node, token: Token) -> Result<List<Piece>, NoMemory>
     ensures { IfOk result (λ parts. parts_in parts ≡ sub (layout_of node) (tok token end)) }
 {
-    let mut parts = List::new(alloc);
+    let mut parts = List::from_vec(Vec::with_capacity(alloc, 3)?);
     parts.push(Piece::Node(node))?;
     parts.push(Piece::Token(token))?;
     Ok(parts)

@@ -8,4 +8,4 @@ pub returns : goal.returns
 returns c =
     let made : c.replace-made.result ≡ c.build_body-done.new.blocks.made = search rules in
     ap (λ all. map (option_map made_of) all) made
-    ∙ ap (λ (s : Building). s.blocks) (c.in_ok-done.ensures c.new-blocks.ensures)
+    ∙ ap (λ (s : Building). s.blocks) (c.in_ok-done.ensures c.in_ok-blocks.ensures)
