@@ -13,7 +13,7 @@ use crate::ways::Ways;
 use bumpalo::Bump;
 use cfg_graph::{Kind, Operand, Place, Stmt, Term, Unwind};
 use code_lines::{Frame, place, statement, terminator, whole_place};
-use code_scopes::{Scopes, panic_drops, take};
+use code_scopes::{Scopes, take};
 use mir_base::{Key, NoMemory, NodeId, Why};
 use scope_code::Action;
 use std::alloc::Global;
@@ -36,8 +36,9 @@ fn done(
         return blocks.add_line(line, node);
     }
     let then = blocks.close(alloc, Kind::Plain)?;
-    let drops = panic_drops(alloc, frame.items, scopes)?;
+    let drops = blocks.panic_drops(alloc, frame, scopes)?;
     let unwind = blocks.unwind_to(alloc, frame, drops.as_slice())?;
+    blocks.keep_room(drops);
     match terminator(alloc, frame, action, then, unwind)? {
         Some(term) => {
             blocks.end(alloc, term, node);
@@ -89,8 +90,9 @@ pub fn panic(
     ensures { OnOk result (built_of blocks.new ≡ build.unwinding (frame_of frame.entry) (Term.Panic why) node.0
         (build.panic_drops (frame_of frame.entry) (scopes_of scopes.entry.now)) (building_of blocks.old)) }
 {
-    let drops = panic_drops(alloc, frame.items, scopes)?;
+    let drops = blocks.panic_drops(alloc, frame, scopes)?;
     let unwind = blocks.unwind_to(alloc, frame, drops.as_slice())?;
+    blocks.keep_room(drops);
     blocks.end(alloc, Term::Panic { why, unwind }, node);
     Ok(())
 }
@@ -110,8 +112,10 @@ pub fn drop_under(
     ensures { OnOk result (built_of blocks.new ≡ build.drop_one (frame_of frame.entry) (site_of_key key.0)
         (build.panic_drops (frame_of frame.entry) (scopes_of scopes.entry.now)) (rest_of blocks.old.rest) (building_of blocks.old)) }
 {
-    let drops = panic_drops(alloc, frame.items, scopes)?;
-    blocks.drop_one(alloc, frame, key, drops.as_slice())
+    let drops = blocks.panic_drops(alloc, frame, scopes)?;
+    blocks.drop_one(alloc, frame, key, drops.as_slice())?;
+    blocks.keep_room(drops);
+    Ok(())
 }
 
 /// What stands under a key is stored at a place, before what is open.
@@ -149,8 +153,10 @@ fn unwind_without<'a>(
         (building_of blocks.old)) }
 {
     let without = take(bump, &[key], scopes)?;
-    let drops = panic_drops(alloc, frame.items, without)?;
-    blocks.chain(alloc, frame, drops.as_slice())
+    let drops = blocks.panic_drops(alloc, frame, without)?;
+    let number = blocks.chain(alloc, frame, drops.as_slice())?;
+    blocks.keep_room(drops);
+    Ok(number)
 }
 
 /// What a place holds is dropped, and what stands under a key is stored there, whether the drop panics or not.

@@ -38,13 +38,23 @@ pub struct Chain {
     pub block: u32,
 }
 
-/// The blocks so far, `None` where a number is given out and the block is still to be made; their chains of drops; and
-/// what is open.
+/// The blocks so far, `None` where a number is given out and the block is still to be made; their chains of drops; what
+/// is open; and a list whose memory is taken where it is asked what a panic drops, whatever it holds.
 #[derive(Drop)]
 pub struct Blocks {
     pub made: List<Option<Made>>,
     pub chains: List<Chain>,
     pub rest: Open,
+    pub room: List<Entry>,
+}
+
+/// Lists with room for the statements and the nodes of so many lines and a terminator.
+fn lists_for(alloc: Global, count: usize) -> Result<(List<Stmt>, List<NodeId>), NoMemory>
+    ensures { IfOk result (λ lists. (lists.0 ≡ []) × (lists.1 ≡ [])) }
+{
+    let nodes = Vec::with_capacity(alloc, count.saturating_add(1))?;
+    let stmts = Vec::with_capacity(alloc, count)?;
+    Ok((List::from_vec(stmts), List::from_vec(nodes)))
 }
 
 /// Lines are taken apart, from the last to the first.
@@ -71,9 +81,7 @@ impl Open {
         ensures { IfOk result (λ made. (made_of made ≡ build.made kind rank (rest_of self.old))
             × (rest_of self.new ≡ build.ending term self.old.node.0)) }
     {
-        let count = self.lines.len();
-        let mut stmts = List::from_vec(Vec::with_capacity(alloc, count)?);
-        let mut nodes = List::from_vec(Vec::with_capacity(alloc, count.saturating_add(1))?);
+        let (mut stmts, mut nodes) = lists_for(alloc, self.lines.len())?;
         take_lines(&mut self.lines, &mut stmts, &mut nodes)?;
         nodes.push(self.node)?;
         let block = Block {
@@ -100,6 +108,7 @@ impl Blocks {
                 term,
                 node,
             },
+            room: List::new(alloc),
         })
     }
 

@@ -1,5 +1,5 @@
 //! Drops.
-ghost use Rattle.std.specs.Prelude.{◌≡◌, ◌∷◌, ◌++◌, [], OnOk};
+ghost use Rattle.std.specs.Prelude.{◌≡◌, ◌∷◌, ◌++◌, [], IfOk, OnOk};
 ghost use Rattle.cfg_build.specs.Build as build;
 ghost use Rattle.code_lines.specs.Framed.{frame_of};
 ghost use Rattle.code_scopes.specs.Scoped.{entries_of, held, scopes_of};
@@ -17,8 +17,32 @@ use code_scopes::{Entries, Scopes, drops_none, panic_drops};
 use mir_base::{Key, List, NoMemory, NodeId};
 use scope_code::Entry;
 use std::alloc::Global;
+use std::mem;
 
 impl Blocks {
+    /// What a panic drops in these scopes, the youngest last, in the list that is kept for it.
+    pub fn panic_drops(
+        &mut self,
+        alloc: Global,
+        frame: Frame,
+        scopes: &Scopes,
+    ) -> Result<List<Entry>, NoMemory>
+        ensures drops { IfOk result (λ drops. entries_of drops ≡ build.panic_drops (frame_of frame.entry) (scopes_of scopes.entry.now)) }
+        ensures rest { OnOk result (rest_of self.new.rest ≡ rest_of self.old.rest) }
+        ensures building { OnOk result (building_of self.new ≡ building_of self.old) }
+    {
+        let room = mem::replace(&mut self.room, List::new(alloc));
+        panic_drops(frame.items, scopes, room)
+    }
+
+    /// A list is kept for what the next panic drops.
+    pub fn keep_room(&mut self, list: List<Entry>)
+        ensures rest { rest_of self.new.rest ≡ rest_of self.old.rest }
+        ensures building { building_of self.new ≡ building_of self.old }
+    {
+        self.room = list;
+    }
+
     /// What stands under a key is dropped, and these entries, the youngest last, after a panic out of it.
     pub fn drop_one(
         &mut self,
@@ -100,7 +124,9 @@ impl Blocks {
         if drops_none(frame.items, entries) {
             return Ok(());
         }
-        let mut below = panic_drops(alloc, frame.items, around)?;
-        self.drop_each(alloc, frame, entries, &mut below)
+        let mut below = self.panic_drops(alloc, frame, around)?;
+        self.drop_each(alloc, frame, entries, &mut below)?;
+        self.keep_room(below);
+        Ok(())
     }
 }

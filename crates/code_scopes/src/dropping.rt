@@ -8,10 +8,6 @@ use crate::scope::{Entries, Scope, Scopes};
 use mir_base::{List, NoMemory};
 use mir_ty::Items;
 use scope_code::Entry;
-use std::alloc::Global;
-
-/// For so many entries there is room before a list of drops grows: most lists are no longer.
-const ROOM: usize = 32;
 
 /// An entry is put behind others, if its type needs a drop.
 fn add_if_needing(items: &Items, entry: &Entry, drops: &mut Vec<Entry>) -> Result<(), NoMemory>
@@ -63,15 +59,20 @@ pub fn drops_none(items: &Items, entries: &Entries) -> bool
 }
 
 /// What a panic drops in these scopes, the youngest last: the entries and pending destinations whose types need a drop.
-/// It costs as many steps as there are entries.
+/// They take the memory of a list that is no longer needed, whose entries go. It costs as many steps as there are entries.
 ///
 /// # Errors
 ///
 /// [`NoMemory`] where memory is wanted.
-pub fn panic_drops(alloc: Global, items: &Items, scopes: &Scopes) -> Result<List<Entry>, NoMemory>
+pub fn panic_drops(
+    items: &Items,
+    scopes: &Scopes,
+    room: List<Entry>,
+) -> Result<List<Entry>, NoMemory>
     ensures { IfOk result (λ drops. entries_of drops ≡ needing_drop items.now (all_entries (scopes_of scopes.entry.now))) }
 {
-    let mut drops = Vec::with_capacity(alloc, ROOM)?;
+    let mut drops = room.into_vec();
+    drops.clear();
     let mut at = scopes;
     while let Scopes::Innermost(scope, around) = at {
         add_scope(items, scope, &mut drops)?;

@@ -33,9 +33,12 @@ returns-in-Some c =
     let is : term_by by c.in_ok-then.then c.in_ok-unwind.unwind ≡ Some c.in-Some.term =
     sym (c.in_ok-term.ensures ∙ ap (λ (d : Done). term_by d c.in_ok-then.then c.in_ok-unwind.unwind) (effect_same f node c.args.action.now))
     ∙ c.in-Some.is in
-    let closed : building_of c.close.new.self ≡ build.closed Kind.Plain k s = ap (λ b. b.1) c.in_ok-then.ensures.1 in
-    let drops : entries_of c.as_slice.result.now ≡ build.panic_drops f S = search rules in
+    let closed : building_of c.panic_drops.new.self ≡ build.closed Kind.Plain k s =
+    c.in_ok-drops.ensures.building ∙ ap (λ b. b.1) c.in_ok-then.ensures.1 in
+    let slice : c.as_slice.result.now ≡ c.in_ok-drops.drops = search rules in
+    let drops : entries_of c.as_slice.result.now ≡ build.panic_drops f S = ap entries_of slice ∙ c.in_ok-drops.ensures.drops in
     let unwound : (c.in_ok-unwind.unwind, building_of c.unwind_to.new.self) ≡ build.unwind_to f (build.panic_drops f S) (build.closed Kind.Plain k s) =
     c.in_ok-unwind.ensures ∙ (λ i. build.unwind_to f (drops i) (closed i)) in
     c.end.ensures
+    ∙ ap (λ (b : Building). (build.ending c.in-Some.term node, b)) c.keep_room.ensures.building
     ∙ done_is f node by S k s c.in_ok-then.then c.in_ok-unwind.unwind c.in-Some.term (building_of c.unwind_to.new.self) is c.in_ok-then.ensures.0 unwound

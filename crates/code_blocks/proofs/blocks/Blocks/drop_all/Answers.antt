@@ -1,10 +1,9 @@
-use Rattle.std.proofs.Common.{List, refl, sym, ap}
-use Rattle.std.proofs.lemmas.Result.{on_ok_weaker}
-use Rattle.cfg_build.specs.Build.{drop_all}
+use Rattle.std.proofs.Common.{◌∙◌, List, refl, sym, ap}
+use Rattle.cfg_build.specs.Build.{Frame, drop_all}
 use Rattle.code_blocks.specs.Building.{rest_of, building_of}
 use Rattle.code_lines.specs.Framed.{frame_of}
-use Rattle.code_scopes.specs.Scoped.{scopes_of}
-use Rattle.src_meaning.specs.Scopes.{Entry}
+use Rattle.code_scopes.specs.Scoped.{held, scopes_of}
+use Rattle.src_meaning.specs.Scopes.{Entry, Scopes, needing_drop}
 use Rattle.code_blocks.proofs.blocks.Blocks.drop_all.Goals as goal
 
 pub returns-then-drops_none : goal.returns-then-drops_none
@@ -14,4 +13,9 @@ returns-then-drops_none c =
 
 pub returns : goal.returns
 returns c =
-    on_ok_weaker c.drop_each.result (λ made. made.1 (scopes_of c.args.around.now) c.in_ok-below.ensures) c.drop_each.ensures
+    let f : Frame = frame_of c.args.frame in
+    let S : Scopes = scopes_of c.args.around.now in
+    let es : List Entry = needing_drop c.args.frame.items.now (held c.args.entries.now) in
+    (λ i. (c.keep_room.ensures.rest i, c.keep_room.ensures.building i))
+    ∙ c.in_ok-drop_each.ensures.1 S c.in_ok-below.ensures.drops
+    ∙ (λ i. drop_all f es S (c.in_ok-below.ensures.rest i) (c.in_ok-below.ensures.building i))
