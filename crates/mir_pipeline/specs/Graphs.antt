@@ -25,8 +25,8 @@ use Rattle.mir_pipeline.specs.declared.refusal.Refusal.{Refusal}
 use Rattle.mir_pipeline.specs.declared.refusal.Refusal.TheVariants as refusal
 use Rattle.mir_pipeline.specs.declared.uses.LineOfUse.{LineOfUse}
 
--- ---- the site of a bad use: that of its line; where an assignment drops what stood there, that of the store behind the
--- drop
+-- ---- the site of a bad use: that of its line; where an assignment drops what stood there, that of the store behind
+-- the drop
 
 abbrev pub behind_drop : Term → LineOfUse → LineOfUse
 behind_drop (Term.DropAt place next unwind) own = record { block = next; line = 0 }
@@ -41,7 +41,8 @@ told_by true (Some block) own = behind_drop block.term own
 told_by is_drop block own = own
 
 abbrev pub block_of : Graph → (body block : ℕ) → Option Block
-block_of graph body block = option_and_then (λ (found : Body). slice_get found.blocks block) (slice_get graph.bodies body)
+block_of graph body block =
+    option_and_then (λ (found : Body). slice_get found.blocks block) (slice_get graph.bodies body)
 
 abbrev pub line_told : Graph → BadUse → LineOfUse
 line_told graph bad =
@@ -58,11 +59,14 @@ pub record IsFirstBad (graph : Graph) (rule : UseRule) (bad : BadUse) : Type 0 w
   pub body : Body
   pub there : slice_get graph.bodies bad.body ≡ Some body
   pub refused : IsRefused graph.items body bad.body rule bad
-  pub first : (n : ℕ) (earlier : Body) → n < bad.body → slice_get graph.bodies n ≡ Some earlier → MeetsNone graph.items earlier
+  pub first :
+      (n : ℕ) (earlier : Body) → n < bad.body → slice_get graph.bodies n ≡ Some earlier →
+      MeetsNone graph.items earlier
 
 -- each bad use has a site
 abbrev pub AreSited : Lowered → Type 0
-AreSited lowered = (rule : UseRule) (bad : BadUse) → IsFirstBad lowered.graph rule bad → is_some (site_of lowered bad) ≡ true
+AreSited lowered =
+    (rule : UseRule) (bad : BadUse) → IsFirstBad lowered.graph rule bad → is_some (site_of lowered bad) ≡ true
 
 -- The raw graph of a program, with the sites of its uses. It is well formed, and its lists are short. It runs as the
 -- program does, up to the place where both are stuck; each body walks as it runs freely, its paths meet exactly the
@@ -100,9 +104,9 @@ pub record IsBadAt (lowered : Lowered) (rule : UseRule) (bad : BadUse) (site : S
   pub is_bad : IsFirstBad lowered.graph rule bad
   pub told : site_of lowered bad ≡ Some site
 
--- The same use in the source: with the choices of the refusal the free run of its body is refused, at the use's place and
--- the node of its line. Of all lists of choices by which a free run of that body is refused this is a shortest one, and
--- the least of the shortest; and no free run of an earlier body is refused.
+-- The same use in the source: with the choices of the refusal the free run of its body is refused, at the use's place
+-- and the node of its line. Of all lists of choices by which a free run of that body is refused this is a shortest one,
+-- and the least of the shortest; and no free run of an earlier body is refused.
 pub record IsRefusedInSource (program : ProgramTree) (bad : BadUse) : Type 0 where
   pub tree : BodyTree
   pub there : slice_get program.bodies bad.body ≡ Some tree
@@ -126,7 +130,9 @@ RefusesUses lowered other = ⊥
 -- ---- why a text has no graph that is accepted
 
 -- The raw graph of a program that is not accepted: a use of it is refused, which a free run of the source meets.
-pub record IsRefusedAs (program : ProgramTree) (lowered : Lowered) (rule : UseRule) (bad : BadUse) (site : Site) : Type 0 where
+pub record IsRefusedAs
+    (program : ProgramTree) (lowered : Lowered) (rule : UseRule) (bad : BadUse) (site : Site)
+    : Type 0 where
   pub lowered_is : IsGraphOf program lowered
   pub refused : IsBadAt lowered rule bad site
   pub source : IsRefusedInSource program bad

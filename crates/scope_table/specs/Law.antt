@@ -116,10 +116,12 @@ module _ {W : Type 0} (items : ItemTable) (p : Effects W) (fuel : ℕ) (n : Node
   abbrev pub made_of_statement : Around → Does W
   made_of_statement around = pending_if items p true innermost (meaning items p fuel n).head >> made_in around innermost
 
--- A node as a statement or as another value that makes no entry, as an operand, as the value of an expression statement,
--- as a place or a temporary, as a scope for temporaries of its own; and the names of a pattern. An operand, the value of
--- a statement or a temporary is made while its destination is pending where its row says.
-pub record Puts {W : Type 0} (items : ItemTable) (p : Effects W) (fuel : ℕ) (heads : List ScopeHead) (w : Within) (n : Node) : Type 0 where
+-- A node as a statement or as another value that makes no entry, as an operand, as the value of an expression
+-- statement, as a place or a temporary, as a scope for temporaries of its own; and the names of a pattern. An operand,
+-- the value of a statement or a temporary is made while its destination is pending where its row says.
+pub record Puts
+    {W : Type 0} (items : ItemTable) (p : Effects W) (fuel : ℕ) (heads : List ScopeHead) (w : Within) (n : Node)
+    : Type 0 where
   pub evaluated : (around : Around) (to : Destination) →
       Enters heads (rows w nothing n) ((meaning items p fuel n).evaluate around false to)
   pub as_operand : (around : Around) →
@@ -131,21 +133,27 @@ pub record Puts {W : Type 0} (items : ItemTable) (p : Effects W) (fuel : ℕ) (h
   pub by_itself : (around : Around) (to : Destination) →
       Enters heads (alone_rows n) (alone items p around (meaning items p fuel n) to)
   pub names : (place : Place) →
-      Enters heads (pattern_rows w.temporary (name_in w.innermost) n) (bind items p innermost ((shape items n).bindings place))
+      Enters heads (pattern_rows w.temporary (name_in w.innermost) n)
+      (bind items p innermost ((shape items n).bindings place))
   pub operand_waits : (around : Around) (S : Scopes) → map head_of S ≡ heads → (x : W) →
       operand items p around (meaning items p fuel n) S x
-      ≡ made_in items p fuel n around innermost (waiting (entry_in w.innermost n).destination (entry_in_run items p fuel n) S) x
+      ≡ made_in items p fuel n around innermost
+      (waiting (entry_in w.innermost n).destination (entry_in_run items p fuel n) S) x
   pub statement_waits : (around : Around) (S : Scopes) → map head_of S ≡ heads → (x : W) →
       made_of_statement items p fuel n around S x
-      ≡ made_in items p fuel n around innermost (waiting (pending_in w.innermost).destination (entry_in_run items p fuel n) S) x
-  pub temporary_waits : (around : Around) (S : Scopes) → map head_of S ≡ heads → (x : W) → is_place_form (form_of n) ≡ false →
+      ≡ made_in items p fuel n around innermost
+      (waiting (pending_in w.innermost).destination (entry_in_run items p fuel n) S) x
+  pub temporary_waits : (around : Around) (S : Scopes) → map head_of S ≡ heads → (x : W) →
+      is_place_form (form_of n) ≡ false →
       (meaning items p fuel n).reach around S x
-      ≡ made_in items p fuel n around nearest_temporary (waiting (reached_in w.temporary n).destination (entry_in_run items p fuel n) S) x
+      ≡ made_in items p fuel n around nearest_temporary
+      (waiting (reached_in w.temporary n).destination (entry_in_run items p fuel n) S) x
 
--- Evaluation puts entries where the table says: those of all nodes, in scopes that stand as the table takes them to, and
--- those of the parameters of a body, in that of the entire function. Of all effects on such a world.
+-- Evaluation puts entries where the table says: those of all nodes, in scopes that stand as the table takes them to,
+-- and those of the parameters of a body, in that of the entire function. Of all effects on such a world.
 pub record PutsWhereTheTableSays (W : Type 0) : Type 0 where
   pub nodes : (items : ItemTable) (p : Effects W) (fuel : ℕ) (heads : List ScopeHead) (w : Within) (n : Node) →
       StandsIn w heads → IsNew n heads → Puts items p fuel heads w n
-  pub params : (items : ItemTable) (p : Effects W) (fuel : ℕ) (heads : List ScopeHead) (scope : NodeId) (params : List ParamTree) →
+  pub params : (items : ItemTable) (p : Effects W) (fuel : ℕ) (heads : List ScopeHead) (scope : NodeId)
+      (params : List ParamTree) →
       IsInnermost scope heads → Enters heads (rows_of_params scope params) (params_entered items p fuel params)

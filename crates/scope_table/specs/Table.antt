@@ -124,7 +124,8 @@ where_false false rows = rows
 abbrev mutual
   pub pattern_rows : (temporary : NodeId) (name : Made) → Node → List Row
   pattern_rows t name (node id at ty by form) =
-      row (named id) t (by_name name form) ∷ part_rows t name form ++ where_false (has_parts form) (idle t (nodes_in form))
+      row (named id) t (by_name name form)
+      ∷ part_rows t name form ++ where_false (has_parts form) (idle t (nodes_in form))
 
   pub part_rows : (temporary : NodeId) (name : Made) → Form → List Row
   part_rows t name (StructPattern fields) = pattern_rows_of_fields t name fields
@@ -135,7 +136,8 @@ abbrev mutual
 
   pub pattern_rows_of_fields : (temporary : NodeId) (name : Made) → Fields → List Row
   pattern_rows_of_fields t name no_field = []
-  pattern_rows_of_fields t name (a_field number value rest) = pattern_rows t name value ++ pattern_rows_of_fields t name rest
+  pattern_rows_of_fields t name (a_field number value rest) =
+      pattern_rows t name value ++ pattern_rows_of_fields t name rest
 
   pub pattern_rows_among : (temporary : NodeId) (name : Made) → Nodes → List Row
   pattern_rows_among t name no_node = []
@@ -161,8 +163,9 @@ abbrev pub initial : NodeId → Form → Node → Made
 initial id (Binding text) n = nothing
 initial id form n = pending_if_value id n
 
--- The rows of a node and those below it, in the order in which they are complete: what is in it, and what it makes for what
--- is around it. A node that is a temporary scope of its own is the nearest and the innermost scope for what is in it.
+-- The rows of a node and those below it, in the order in which they are complete: what is in it, and what it makes for
+-- what is around it. A node that is a temporary scope of its own is the nearest and the innermost scope for what is in
+-- it.
 abbrev mutual
   pub rows : Within → Made → Node → List Row
   rows w made (node id at ty by form) =
