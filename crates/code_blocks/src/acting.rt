@@ -139,6 +139,54 @@ fn store(
     blocks.add_line(Stmt::Put(to, Operand::Moved(from)), node)
 }
 
+/// What stands under a key is stored at a place, in a block of its own.
+fn store_in_block(
+    alloc: Global,
+    frame: Frame,
+    node: NodeId,
+    to: &Place,
+    key: Key,
+    kind: Kind,
+    blocks: &mut Blocks,
+) -> Result<u32, NoMemory>
+    ensures { IfOk result (λ number. (number ≡ build.next_number (building_of blocks.old))
+        × (building_of blocks.new ≡ build.closed kind
+        (build.with_line
+        (build.put_into (frame_of frame.entry) (record { node = node.0; place = named to.now }) key.0) node.0
+        (rest_of blocks.old.rest))
+        (building_of blocks.old))) }
+{
+    store(alloc, frame, node, to, key, blocks)?;
+    blocks.close(alloc, kind)
+}
+
+/// What a place holds is dropped.
+fn drop_at(
+    alloc: Global,
+    frame: Frame,
+    node: NodeId,
+    of: &Place,
+    then: u32,
+    unwind: Unwind,
+    blocks: &mut Blocks,
+) -> Result<(), NoMemory>
+    ensures { OnOk result (built_of blocks.new ≡ (
+      build.ending
+          (Term.DropAt (build.place_of (frame_of frame.entry) (record { node = node.0; place = named of.now })) then unwind)
+          node.0,
+      building_of blocks.old,
+    )) }
+{
+    let place = place(alloc, frame, of)?;
+    let term = Term::DropAt {
+        place,
+        then,
+        unwind,
+    };
+    blocks.end(alloc, term, node);
+    Ok(())
+}
+
 /// What a panic drops once what stands under a key is taken.
 fn unwind_without<'a>(
     alloc: Global,
@@ -178,18 +226,9 @@ pub fn replace<'a>(
         (record { node = node.0; place = named to.now }) key.0 (scopes_of scopes.entry.now)
         (rest_of blocks.old.rest) (building_of blocks.old)) }
 {
-    store(alloc, frame, node, to, key, blocks)?;
-    let then = blocks.close(alloc, Kind::Plain)?;
+    let then = store_in_block(alloc, frame, node, to, key, Kind::Plain, blocks)?;
     let down = unwind_without(alloc, bump, frame, key, scopes, blocks)?;
     blocks.end(alloc, Term::Goto(down), node);
-    store(alloc, frame, node, to, key, blocks)?;
-    let unwind = Unwind::Block(blocks.close(alloc, Kind::Cleanup)?);
-    let place = place(alloc, frame, to)?;
-    let term = Term::DropAt {
-        place,
-        then,
-        unwind,
-    };
-    blocks.end(alloc, term, node);
-    Ok(())
+    let unwind = store_in_block(alloc, frame, node, to, key, Kind::Cleanup, blocks)?;
+    drop_at(alloc, frame, node, to, then, Unwind::Block(unwind), blocks)
 }

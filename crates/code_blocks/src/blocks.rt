@@ -1,5 +1,5 @@
 //! Blocks that are made, and the lines of the one that is open.
-ghost use Rattle.std.specs.Prelude.{◌≡◌, ◌++◌, [], IfOk, OnOk, map, reverse};
+ghost use Rattle.std.specs.Prelude.{◌≡◌, ◌++◌, ◌∷◌, [], IfOk, OnOk, map, reverse};
 ghost use Rattle.cfg_build.specs.Build as build;
 ghost use Rattle.code_blocks.specs.Building.{line_of, rest_of, made_of, building_of, built_of};
 
@@ -75,20 +75,66 @@ fn take_lines(
     Ok(())
 }
 
+/// All lines are taken apart, and the node of the terminator is the last.
+fn take_all(
+    lines: &mut List<Line>,
+    last: NodeId,
+    stmts: &mut List<Stmt>,
+    nodes: &mut List<NodeId>,
+) -> Result<(), NoMemory>
+    ensures { OnOk result ((lines.new ≡ [])
+        × ((stmts.new ≡ stmts.old ++ map (λ l. l.stmt) (reverse (map line_of lines.old)))
+        × (map (λ n. n.0) nodes.new
+        ≡ (map (λ n. n.0) nodes.old ++ map (λ l. l.node) (reverse (map line_of lines.old))) ++ last.0 ∷ []))) }
+{
+    take_lines(lines, stmts, nodes)?;
+    nodes.push(last)
+}
+
+/// The statements of lines, and their nodes with the terminator's behind them.
+fn taken(
+    alloc: Global,
+    lines: &mut List<Line>,
+    last: NodeId,
+) -> Result<(List<Stmt>, List<NodeId>), NoMemory>
+    ensures { IfOk result (λ lists. (lines.new ≡ [])
+        × ((lists.0 ≡ map (λ l. l.stmt) (reverse (map line_of lines.old)))
+        × (map (λ n. n.0) lists.1 ≡ map (λ l. l.node) (reverse (map line_of lines.old)) ++ last.0 ∷ []))) }
+{
+    let (mut stmts, mut nodes) = lists_for(alloc, lines.len())?;
+    match take_all(lines, last, &mut stmts, &mut nodes) {
+        Ok(()) => Ok((stmts, nodes)),
+        Err(error) => {
+            drop(stmts);
+            Err(error)
+        }
+    }
+}
+
 impl Open {
-    /// What is open becomes a block, and what goes to another block is open behind it.
-    fn finish(&mut self, alloc: Global, kind: Kind, rank: u32, term: Term) -> Result<Made, NoMemory>
-        ensures { IfOk result (λ made. (made_of made ≡ build.made kind rank (rest_of self.old))
-            × (rest_of self.new ≡ build.ending term self.old.node.0)) }
+    /// Only a terminator is open.
+    fn ending(alloc: Global, term: Term, node: NodeId) -> Open
+        ensures { rest_of result ≡ build.ending term node.0 }
     {
-        let (mut stmts, mut nodes) = lists_for(alloc, self.lines.len())?;
-        take_lines(&mut self.lines, &mut stmts, &mut nodes)?;
-        nodes.push(self.node)?;
+        Open {
+            lines: List::new(alloc),
+            term,
+            node,
+        }
+    }
+
+    /// What is open becomes a block, and what goes to another block is open behind it.
+    fn finish(&mut self, alloc: Global, kind: Kind, rank: u32, to: u32) -> Result<Made, NoMemory>
+        ensures { IfOk result (λ made. (made_of made ≡ build.made kind rank (rest_of self.old))
+            × (rest_of self.new ≡ build.ending (Term.Goto to) self.old.node.0)) }
+    {
+        let (stmts, nodes) = taken(alloc, &mut self.lines, self.node)?;
+        let term = mem::replace(&mut self.term, Term::Goto(to));
         let block = Block {
             kind,
             rank,
             stmts,
-            term: mem::replace(&mut self.term, term),
+            term,
         };
         Ok(Made { block, nodes })
     }
@@ -99,17 +145,18 @@ impl Blocks {
     pub fn new(alloc: Global, room: usize, term: Term, node: NodeId) -> Result<Blocks, NoMemory>
         ensures { IfOk result (λ blocks. built_of blocks ≡ (build.ending term node.0, record { blocks = []; chains = [] })) }
     {
-        let made = List::from_vec(Vec::with_capacity(alloc, room)?);
-        Ok(Blocks {
-            made,
-            chains: List::new(alloc),
-            rest: Open {
-                lines: List::new(alloc),
-                term,
-                node,
-            },
-            room: List::new(alloc),
-        })
+        match Vec::with_capacity(alloc, room) {
+            Ok(made) => Ok(Blocks {
+                made: List::from_vec(made),
+                chains: List::new(alloc),
+                rest: Open::ending(alloc, term, node),
+                room: List::new(alloc),
+            }),
+            Err(_) => {
+                drop(term);
+                Err(NoMemory)
+            }
+        }
     }
 
     /// The number of the next block.
@@ -132,7 +179,7 @@ impl Blocks {
             ))) }
     {
         let number = self.next_number()?;
-        let made = self.rest.finish(alloc, kind, number, Term::Goto(number))?;
+        let made = self.rest.finish(alloc, kind, number, number)?;
         self.made.push(Some(made))?;
         Ok(number)
     }
@@ -155,9 +202,11 @@ impl Blocks {
         )) }
     {
         let rank = self.next_number()?;
-        let made = self.rest.finish(alloc, kind, rank, Term::Goto(number))?;
+        let made = self.rest.finish(alloc, kind, rank, number)?;
         if (number as usize) < self.made.len() {
             self.made.set(number as usize, Some(made));
+        } else {
+            drop(made);
         }
         Ok(())
     }
@@ -166,11 +215,7 @@ impl Blocks {
     pub fn end(&mut self, alloc: Global, term: Term, node: NodeId)
         ensures { built_of self.new ≡ (build.ending term node.0, building_of self.old) }
     {
-        self.rest = Open {
-            lines: List::new(alloc),
-            term,
-            node,
-        };
+        drop(mem::replace(&mut self.rest, Open::ending(alloc, term, node)));
     }
 
     /// A statement stands before what is open.

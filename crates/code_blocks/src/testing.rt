@@ -1,12 +1,12 @@
 //! Tests.
-ghost use Rattle.std.specs.Prelude.{◌≡◌, ℕ, OnOk, map};
+ghost use Rattle.std.specs.Prelude.{◌≡◌, ℕ, IfOk, OnOk, map};
 ghost use Rattle.cfg_build.specs.Build as build;
 ghost use Rattle.cfg_build.specs.Codes.{asked};
 ghost use Rattle.cfg_graph.specs.Places.{named};
 ghost use Rattle.code_lines.specs.Framed.{frame_of};
 ghost use Rattle.pattern_lower.specs.Seen.{test_of, tests_in, alternatives_from};
 ghost use Rattle.scope_code.specs.View.{condition_of};
-ghost use Rattle.src_meaning.specs.Forms.{moved};
+ghost use Rattle.src_meaning.specs.Forms.{moved, site_of_key};
 ghost use Rattle.store_model.specs.Effects as effects;
 ghost use Rattle.code_blocks.specs.Building.{built_of, rest_of, building_of};
 
@@ -35,6 +35,32 @@ pub fn if_true(
     Ok(())
 }
 
+/// One of two blocks by the truth value under the key of a node; its place, and the place that it is about.
+fn asked_about(
+    alloc: Global,
+    frame: Frame,
+    node: NodeId,
+    at: &Place,
+    yes: u32,
+    no: u32,
+    blocks: &mut Blocks,
+) -> Result<(Place, Place), NoMemory>
+    ensures { IfOk result (λ places. (places.0 ≡ build.place_of (frame_of frame.entry) (site_of_key node.0))
+        × ((places.1 ≡ build.place_of (frame_of frame.entry) (record { node = node.0; place = named at.now }))
+        × (built_of blocks.new ≡ build.if_true (frame_of frame.entry) (moved node.0 node.0) node.0 yes no
+        (building_of blocks.old)))) }
+{
+    if_true(alloc, frame, Key(node.0), yes, no, blocks)?;
+    let truth = whole_place(alloc, frame, Key(node.0))?;
+    match place(alloc, frame, at) {
+        Ok(at) => Ok((truth, at)),
+        Err(error) => {
+            drop(truth);
+            Err(error)
+        }
+    }
+}
+
 /// One of two blocks by whether a place has a value.
 fn equals(
     alloc: Global,
@@ -50,10 +76,16 @@ fn equals(
         built_of blocks.new ≡ build.equals (frame_of frame.entry) (record { node = node.0; place = named at.now }) plain
         yes no (building_of blocks.old)) }
 {
-    if_true(alloc, frame, Key(node.0), yes, no, blocks)?;
-    let truth = whole_place(alloc, frame, Key(node.0))?;
-    let at = Operand::Copied(place(alloc, frame, at)?);
-    blocks.add_line(Stmt::Compare(truth, Cmp::Eq, at, value), node)
+    match asked_about(alloc, frame, node, at, yes, no, blocks) {
+        Ok((truth, at)) => {
+            let stmt = Stmt::Compare(truth, Cmp::Eq, Operand::Copied(at), value);
+            blocks.add_line(stmt, node)
+        }
+        Err(error) => {
+            drop(value);
+            Err(error)
+        }
+    }
 }
 
 /// One of two blocks by a test.

@@ -85,3 +85,83 @@ pub(crate) fn operands(
     }
     Ok(found)
 }
+
+/// A place and an operand.
+pub(crate) fn place_and_operand(
+    alloc: Global,
+    frame: Frame,
+    to: &Place,
+    from: &Operand,
+) -> Result<(Place, Operand), NoMemory>
+    ensures { IfOk result (λ found. (found.0 ≡ build.place_of (frame_of frame.entry) (site_of 0 to.now))
+        × (found.1 ≡ build.operand_of (frame_of frame.entry) (operand_of 0 from.now))) }
+{
+    let from = operand(alloc, frame, from)?;
+    match place(alloc, frame, to) {
+        Ok(to) => Ok((to, from)),
+        Err(error) => {
+            drop(from);
+            Err(error)
+        }
+    }
+}
+
+/// A place and operands in order.
+pub(crate) fn place_and_operands(
+    alloc: Global,
+    frame: Frame,
+    to: &Place,
+    parts: &[Operand],
+) -> Result<(Place, List<Operand>), NoMemory>
+    ensures { IfOk result (λ found. (found.0 ≡ build.place_of (frame_of frame.entry) (site_of 0 to.now))
+        × (found.1 ≡ build.operands_of (frame_of frame.entry) (operands_of 0 parts.now))) }
+{
+    let parts = operands(alloc, frame, parts)?;
+    match place(alloc, frame, to) {
+        Ok(to) => Ok((to, parts)),
+        Err(error) => {
+            drop(parts);
+            Err(error)
+        }
+    }
+}
+
+/// Two operands.
+pub(crate) fn two_operands(
+    alloc: Global,
+    frame: Frame,
+    left: &Operand,
+    right: &Operand,
+) -> Result<(Operand, Operand), NoMemory>
+    ensures { IfOk result (λ found. (found.0 ≡ build.operand_of (frame_of frame.entry) (operand_of 0 left.now))
+        × (found.1 ≡ build.operand_of (frame_of frame.entry) (operand_of 0 right.now))) }
+{
+    let left = operand(alloc, frame, left)?;
+    match operand(alloc, frame, right) {
+        Ok(right) => Ok((left, right)),
+        Err(error) => {
+            drop(left);
+            Err(error)
+        }
+    }
+}
+
+/// Two places.
+pub(crate) fn two_places(
+    alloc: Global,
+    frame: Frame,
+    to: &Place,
+    of: &Place,
+) -> Result<(Place, Place), NoMemory>
+    ensures { IfOk result (λ found. (found.0 ≡ build.place_of (frame_of frame.entry) (site_of 0 to.now))
+        × (found.1 ≡ build.place_of (frame_of frame.entry) (site_of 0 of.now))) }
+{
+    let to = place(alloc, frame, to)?;
+    match place(alloc, frame, of) {
+        Ok(of) => Ok((to, of)),
+        Err(error) => {
+            drop(to);
+            Err(error)
+        }
+    }
+}
