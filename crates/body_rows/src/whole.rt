@@ -55,7 +55,10 @@ fn ordered(alloc: Global, body: TBody) -> Result<TBody, RuleError>
     let mut body = body;
     match number_in_text_order(alloc, &mut body) {
         Ok(()) => Ok(body),
-        Err(_) => Err(RuleError::Memory),
+        Err(_) => {
+            drop(body);
+            Err(RuleError::Memory)
+        }
     }
 }
 

@@ -42,15 +42,19 @@ impl Heads {
     {
         let adt_count = adt_count(&items);
         let trait_count = trait_count(&items);
-        let adts = adt_numbers(alloc, &items, adt_count)?;
-        let traits = trait_numbers(alloc, &items, trait_count)?;
-        Ok(Heads {
-            items,
-            adts,
-            adt_count,
-            traits,
-            trait_count,
-        })
+        match numbers_of_both(alloc, &items, adt_count, trait_count) {
+            Ok((adts, traits)) => Ok(Heads {
+                items,
+                adts,
+                adt_count,
+                traits,
+                trait_count,
+            }),
+            Err(error) => {
+                drop(items);
+                Err(error)
+            }
+        }
     }
 
     /// The items without their tables.
@@ -175,4 +179,21 @@ fn trait_numbers(
         }
     }
     Ok(numbers)
+}
+
+/// The numbers of the names of structs and enums, and those of the names of traits.
+fn numbers_of_both(
+    alloc: Global,
+    items: &Items,
+    adt_count: u32,
+    trait_count: u32,
+) -> Result<(HashMap<Vec<u8>, u32>, HashMap<Vec<u8>, u32>), NoMemory>
+    requires adts { adt_count ≡ length items.now.adts }
+    requires traits { trait_count ≡ length items.now.traits }
+    ensures adts { IfOk result (λ both. (name : Listed ℕ) → number_in both.0 adt_count name ≡ adt_no items.now name) }
+    ensures traits { IfOk result (λ both. (name : Listed ℕ) → number_in both.1 trait_count name ≡ trait_no items.now name) }
+{
+    let adts = adt_numbers(alloc, items, adt_count)?;
+    let traits = trait_numbers(alloc, items, trait_count)?;
+    Ok((adts, traits))
 }

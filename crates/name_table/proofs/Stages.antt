@@ -6,10 +6,10 @@ use Rattle.mir_base.specs.declared.rule.RuleError.{RuleError}
 use Rattle.mir_ty.specs.ItemTable as table
 use Rattle.item_heads.specs.Answers.{Answers, Refuses}
 use Rattle.src_tree.specs.Layout.{Parts}
-use Rattle.name_table.specs.Collects.{Collects, stages, declared, tested, plain_scalars, int_scalars}
+use Rattle.name_table.specs.Collects.{Collects, stages, declared, tested, scalars}
 use Rattle.name_table.specs.Forms.{each_done}
 use Rattle.name_table.proofs.EachItem.{done_then}
-use Rattle.typing_rules.specs.Check.{Check, State, Broken, and_then, each_checked, ◌>>◌}
+use Rattle.typing_rules.specs.Check.{Check, State, Broken, and_then, each_checked}
 use Rattle.typing_rules.specs.Collected as walk
 use Rattle.typing_rules.specs.Collected.{collected, collecting, items_in, heads_collected, impl_of, item_name, names_differ, starting_with}
 use Rattle.typing_rules.specs.Items.{ItemSyn, item_syns, items_of}
@@ -52,5 +52,5 @@ pub collects_items : (parts : Parts Pos) (end : Pos) (i j : table.ItemTable) (u 
 collects_items parts end i j u is h =
     ap (λ z. items_in (collecting (items_of parts) end (starting_with z))) (sym is) ∙ ap items_in h
 
-pub scalars_there : (plain_scalars >> int_scalars) (starting_with table.no_items) ≡ Ok (tt, starting_with walk.no_items)
+pub scalars_there : scalars (starting_with table.no_items) ≡ Ok (tt, starting_with walk.no_items)
 scalars_there = refl

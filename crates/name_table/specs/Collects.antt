@@ -53,3 +53,8 @@ int_scalars = do
   interned (Ty.Int IntKind.U64)
   interned (Ty.Int IntKind.Usize)
   pure tt
+
+abbrev pub scalars : Check (Unit {0})
+scalars = do
+  plain_scalars
+  int_scalars

@@ -4,7 +4,7 @@ ghost use Rattle.mir_base.specs.declared.rule.Rule.{Rule};
 ghost use Rattle.mir_base.specs.declared.rule.RuleError.{RuleError};
 ghost use Rattle.item_heads.specs.Answers.{Answers};
 ghost use Rattle.item_heads.specs.Forms.{known_of};
-ghost use Rattle.name_table.specs.Collects.{Collects, declared as declared_by, int_scalars as ints_by, plain_scalars as plain_by, stages as stages_by, tested as tested_by};
+ghost use Rattle.name_table.specs.Collects.{Collects, declared as declared_by, int_scalars as ints_by, plain_scalars as plain_by, scalars as scalars_by, stages as stages_by, tested as tested_by};
 ghost use Rattle.src_tree.specs.View as view;
 ghost use Rattle.src_tree.specs.View.{parts_in};
 ghost use Rattle.typing_rules.specs.Check.{obeys as obeyed_by};
@@ -45,6 +45,14 @@ fn int_scalars(items: &mut Items) -> Result<(), RuleError>
     Ok(())
 }
 
+/// The types that each program has.
+fn scalars(items: &mut Items) -> Result<(), RuleError>
+    ensures { Answers (scalars_by (starting_with items.old)) result items.new }
+{
+    plain_scalars(items)?;
+    int_scalars(items)
+}
+
 /// Items with the types that each program has.
 #[tactic(auto, using(crate::proofs::Stages::scalars_there))]
 fn no_items(alloc: Global) -> Result<Items, RuleError>
@@ -52,9 +60,13 @@ fn no_items(alloc: Global) -> Result<Items, RuleError>
     ensures short { IfErr result (λ e. e ≡ RuleError.Memory) }
 {
     let mut items = Items::new(alloc);
-    plain_scalars(&mut items)?;
-    int_scalars(&mut items)?;
-    Ok(items)
+    match scalars(&mut items) {
+        Ok(()) => Ok(items),
+        Err(e) => {
+            drop(items);
+            Err(e)
+        }
+    }
 }
 
 /// There is a function `main`.

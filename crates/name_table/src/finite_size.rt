@@ -125,10 +125,12 @@ fn order_with_all(items: &Items, alloc: Global, pieces: &[Piece]) -> Result<Vec<
     let Ok(mut all) = items.copy(alloc) else {
         return Err(RuleError::Memory);
     };
-    let Ok(()) = numbered(&mut all, pieces) else {
-        return Err(RuleError::Memory);
+    let order = match numbered(&mut all, pieces) {
+        Ok(()) => order_of(&all, alloc),
+        Err(_) => Err(RuleError::Memory),
     };
-    order_of(&all, alloc)
+    drop(all);
+    order
 }
 
 /// No struct or enum holds itself.

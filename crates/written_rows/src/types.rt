@@ -15,6 +15,7 @@ use mir_ty::{Items, TyId};
 use src_tree::Node;
 use std::alloc::Global;
 use std::collections::HashSet;
+use std::mem;
 use type_rows::{Checker, Tables};
 
 /// Tables of no names.
@@ -33,6 +34,15 @@ fn no_tables(alloc: Global) -> Tables
         pairs: HashSet::new(alloc),
         drop_bodies: HashSet::new(alloc),
     }
+}
+
+/// Behind an error there are no items, and tables of no names.
+fn clear(alloc: Global, items: &mut Items, tables: &mut Tables)
+    ensures items { items.new ≡ no_items }
+    ensures tables { IsReady no_items tables.new }
+{
+    drop(mem::replace(items, Items::new(alloc)));
+    drop(mem::replace(tables, no_tables(alloc)));
 }
 
 /// Whether the types with which each table begins are there.
@@ -60,8 +70,7 @@ pub fn written(checker: &mut Checker, node: &Node) -> Result<TyId, RuleError>
     match item_heads::written(&mut checker.walk.items, &scope, node) {
         Ok(id) => Ok(id),
         Err(e) => {
-            checker.walk.items = Items::new(checker.alloc);
-            checker.tables = no_tables(checker.alloc);
+            clear(checker.alloc, &mut checker.walk.items, &mut checker.tables);
             Err(e)
         }
     }
@@ -86,8 +95,7 @@ pub fn written_param(checker: &mut Checker, node: &Node) -> Result<TyId, RuleErr
     match item_heads::written_param(&mut checker.walk.items, &scope, node) {
         Ok(id) => Ok(id),
         Err(e) => {
-            checker.walk.items = Items::new(checker.alloc);
-            checker.tables = no_tables(checker.alloc);
+            clear(checker.alloc, &mut checker.walk.items, &mut checker.tables);
             Err(e)
         }
     }
