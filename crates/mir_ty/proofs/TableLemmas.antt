@@ -49,6 +49,22 @@ module _ (s : Inside) (h : AreTables s) where
     drops = h.drops;
   }
 
+  -- the same marks in other vectors
+  pub tables_alike : (copies drops : Vec Bool Global) → copies.items ≡ s.copies.items → drops.items ≡ s.drops.items → AreTables (record s { copies = copies; drops = drops })
+  tables_alike copies drops copied dropped = record {
+    items = h.items;
+    copies_length = ap length copied ∙ h.copies_length;
+    drops_length = ap length dropped ∙ h.drops_length;
+    copies = subst (IsAllShown s.types (copy_rule s.adts s.closures)) (sym copied) h.copies;
+    drops = subst (IsAllShown s.types (drop_rule s.adts s.closures)) (sym dropped) h.drops;
+  }
+
+  -- equal tables
+  pub tables_equal : (t : Inside) → t.types ≡ s.types → t.copies.items ≡ s.copies.items → t.drops.items ≡ s.drops.items → t.adts ≡ s.adts → t.traits ≡ s.traits → t.impls ≡ s.impls
+      → t.closures ≡ s.closures → t.bodies ≡ s.bodies → AreTables t
+  tables_equal t types copies drops adts traits impls closures bodies =
+      rw (types, adts, traits, impls, closures, bodies) (tables_alike t.copies t.drops copies drops)
+
   fields_below : FieldsBelow (length s.types) s.adts s.closures
   fields_below = record {
     fields = All-weaker (IsAdt s.types) (AdtBelow (length s.types))

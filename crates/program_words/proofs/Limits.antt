@@ -2,8 +2,8 @@
 use Rattle.std.proofs.Common.{◌≡◌, ◌≤◌, ℕ, Bool, true, false, List, Option, Some, None, subst, refl, if◌then◌else◌, leb-true, codes}
 use Rattle.std.specs.Prelude.{option_and_then, nat_le, ℤ, ◌&&◌}
 use Rattle.std.proofs.lemmas.Option.{none-some, same_Some}
-use Rattle.clap.specs.Words.{Row, Text, all_of, first_of, matches_of}
-use Rattle.program_words.specs.Words.{command_line, command_of, digits_value, given, is_number, is_taken, request_by, request_in, request_of, request_with, ticks_of}
+use Rattle.clap.specs.Words.{Row, Text, all_of, first_of}
+use Rattle.program_words.specs.Words.{command_of, digits_value, given, is_number, request_by, request_in, request_with, ticks_of}
 use Rattle.program_words.specs.declared.request.Command.{Command}
 use Rattle.program_words.specs.declared.request.Request.{Request}
 
@@ -38,15 +38,8 @@ with_few command asks text r is =
     r next)
     r is
 
-in_rows : (rows : List Row) (r : Request) → request_in rows ≡ Some r → HasFew r
-in_rows rows r is =
+pub has_few_ticks : (rows : List Row) (r : Request) → request_in rows ≡ Some r → r.ticks ≤ 1000000000
+has_few_ticks rows r is =
     from_some HasFew (option_and_then command_of (first_of (codes "command") rows))
     (λ command. request_by command (given (all_of (codes "numbers") rows)) (first_of (codes "ticks") rows))
     (λ command r e next. with_few command _ (first_of (codes "ticks") rows) r next) r is
-
-if_taken : (taken : Bool) (rows : List Row) (r : Request) → (if taken then request_in rows else None) ≡ Some r → HasFew r
-if_taken true rows r is = in_rows rows r is
-if_taken false rows r is = absurd (none-some r is)
-
-pub has_few_ticks : (words : List Text) (r : Request) → request_of words ≡ Some r → r.ticks ≤ 1000000000
-has_few_ticks words r is = if_taken (is_taken words) (matches_of command_line words) r is

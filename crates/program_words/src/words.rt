@@ -20,16 +20,15 @@ const MOST_TICKS: u64 = 1000000000;
 fn command_line<'a>(alloc: Global) -> Result<clap::Command<'a>, AllocError>
     ensures { IfOk result (λ command. app_of command ≡ asked.command_line) }
 {
-    let command = Arg::new(alloc, "command").required(true);
-    let numbers = Arg::new(alloc, "numbers").num_args(..);
-    let ticks = Arg::new(alloc, "ticks")
-        .long("ticks")
-        .default_value("10000");
     clap::Command::new(alloc, "mirdrop")
         .no_binary_name(true)
-        .arg(command)?
-        .arg(numbers)?
-        .arg(ticks)
+        .arg(Arg::new(alloc, "command").required(true))?
+        .arg(Arg::new(alloc, "numbers").num_args(..))?
+        .arg(
+            Arg::new(alloc, "ticks")
+                .long("ticks")
+                .default_value("10000"),
+        )
 }
 
 fn refusal(kind: ErrorKind) -> WordsError
@@ -187,7 +186,6 @@ fn request_in(alloc: Global, found: &ArgMatches<'_>) -> Result<Option<Request>, 
 ///
 /// [`WordsError::Refused`] exactly where the words ask for nothing, memory aside; [`WordsError::Memory`] where memory is
 /// wanted.
-#[tactic(auto, using(crate::proofs::Limits::has_few_ticks))]
 pub fn request_of(alloc: Global, words: &[String]) -> Result<Request, WordsError>
     ensures request { IfOk result (λ request. asked.request_of (map string_bytes words.now) ≡ Some request) }
     ensures refused { IsErrOf result an_error.Refused → asked.request_of (map string_bytes words.now) ≡ None }

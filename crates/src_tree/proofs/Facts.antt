@@ -13,7 +13,7 @@ use Rattle.src_tree.specs.declared.kind.Kind.{Kind}
 use Rattle.src_tree.specs.Grammar.{sort_number, seen, allowed, may_begin, may_be, begins_by, place_of, Rest, ends, token, either, part, maybe, list, more, many, items, alternatives, statements, arms, arm_body, after_break, is, comma, move, due, behind, behind_statement, behind_arm, behind_body, behind_break, made, Entry, entry, Joined, joined}
 use Rattle.src_tree.specs.Reading.{opens, joins}
 use Rattle.src_tree.proofs.Samples.{samples, rows, every, nth, like, of_samples, of_rows}
-use Rattle.src_tree.proofs.Follow.{calm, calm_at, shape, example, follow, idle, acts, is_none, implies, shapes, Shape, Ended, Brace, Braced, Labelled, OneArm, OneLastArm, Open, places, start_number, same_bool, same_place, is_known, ends_well, part_well, parts_well, here, ok, all_ends, stands, same_seen, joins_well, begins_well, good, entry_ok, joined_ok}
+use Rattle.src_tree.proofs.Follow.{calm, calm_at, shape, example, follow, idle, acts, is_none, implies, hangs_on_shape, shapes, tried, Shape, Ended, Brace, Braced, Labelled, OneArm, OneLastArm, Open, places, start_number, same_bool, same_place, is_known, ends_well, part_well, parts_well, here, ok, all_ends, stands, same_seen, joins_well, begins_well, good, entry_ok, joined_ok}
 use Rattle.src_tree.proofs.Alike.{move_like, opens_like, joins_like, calm_like, follow_like, idle_like, acts_like, entry_alike, joined_alike}
 use Rattle.src_tree.proofs.Checked.{entries_ok, joined_all_ok, places_good}
 
@@ -101,9 +101,15 @@ ok_arm : (h : Bool) (r : Row) → ok h (arms true) ≡ true → ok h (behind_arm
 ok_arm h Row.Arm o = o
 ok_arm h _ o = refl
 
+ok_block_body : (h : Bool) → ok h arm_body ≡ true → ok h (either comma (ends Row.Arm) (ends Row.Arm)) ≡ true
+ok_block_body h o = and_from _ _ (and_parts (here h (either comma (ends Row.Arm) (ends Row.Arm))) _ (and_parts (here h arm_body) _ o).1).0 refl
+
+ok_other_body : (h : Bool) → ok h arm_body ≡ true → ok h (either comma (ends Row.Arm) (ends Row.LastArm)) ≡ true
+ok_other_body h o = and_from _ _ (and_parts (here h (either comma (ends Row.Arm) (ends Row.Arm))) _ (and_parts (here h arm_body) _ o).1).1 refl
+
 ok_body : (h : Bool) (r : Row) → ok h arm_body ≡ true → ok h (behind_body r) ≡ true
-ok_body h Row.Block o = and_from _ _ (and_parts (here h (either comma (ends Row.Arm) (ends Row.Arm))) _ (and_parts (here h arm_body) _ o).1).0 refl
-ok_body h _ o = and_from _ _ (and_parts (here h (either comma (ends Row.Arm) (ends Row.Arm))) _ (and_parts (here h arm_body) _ o).1).1 refl
+ok_body h Row.Block o = ok_block_body h o
+ok_body h _ o = ok_other_body h o
 
 ok_break : (h : Bool) (r : Row) → ok h after_break ≡ true → ok h (behind_break r) ≡ true
 ok_break h Row.LabelName o = and_from _ _ (and_parts (here h after_break) _ o).1 refl
@@ -186,14 +192,63 @@ shape_is_there : (y : Shape) → nth (shape_at y) shapes ≡ Some y
 shape_is_there Ended = refl
 shape_is_there _ = refl
 
+-- elsewhere the shape does not matter
+follow_by_place : (s : Sort) (n : ℕ) (h : Bool) (b : Start) (y : Shape) (t : Token) → hangs_on_shape b ≡ false
+    → follow (record { sort = s; least = n; head = h; start = b }) y t ≡ follow (record { sort = s; least = n; head = h; start = b }) Open t
+follow_by_place Sort.Expr n h Start.Statement y t e = absurd (cc)
+follow_by_place Sort.Expr n h Start.NextStatement y t e = absurd (cc)
+follow_by_place Sort.Expr n h Start.ArmBody y t e = absurd (cc)
+follow_by_place Sort.Expr n h Start.Jump y t e = absurd (cc)
+follow_by_place Sort.Expr n h Start.JumpInHead y t e = absurd (cc)
+follow_by_place Sort.Expr n h _ y t e = refl
+follow_by_place Sort.Pattern n h Start.IsArm y t e = absurd (cc)
+follow_by_place Sort.Pattern n h _ y t e = refl
+follow_by_place _ n h b y t e = refl
+
+abbrev hangs : Bool → Part → Bool
+hangs h p = hangs_on_shape (place_of h p).start
+
+not_there : {X : Type 0} (h : Bool) (x p : Part) → hangs h x ≡ true → Some x ≡ Some p → hangs h p ≡ false → X
+not_there h x p there e elsewhere =
+    let same : x ≡ p = cc in
+    let both : true ≡ false = sym (subst (λ p. hangs h p ≡ true) same there) ∙ elsewhere in
+    absurd (cc)
+
+hangs_behind_break : (h : Bool) → hangs h Part.AfterBreak ≡ true
+hangs_behind_break false = refl
+hangs_behind_break true = refl
+
+behind_by_place : (h : Bool) (q : Rest) (p : Part) (r : Row) → due q ≡ Some p → hangs h p ≡ false → behind q r ≡ behind q Row.Path
+behind_by_place h (either k after other) p r d elsewhere = behind_by_place h other p r d elsewhere
+behind_by_place h (statements false) p r d elsewhere = not_there h _ p refl d elsewhere
+behind_by_place h (statements true) p r d elsewhere = not_there h _ p refl d elsewhere
+behind_by_place h (arms s) p r d elsewhere = not_there h _ p refl d elsewhere
+behind_by_place h arm_body p r d elsewhere = not_there h _ p refl d elsewhere
+behind_by_place h after_break p r d elsewhere = not_there h _ p (hangs_behind_break h) d elsewhere
+behind_by_place h _ p r d elsewhere = refl
+
 -- what goes on behind a part may stand behind it
 pub follows_on : (h : Bool) (q : Rest) (p : Part) (y : Row) (t : Token) → here h q ≡ true → due q ≡ Some p → acts h (behind q y) t ≡ true → follow (place_of h p) (shape y) t ≡ true
 follows_on h q p y t w d a =
     let b = and_parts (is_known places (place_of h p)) _ (part_here h q p w d) in
-    let s = Rattle.src_tree.proofs.Samples.every_nth (λ y. every (λ t. implies (acts h (behind q (example y)) t) (follow (place_of h p) y t)) samples) (shape_at (shape y)) shapes (shape y) (shape_is_there (shape y)) (and_parts _ _ b.1).1 in
-    let f = of_samples (λ t. implies (acts h (behind q (example (shape y))) t) (follow (place_of h p) (shape y) t)) s t in
-    follow_like (place_of h p) (shape y) t
-    ∙ implied _ _ f (sym (acts_like h (behind q (example (shape y))) t) ∙ ap (λ z. acts h z t) (sym (behind_alike q y)) ∙ a)
+    go (hangs h p) refl (and_parts _ _ b.1).1
+  where
+    is_well : Shape → Bool
+    is_well y = every (λ t. implies (acts h (behind q (example y)) t) (follow (place_of h p) y t)) samples
+
+    by_shape : (z : Shape) → is_well z ≡ true → behind q y ≡ behind q (example z) → follow (place_of h p) z t ≡ true
+    by_shape z s same =
+        let f = of_samples (λ t. implies (acts h (behind q (example z)) t) (follow (place_of h p) z t)) s t in
+        follow_like (place_of h p) z t ∙ implied _ _ f (sym (acts_like h (behind q (example z)) t) ∙ ap (λ z. acts h z t) (sym same) ∙ a)
+
+    go : (b : Bool) → hangs h p ≡ b → every is_well (tried (hangs h p)) ≡ true → follow (place_of h p) (shape y) t ≡ true
+    go true e s =
+        let all = subst (λ b. every is_well (tried b) ≡ true) e s in
+        by_shape (shape y) (Rattle.src_tree.proofs.Samples.every_nth is_well (shape_at (shape y)) shapes (shape y) (shape_is_there (shape y)) all) (behind_alike q y)
+    go false e s =
+        let one = subst (λ b. every is_well (tried b) ≡ true) e s in
+        let c = place_of h p in
+        follow_by_place c.sort c.least c.head c.start (shape y) t e ∙ by_shape Open (and_parts _ _ one).0 (behind_by_place h q p y d e)
 
 -- Places.
 
@@ -272,8 +327,9 @@ is_none_is (Some x) h = absurd (cc)
 -- what may stand behind a tree leaves its inside alone, and joins it to nothing
 pub stands_behind : (c : Place) (y : Row) (t : Token) → good c ≡ true → allowed c y ≡ true → follow c (shape y) t ≡ true → (calm c.head y t ≡ true) × (joins c y t ≡ None)
 stands_behind c y t g a f =
-    let e = of_samples (stands c y) (of_rows (λ y. every (stands c y) samples) (and_parts _ _ g).0 y) t in
-    let i = implied (allowed c y && follow c (shape y) (like t)) (calm c.head y (like t) && is_none (joins c y (like t))) e (and_from _ _ a (sym (follow_like c (shape y) t) ∙ f)) in
+    let all = of_rows (λ y. implies (allowed c y) (every (stands c y) samples)) (and_parts _ _ g).0 y in
+    let e = of_samples (stands c y) (implied (allowed c y) (every (stands c y) samples) all a) t in
+    let i = implied (follow c (shape y) (like t)) (calm c.head y (like t) && is_none (joins c y (like t))) e (sym (follow_like c (shape y) t) ∙ f) in
     let p = and_parts (calm c.head y (like t)) _ i in
     (calm_like c.head y t ∙ p.0, joins_like c y t ∙ is_none_is _ p.1)
 

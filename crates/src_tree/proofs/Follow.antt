@@ -188,6 +188,21 @@ acts h q t = not (idle h q t) || calm_at h (made q) t
 abbrev pub shapes : List Shape
 shapes = Ended ∷ Brace ∷ Braced ∷ Labelled ∷ OneArm ∷ OneLastArm ∷ Open ∷ []
 
+-- whether what may stand behind a tree hangs on its shape, where the tree begins so
+abbrev pub hangs_on_shape : Start → Bool
+hangs_on_shape Start.Statement = true
+hangs_on_shape Start.NextStatement = true
+hangs_on_shape Start.ArmBody = true
+hangs_on_shape Start.Jump = true
+hangs_on_shape Start.JumpInHead = true
+hangs_on_shape Start.IsArm = true
+hangs_on_shape _ = false
+
+-- the shapes to be tried there
+abbrev pub tried : Bool → List Shape
+tried true = shapes
+tried false = Open ∷ []
+
 -- Places where a part may stand.
 
 abbrev in_place : Sort → ℕ → Bool → Start → Place
@@ -244,7 +259,7 @@ abbrev pub part_well : Bool → Rest → Part → Bool
 part_well h q p =
     is_known places (place_of h p)
     && (every (λ t. implies (not (is_none (opens h q t))) (is_none (move q t))) samples
-    && every (λ y. every (λ t. implies (acts h (behind q (example y)) t) (follow (place_of h p) y t)) samples) shapes)
+    && every (λ y. every (λ t. implies (acts h (behind q (example y)) t) (follow (place_of h p) y t)) samples) (tried (hangs_on_shape (place_of h p).start)))
 
 abbrev pub parts_well : Bool → Rest → Option Part → Bool
 parts_well h q None = true
@@ -292,7 +307,7 @@ all_ends f after_break = f Row.Break
 -- something lets its inside be; and a row that begins there may begin by its first name.
 
 abbrev pub stands : Place → Row → Token → Bool
-stands c y t = implies (allowed c y && follow c (shape y) t) (calm c.head y t && is_none (joins c y t))
+stands c y t = implies (follow c (shape y) t) (calm c.head y t && is_none (joins c y t))
 
 abbrev pub same_seen : Seen → Seen → Bool
 same_seen a b = nat_eq (sort_number a.sort) (sort_number b.sort) && (same_bool a.head b.head && nat_eq (start_number a.start) (start_number b.start))
@@ -310,7 +325,7 @@ begins_well c (Some e) = all_ends (λ x. implies (may_begin c x) (may_begin c e.
 
 abbrev pub good : Place → Bool
 good c =
-    every (λ y. every (stands c y) samples) rows
+    every (λ y. implies (allowed c y) (every (stands c y) samples)) rows
     && every (λ t. joins_well c t (joined (seen c) t) && begins_well c (entry (seen c) t)) samples
 
 abbrev pub entry_ok : Bool → Option Entry → Bool

@@ -15,3 +15,6 @@ invariant_of-self-2 c =
     let up = c.bring_up_to_date.ensures in
     rw pushed (tables_adt c.self.inside c.self.invariant c.args.adt (rw (← c.self.view_is) at c.requires) c.in_ok-check_adt.ensures (rw (← c.self.view_is) at c.in_ok-number.ensures.short)
     c.bring_up_to_date.new.copies c.bring_up_to_date.new.drops up.copies_length up.drops_length (rw pushed at up.copies) (rw pushed at up.drops))
+
+pub invariant_of-self : goal.invariant_of-self
+invariant_of-self c = rw c.in_err-push.ensures.refused c.self.invariant

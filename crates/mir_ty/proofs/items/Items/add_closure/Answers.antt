@@ -16,3 +16,6 @@ invariant_of-self-2 c =
     let up = c.bring_up_to_date.ensures in
     rw pushed (tables_closure c.self.inside c.self.invariant c.args.def (rw (← c.self.view_is) at c.requires) (omega (arith, c.in_ok-check_len.ensures, c.len-2.ensures)) (rw (← c.self.view_is) at c.in_ok-number.ensures.short)
     c.bring_up_to_date.new.copies c.bring_up_to_date.new.drops up.copies_length up.drops_length (rw pushed at up.copies) (rw pushed at up.drops))
+
+pub invariant_of-self : goal.invariant_of-self
+invariant_of-self c = rw c.in_err-push.ensures.refused c.self.invariant
