@@ -1,15 +1,20 @@
 -- What left no trace in its bucket repeats none before it.
-use Rattle.std.proofs.Common.{◌≡◌, ℕ, zero, suc, ◌+◌, ◌*◌, ◌%◌, ◌<◌, ◌==◌, ◌&&◌, Bool, true, false, List, take, length, slice_get, Option, Some, None, refl, ap, sym, subst, ◌∙◌, arith, ◌⊎◌, inl, inr}
+use Rattle.std.proofs.Common.{◌≡◌, ℕ, zero, suc, ◌+◌, ◌*◌, ◌%◌, ◌<◌, ◌==◌, ◌&&◌, Bool, true, false, List, replicate, take, length, slice_get, Option, Some, None, refl, ap, sym, subst, ◌∙◌, arith, ◌⊎◌, inl, inr}
 use Rattle.std.specs.List.{list_any}
 use Rattle.std.specs.Option.{option_map_or}
 use Rattle.std.specs.Cmp.Lexicographic.{bytes_decides}
 use Rattle.std.proofs.Math.Nat.{eq-or-lt_of_le}
 use Rattle.std.proofs.lemmas.Bool.{eqb-true, false≢true}
+use Rattle.std.proofs.lemmas.List.{length-replicate}
 use Rattle.std.proofs.lemmas.Option.{same_Some}
 use Rattle.mir_ty.specs.declared.def.ImplDef.{ImplDef}
 use Rattle.cfg_graph.specs.WellFormed.Buckets.{name_key, impl_key, IsMarked, AreMet}
 use Rattle.cfg_graph.specs.WellFormed.NameFaults.{same_name, same_impl, is_repeated_impl}
 use Rattle.cfg_graph.proofs.Rests.{few_goes_on}
+
+-- before the first, nothing is met
+pub none_met : {X : Type 0} (key_of : X → ℕ) (xs : List X) → AreMet key_of xs 0 (replicate 131072 0)
+none_met key_of xs = record { met = λ i x below is. absurd (omega (arith, below)); enough = length-replicate {A = ℕ} 131072 0 }
 
 module _ {X : Type 0} (key_of : X → ℕ) (xs : List X) where
   pub one_met : (n : ℕ) (x : X) (old new : List ℕ) → AreMet key_of xs n old → Some x ≡ slice_get xs n →

@@ -15,7 +15,7 @@ pub enum Kind {
 }
 
 /// A block: statements, and a terminator after them.
-#[derive(Debug, Drop)]
+#[derive(Drop)]
 pub struct Block {
     pub kind: Kind,
     /// Each edge to a block that is no turn block leads to a lower rank, so a run without turns ends.
@@ -25,7 +25,7 @@ pub struct Block {
 }
 
 /// A body. It begins in block 0.
-#[derive(Debug, Drop)]
+#[derive(Drop)]
 pub struct Body {
     /// How many parameters it has: the locals 1 to this number.
     pub params: u32,
@@ -35,10 +35,18 @@ pub struct Body {
 }
 
 /// A graph: the bodies of a program in the order of their numbers, over its items.
-#[derive(Debug, Drop)]
+#[derive(Drop)]
 pub struct Graph {
     pub items: Items,
     pub bodies: List<Body>,
+}
+
+impl Graph {
+    /// The graph is let go. A value that ends is dropped where it ends, and that each statement and terminator is dropped
+    /// is then proved in the crate where it does; here it is proved for all that hand their graph on.
+    pub fn discard(self) {
+        drop(self);
+    }
 }
 
 /// A fault of a graph, and where it is.

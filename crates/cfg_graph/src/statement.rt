@@ -2,7 +2,7 @@ use crate::{Operand, Place};
 use mir_base::{Cmp, List};
 
 /// A statement of a block: a step that goes on to the next one.
-#[derive(Debug, Drop)]
+#[derive(Drop)]
 pub enum Stmt {
     /// Stores the operand.
     Put(Place, Operand),

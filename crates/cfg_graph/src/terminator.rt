@@ -13,7 +13,7 @@ pub enum Unwind {
 }
 
 /// The terminator of a block: its ways out. Blocks go by their numbers in the body, counted from 0.
-#[derive(Debug, Drop)]
+#[derive(Drop)]
 pub enum Term {
     /// Goes on in the block.
     Goto(u32),

@@ -1,5 +1,6 @@
-use Rattle.std.proofs.Common.{◌<◌, length, arith}
+use Rattle.std.proofs.Common.{◌<◌, length, arith, refl}
 use Rattle.cfg_graph.specs.WellFormed.Faults.{faults_of_body}
+use Rattle.cfg_graph.proofs.Buckets.{none_met}
 use Rattle.cfg_graph.proofs.Rests.{within, fault_here, fault_later, fault_nowhere}
 use Rattle.cfg_graph.proofs.first_fault.bodies_fault.Goals as goal
 
@@ -18,3 +19,6 @@ loop-body-smaller c = let here : c.loop-body.n < length c.args.graph.now.bodies 
 
 pub returns : goal.returns
 returns c = fault_nowhere (faults_of_body c.args.graph.now) c.args.graph.now.bodies c.loop-body.n c.loop-body.invariant.rest c.in_default.ensures
+
+pub loop-body-init : goal.loop-body-init
+loop-body-init c = record { rest = refl; within = omega arith; met = none_met _ _ }

@@ -1,9 +1,9 @@
-use Rattle.std.proofs.Common.{ℕ, ◌+◌, ◌<◌, length, arith}
+use Rattle.std.proofs.Common.{ℕ, ◌+◌, ◌<◌, length, arith, refl}
 use Rattle.mir_ty.specs.declared.adt.Adt.{Adt}
 use Rattle.cfg_graph.specs.WellFormed.Buckets.{name_key}
 use Rattle.cfg_graph.specs.WellFormed.ItemFaults.{adt_faults}
 use Rattle.cfg_graph.specs.WellFormed.Faults.{nowhere, at_line}
-use Rattle.cfg_graph.proofs.Buckets.{one_met, name_repeats_none}
+use Rattle.cfg_graph.proofs.Buckets.{none_met, one_met, name_repeats_none}
 use Rattle.cfg_graph.proofs.Rests.{within, fault_here, fault_later, fault_nowhere}
 use Rattle.cfg_graph.proofs.first_item_fault.adts_fault.Goals as goal
 
@@ -25,3 +25,6 @@ returns c = fault_nowhere (λ (n : ℕ) (item : Adt). at_line nowhere nowhere (0
 
 pub adt_line-requires-clause-fresh : goal.adt_line-requires-clause-fresh
 adt_line-requires-clause-fresh c = λ fresh. name_repeats_none (λ (one : Adt). one.name) c.args.graph.now.items.adts c.in-Some.adt.now.name c.loop-adt.buckets (c.meet-fresh.ensures.fresh fresh) c.loop-adt.n c.loop-adt.invariant.met
+
+pub loop-adt-init : goal.loop-adt-init
+loop-adt-init c = record { rest = refl; within = omega arith; met = none_met _ _ }

@@ -1,9 +1,9 @@
-use Rattle.std.proofs.Common.{ℕ, ◌+◌, ◌<◌, length, arith}
+use Rattle.std.proofs.Common.{ℕ, ◌+◌, ◌<◌, length, arith, refl}
 use Rattle.mir_ty.specs.declared.def.ImplDef.{ImplDef}
 use Rattle.cfg_graph.specs.WellFormed.Buckets.{impl_key}
 use Rattle.cfg_graph.specs.WellFormed.ItemFaults.{impl_faults}
 use Rattle.cfg_graph.specs.WellFormed.Faults.{nowhere, at_line}
-use Rattle.cfg_graph.proofs.Buckets.{one_met, impl_repeats_none}
+use Rattle.cfg_graph.proofs.Buckets.{none_met, one_met, impl_repeats_none}
 use Rattle.cfg_graph.proofs.Rests.{within, fault_here, fault_later, fault_nowhere}
 use Rattle.cfg_graph.proofs.first_item_fault.impls_fault.Goals as goal
 
@@ -25,3 +25,6 @@ loop-def-smaller c = let here : c.loop-def.n < length c.args.graph.now.items.imp
 
 pub returns : goal.returns
 returns c = fault_nowhere (λ (n : ℕ) (item : ImplDef). at_line nowhere nowhere (length c.args.graph.now.items.adts + length c.args.graph.now.items.traits + n) (impl_faults c.args.graph.now.items (length c.args.graph.now.bodies) n item)) c.args.graph.now.items.impls c.loop-def.n c.loop-def.invariant.rest c.in_default.ensures.value
+
+pub loop-def-init : goal.loop-def-init
+loop-def-init c = record { rest = refl; within = omega arith; met = none_met _ _ }

@@ -1,9 +1,9 @@
-use Rattle.std.proofs.Common.{ℕ, ◌+◌, ◌<◌, length, arith}
+use Rattle.std.proofs.Common.{ℕ, ◌+◌, ◌<◌, length, arith, refl}
 use Rattle.mir_ty.specs.declared.def.TraitDef.{TraitDef}
 use Rattle.cfg_graph.specs.WellFormed.Buckets.{name_key}
 use Rattle.cfg_graph.specs.WellFormed.ItemFaults.{trait_faults}
 use Rattle.cfg_graph.specs.WellFormed.Faults.{nowhere, at_line}
-use Rattle.cfg_graph.proofs.Buckets.{one_met, name_repeats_none}
+use Rattle.cfg_graph.proofs.Buckets.{none_met, one_met, name_repeats_none}
 use Rattle.cfg_graph.proofs.Rests.{within, fault_here, fault_later, fault_nowhere}
 use Rattle.cfg_graph.proofs.first_item_fault.traits_fault.Goals as goal
 
@@ -25,3 +25,6 @@ returns c = fault_nowhere (λ (n : ℕ) (item : TraitDef). at_line nowhere nowhe
 
 pub trait_line-requires-clause-fresh : goal.trait_line-requires-clause-fresh
 trait_line-requires-clause-fresh c = λ fresh. name_repeats_none (λ (one : TraitDef). one.name) c.args.graph.now.items.traits c.in-Some.def.now.name c.loop-def.buckets (c.meet-fresh.ensures.fresh fresh) c.loop-def.n c.loop-def.invariant.met
+
+pub loop-def-init : goal.loop-def-init
+loop-def-init c = record { rest = refl; within = omega arith; met = none_met _ _ }
