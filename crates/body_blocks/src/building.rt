@@ -26,10 +26,10 @@ use std::alloc::Global;
 ///
 /// [`NoMemory`] where memory is wanted, and where there are more blocks than 32 bits count.
 #[cycle(building)]
-pub fn build(alloc: Global, at: Setting, end: usize, blocks: &mut Blocks) -> Result<(), NoMemory>
-    requires { IsReached at }
+pub fn build(alloc: Global, at: &Setting, end: usize, blocks: &mut Blocks) -> Result<(), NoMemory>
+    requires { IsReached at.now }
     ensures { OnOk result ((c : plain.Code) (start : ℕ) →
-        StandsAt at.entry c start end → IsBuilt at.entry c blocks.old blocks.new) }
+        StandsAt at.entry.now c start end → IsBuilt at.entry.now c blocks.old blocks.new) }
 {
     let Some(word) = word_at(at.code, end) else {
         return Ok(());
@@ -51,10 +51,10 @@ pub fn build(alloc: Global, at: Setting, end: usize, blocks: &mut Blocks) -> Res
 
 /// Of the code before a word.
 #[cycle(building)]
-fn build_one(alloc: Global, at: Setting, end: usize, blocks: &mut Blocks) -> Result<(), NoMemory>
-    requires { IsReached at }
+fn build_one(alloc: Global, at: &Setting, end: usize, blocks: &mut Blocks) -> Result<(), NoMemory>
+    requires { IsReached at.now }
     ensures { OnOk result ((c : plain.Code) (start : ℕ) →
-        OneAt at.entry c start end → IsBuilt at.entry c blocks.old blocks.new) }
+        OneAt at.entry.now c start end → IsBuilt at.entry.now c blocks.old blocks.new) }
 {
     match end.checked_sub(1) {
         Some(inner) => build(alloc, at, inner, blocks),
@@ -64,48 +64,51 @@ fn build_one(alloc: Global, at: Setting, end: usize, blocks: &mut Blocks) -> Res
 
 /// Of the code before a word, in scopes that are changed first.
 #[cycle(building)]
+#[inline(never)]
 fn build_from(
     alloc: Global,
-    at: Setting,
+    at: &Setting,
     by: &Change,
     end: usize,
     blocks: &mut Blocks,
 ) -> Result<(), NoMemory>
-    requires { IsReached at }
-    ensures { OnOk result ((c : plain.Code) (start : ℕ) → OneAt at.entry c start end →
-        IsBuilt at.entry (plain.From (change_of by.now) c) blocks.old blocks.new) }
+    requires { IsReached at.now }
+    ensures { OnOk result ((c : plain.Code) (start : ℕ) → OneAt at.entry.now c start end →
+        IsBuilt at.entry.now (plain.From (change_of by.now) c) blocks.old blocks.new) }
 {
     let scopes = change(at.arena, by, at.scopes)?;
-    build_one(alloc, Setting { scopes, ..at }, end, blocks)
+    let changed = Setting { scopes, ..*at };
+    build_one(alloc, &changed, end, blocks)
 }
 
 /// Of code behind another, if that has an end, in the scopes behind it.
 #[cycle(building)]
 fn build_behind(
     alloc: Global,
-    at: Setting,
+    at: &Setting,
     one: usize,
     another: usize,
     blocks: &mut Blocks,
 ) -> Result<(), NoMemory>
-    requires { IsReached at }
+    requires { IsReached at.now }
     ensures { OnOk result ((c d : plain.Code) (start : ℕ) →
-        StandsAt at.entry c start one → StandsAt at.entry d (suc one) another →
-        IsBuiltBehind at.entry (lowers (frame_at at.entry) c) (lowers (frame_at at.entry) d) blocks.old blocks.new) }
+        StandsAt at.entry.now c start one → StandsAt at.entry.now d (suc one) another →
+        IsBuiltBehind at.entry.now (lowers (frame_at at.entry.now) c) (lowers (frame_at at.entry.now) d) blocks.old blocks.new) }
 {
     if !has_end(at.code, one) {
         return Ok(());
     }
     let scopes = after(at.arena, at.code, at.reaches, one, at.scopes)?;
-    build(alloc, Setting { scopes, ..at }, another, blocks)
+    let behind = Setting { scopes, ..*at };
+    build(alloc, &behind, another, blocks)
 }
 
 /// Of two codes, one after the other: the other is built first.
 #[cycle(building)]
-fn build_both(alloc: Global, at: Setting, end: usize, blocks: &mut Blocks) -> Result<(), NoMemory>
-    requires { IsReached at }
-    ensures { OnOk result ((one another : plain.Code) (start : ℕ) → TwoAt at.entry one another start end →
-        IsBuilt at.entry (plain.Then one another) blocks.old blocks.new) }
+fn build_both(alloc: Global, at: &Setting, end: usize, blocks: &mut Blocks) -> Result<(), NoMemory>
+    requires { IsReached at.now }
+    ensures { OnOk result ((one another : plain.Code) (start : ℕ) → TwoAt at.entry.now one another start end →
+        IsBuilt at.entry.now (plain.Then one another) blocks.old blocks.new) }
 {
     match two_before(at.code, end) {
         Some(two) => {
@@ -118,37 +121,38 @@ fn build_both(alloc: Global, at: Setting, end: usize, blocks: &mut Blocks) -> Re
 
 /// Of code in a scope of its own, which is left behind it.
 #[cycle(building)]
+#[inline(never)]
 fn build_scope(
     alloc: Global,
-    at: Setting,
+    at: &Setting,
     node: NodeId,
     for_temporaries: bool,
     end: usize,
     blocks: &mut Blocks,
 ) -> Result<(), NoMemory>
-    requires { IsReached at }
-    ensures { OnOk result ((c : plain.Code) (start : ℕ) → OneAt at.entry c start end →
-        IsBuilt at.entry (plain.InScope node.0 for_temporaries c) blocks.old blocks.new) }
+    requires { IsReached at.now }
+    ensures { OnOk result ((c : plain.Code) (start : ℕ) → OneAt at.entry.now c start end →
+        IsBuilt at.entry.now (plain.InScope node.0 for_temporaries c) blocks.old blocks.new) }
 {
     let scopes = enter(at.arena, node, for_temporaries, at.scopes)?;
-    let inner = Setting { scopes, ..at };
-    leave_behind(alloc, inner, end, blocks)?;
-    build_one(alloc, inner, end, blocks)
+    let inner = Setting { scopes, ..*at };
+    leave_behind(alloc, &inner, end, blocks)?;
+    build_one(alloc, &inner, end, blocks)
 }
 
 /// Of code behind which a block is entered.
 #[cycle(building)]
 fn build_toward(
     alloc: Global,
-    at: Setting,
+    at: &Setting,
     end: usize,
     to: u32,
     node: NodeId,
     blocks: &mut Blocks,
 ) -> Result<(), NoMemory>
-    requires { IsReached at }
-    ensures { OnOk result ((c : plain.Code) (start : ℕ) → StandsAt at.entry c start end →
-        IsBuiltToward at.entry c to node.0 blocks.old blocks.new) }
+    requires { IsReached at.now }
+    ensures { OnOk result ((c : plain.Code) (start : ℕ) → StandsAt at.entry.now c start end →
+        IsBuiltToward at.entry.now c to node.0 blocks.old blocks.new) }
 {
     blocks.end(alloc, Term::Goto(to), node);
     build(alloc, at, end, blocks)
@@ -156,17 +160,18 @@ fn build_toward(
 
 /// Of one of two codes: the first where a condition holds. The test is built last.
 #[cycle(building)]
+#[inline(never)]
 fn build_branches(
     alloc: Global,
-    at: Setting,
+    at: &Setting,
     node: NodeId,
     on: &Condition,
     end: usize,
     blocks: &mut Blocks,
 ) -> Result<(), NoMemory>
-    requires { IsReached at }
-    ensures { OnOk result ((one another : plain.Code) (start : ℕ) → TwoAt at.entry one another start end →
-        IsBuilt at.entry (plain.Branches node.0 (condition_of on.now) one another) blocks.old blocks.new) }
+    requires { IsReached at.now }
+    ensures { OnOk result ((one another : plain.Code) (start : ℕ) → TwoAt at.entry.now one another start end →
+        IsBuilt at.entry.now (plain.Branches node.0 (condition_of on.now) one another) blocks.old blocks.new) }
 {
     match two_before(at.code, end) {
         Some(two) => {
@@ -183,16 +188,17 @@ fn build_branches(
 
 /// Of a loop, whose turn stands before the word: its turn block gets its number before its code is built.
 #[cycle(building)]
+#[inline(never)]
 fn build_loop(
     alloc: Global,
-    at: Setting,
+    at: &Setting,
     id: NodeId,
     end: usize,
     blocks: &mut Blocks,
 ) -> Result<(), NoMemory>
-    requires { IsReached at }
-    ensures { OnOk result ((turn : plain.Code) (start : ℕ) → StandsAt at.entry (plain.Loops id.0 turn) start end →
-        IsBuilt at.entry (plain.Loops id.0 turn) blocks.old blocks.new) }
+    requires { IsReached at.now }
+    ensures { OnOk result ((turn : plain.Code) (start : ℕ) → StandsAt at.entry.now (plain.Loops id.0 turn) start end →
+        IsBuilt at.entry.now (plain.Loops id.0 turn) blocks.old blocks.new) }
 {
     let base = depth(at.scopes)?;
     let is_left = has_end(at.code, end);
@@ -213,14 +219,14 @@ fn build_loop(
 #[cycle(building)]
 fn build_turn(
     alloc: Global,
-    at: Setting,
+    at: &Setting,
     way: LoopWay,
     end: usize,
     blocks: &mut Blocks,
 ) -> Result<(), NoMemory>
-    requires { IsReached at }
-    ensures { OnOk result ((turn : plain.Code) (start : ℕ) → OneAt at.entry turn start end →
-        builds.IsTurnBuilt at.entry way turn blocks.old blocks.new) }
+    requires { IsReached at.now }
+    ensures { OnOk result ((turn : plain.Code) (start : ℕ) → OneAt at.entry.now turn start end →
+        builds.IsTurnBuilt at.entry.now way turn blocks.old blocks.new) }
 {
     let loops = in_loop(alloc, way, at.ways.loops)?;
     let ways = Ways {
@@ -228,7 +234,8 @@ fn build_turn(
         loops: loops.as_slice(),
     };
     blocks.end(alloc, Term::Goto(way.turn), way.id);
-    build_one(alloc, Setting { ways, ..at }, end, blocks)?;
+    let in_turn = Setting { ways, ..*at };
+    build_one(alloc, &in_turn, end, blocks)?;
     blocks.fill(alloc, Kind::Turn, way.turn)?;
     blocks.end(alloc, Term::Goto(way.turn), way.id);
     Ok(())
@@ -236,16 +243,17 @@ fn build_turn(
 
 /// Of the arms before a word: the last is built first, and behind it a panic.
 #[cycle(building)]
+#[inline(never)]
 fn build_match(
     alloc: Global,
-    at: Setting,
+    at: &Setting,
     node: NodeId,
     end: usize,
     blocks: &mut Blocks,
 ) -> Result<(), NoMemory>
-    requires { IsReached at }
-    ensures { OnOk result ((arms : plain.Arms) (start : ℕ) → StandsAt at.entry (plain.Matches node.0 arms) start end →
-        IsBuilt at.entry (plain.Matches node.0 arms) blocks.old blocks.new) }
+    requires { IsReached at.now }
+    ensures { OnOk result ((arms : plain.Arms) (start : ℕ) → StandsAt at.entry.now (plain.Matches node.0 arms) start end →
+        IsBuilt at.entry.now (plain.Matches node.0 arms) blocks.old blocks.new) }
 {
     let to = join(alloc, has_end(at.code, end), blocks)?;
     panic(alloc, at.frame, node, Why::Match, at.scopes, blocks)?;
@@ -256,15 +264,15 @@ fn build_match(
 #[cycle(building)]
 fn build_arms(
     alloc: Global,
-    at: Setting,
+    at: &Setting,
     node: NodeId,
     to: u32,
     end: usize,
     blocks: &mut Blocks,
 ) -> Result<(), NoMemory>
-    requires { IsReached at }
-    ensures { OnOk result ((arms : plain.Arms) (begin : ℕ) → ArmsStandAt at.entry arms begin end →
-        ArmsAreBuilt at.entry node.0 to (lowers_arms (frame_at at.entry) arms) blocks.old blocks.new) }
+    requires { IsReached at.now }
+    ensures { OnOk result ((arms : plain.Arms) (begin : ℕ) → ArmsStandAt at.entry.now arms begin end →
+        ArmsAreBuilt at.entry.now node.0 to (lowers_arms (frame_at at.entry.now) arms) blocks.old blocks.new) }
 {
     match arm_before(at.code, end) {
         Some(last) => {
@@ -282,14 +290,14 @@ fn build_arms(
 #[cycle(building)]
 fn build_arm(
     alloc: Global,
-    at: Setting,
+    at: &Setting,
     otherwise: u32,
     end: usize,
     blocks: &mut Blocks,
 ) -> Result<(), NoMemory>
-    requires { IsReached at }
-    ensures { OnOk result ((one : plain.Arm) (start : ℕ) → ArmStandsAt at.entry one start end →
-        ArmIsBuiltBefore at.entry (lowers_arm (frame_at at.entry) one) otherwise blocks.old blocks.new) }
+    requires { IsReached at.now }
+    ensures { OnOk result ((one : plain.Arm) (start : ℕ) → ArmStandsAt at.entry.now one start end →
+        ArmIsBuiltBefore at.entry.now (lowers_arm (frame_at at.entry.now) one) otherwise blocks.old blocks.new) }
 {
     let Some(word) = word_at(at.code, end) else {
         return Ok(());
@@ -308,16 +316,16 @@ fn build_arm(
 #[cycle(building)]
 fn build_taken(
     alloc: Global,
-    at: Setting,
+    at: &Setting,
     guard: Option<Key>,
     otherwise: u32,
     end: usize,
     blocks: &mut Blocks,
 ) -> Result<(), NoMemory>
-    requires { IsReached at }
+    requires { IsReached at.now }
     ensures { OnOk result ((asked : plain.Guard) (inner : plain.Code) (start : ℕ) →
-        builds.TakenStandsAt at.entry guard asked inner start end →
-        ArmIsBuiltBefore at.entry (guarded (frame_at at.entry) asked (lowers (frame_at at.entry) inner)) otherwise blocks.old blocks.new) }
+        builds.TakenStandsAt at.entry.now guard asked inner start end →
+        ArmIsBuiltBefore at.entry.now (guarded (frame_at at.entry.now) asked (lowers (frame_at at.entry.now) inner)) otherwise blocks.old blocks.new) }
 {
     match guard {
         Some(key) => build_guarded(alloc, at, key, otherwise, end, blocks),
@@ -329,15 +337,15 @@ fn build_taken(
 #[cycle(building)]
 fn build_guarded(
     alloc: Global,
-    at: Setting,
+    at: &Setting,
     key: Key,
     otherwise: u32,
     end: usize,
     blocks: &mut Blocks,
 ) -> Result<(), NoMemory>
-    requires { IsReached at }
-    ensures { OnOk result ((guard code : plain.Code) (start : ℕ) → TwoAt at.entry guard code start end →
-        ArmIsBuiltBefore at.entry (builds.guarded_by at.entry key.0 guard code) otherwise blocks.old blocks.new) }
+    requires { IsReached at.now }
+    ensures { OnOk result ((guard code : plain.Code) (start : ℕ) → TwoAt at.entry.now guard code start end →
+        ArmIsBuiltBefore at.entry.now (builds.guarded_by at.entry.now key.0 guard code) otherwise blocks.old blocks.new) }
 {
     match two_before(at.code, end) {
         Some(two) => {
@@ -352,17 +360,17 @@ fn build_guarded(
 #[cycle(building)]
 fn build_behind_guard(
     alloc: Global,
-    at: Setting,
+    at: &Setting,
     key: Key,
     otherwise: u32,
     one: usize,
     another: usize,
     blocks: &mut Blocks,
 ) -> Result<(), NoMemory>
-    requires { IsReached at }
+    requires { IsReached at.now }
     ensures { OnOk result ((guard code : plain.Code) (start : ℕ) →
-        StandsAt at.entry guard start one → StandsAt at.entry code (suc one) another →
-        IsBuiltBehindGuard at.entry key.0 guard code otherwise blocks.old blocks.new) }
+        StandsAt at.entry.now guard start one → StandsAt at.entry.now code (suc one) another →
+        IsBuiltBehindGuard at.entry.now key.0 guard code otherwise blocks.old blocks.new) }
 {
     if !has_end(at.code, one) {
         return Ok(());

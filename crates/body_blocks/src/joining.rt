@@ -16,10 +16,10 @@ use mir_base::NoMemory;
 use std::alloc::Global;
 
 /// Whether a run comes behind one of two codes.
-pub fn one_has_end(at: Setting, two: Two) -> bool
+pub fn one_has_end(at: &Setting, two: Two) -> bool
     ensures { (c d : plain.Code) (start : ℕ) →
-        StandsAt at.entry c start two.one → StandsAt at.entry d (suc two.one) two.another →
-        result ≡ ((lowers (frame_at at.entry) c).has_end || (lowers (frame_at at.entry) d).has_end) }
+        StandsAt at.entry.now c start two.one → StandsAt at.entry.now d (suc two.one) two.another →
+        result ≡ ((lowers (frame_at at.entry.now) c).has_end || (lowers (frame_at at.entry.now) d).has_end) }
 {
     if has_end(at.code, two.one) {
         return true;
@@ -56,13 +56,13 @@ pub fn close_exit(alloc: Global, is_left: bool, blocks: &mut Blocks) -> Result<(
 /// The innermost scope is left behind the code before a word, if that has an end.
 pub fn leave_behind(
     alloc: Global,
-    at: Setting,
+    at: &Setting,
     end: usize,
     blocks: &mut Blocks,
 ) -> Result<(), NoMemory>
-    requires { IsReached at }
-    ensures { OnOk result ((c : plain.Code) (start : ℕ) → OneAt at.entry c start end →
-        IsBuiltBehind at.entry (lowers (frame_at at.entry) c) (build.leave (frame_at at.entry)) blocks.old blocks.new) }
+    requires { IsReached at.now }
+    ensures { OnOk result ((c : plain.Code) (start : ℕ) → OneAt at.entry.now c start end →
+        IsBuiltBehind at.entry.now (lowers (frame_at at.entry.now) c) (build.leave (frame_at at.entry.now)) blocks.old blocks.new) }
 {
     let Some(inner) = end.checked_sub(1) else {
         return Ok(());

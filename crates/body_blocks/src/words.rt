@@ -13,15 +13,16 @@ use std::alloc::Global;
 
 /// The blocks of code that is one word, before what is open, by whether a run comes behind it.
 #[tactic(auto, using(crate::proofs::Steps::by_end))]
+#[inline(never)]
 pub fn build_word(
     alloc: Global,
-    at: Setting,
+    at: &Setting,
     word: &Op,
     ends: bool,
     blocks: &mut Blocks,
 ) -> Result<(), NoMemory>
     ensures { OnOk result ((c : plain.Code) → leaf_of (op_of word.now) ≡ Some c →
-        ends ≡ (lowers (frame_at at.entry) c).has_end → IsBuilt at.entry c blocks.old blocks.new) }
+        ends ≡ (lowers (frame_at at.entry.now) c).has_end → IsBuilt at.entry.now c blocks.old blocks.new) }
 {
     let frame = at.frame;
     let scopes = at.scopes;

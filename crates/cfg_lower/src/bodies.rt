@@ -91,7 +91,7 @@ fn build_entire<'a>(
         arena,
         scopes,
     };
-    build(alloc, at, code.words.len().saturating_sub(1), blocks)?;
+    build(alloc, &at, code.words.len().saturating_sub(1), blocks)?;
     blocks.fill(alloc, Kind::Plain, 0)
 }
 

@@ -17,28 +17,28 @@ use Rattle.body_blocks.proofs.joining.leave_behind.Goals as goal
 
 pub returns-then-not-has_end : goal.returns-then-not-has_end
 returns-then-not-has_end c = λ code start one.
-    let f : Frame = frame_at c.args.at in
+    let f : Frame = frame_at c.args.at.now in
     let ends : c.args.end ≡ suc c.in-Some.inner = search rules in
-    let stands : Stands f (map op_of c.args.at.code.words.now) c.args.at.code.marks.now code start c.in-Some.inner =
-    subst (λ (d : ℕ). Stands f (map op_of c.args.at.code.words.now) c.args.at.code.marks.now code start d) (before_is c.args.end one.0 c.in-Some.inner one.1.0 ends) one.1.1 in
+    let stands : Stands f (map op_of c.args.at.now.code.words.now) c.args.at.now.code.marks.now code start c.in-Some.inner =
+    subst (λ (d : ℕ). Stands f (map op_of c.args.at.now.code.words.now) c.args.at.now.code.marks.now code start d) (before_is c.args.end one.0 c.in-Some.inner one.1.0 ends) one.1.1 in
     let never_ends : (lowers f code).has_end ≡ false = sym (c.has_end.ensures f code start stands) ∙ search rules in
-    behind_false (lowers f code).has_end (lowers f code) (build.leave f) (ways_of c.args.at.ways) (scopes_of c.args.at.scopes.now)
+    behind_false (lowers f code).has_end (lowers f code) (build.leave f) (ways_of c.args.at.now.ways) (scopes_of c.args.at.now.scopes.now)
     (rest_of c.args.blocks.now.rest) (building_of c.args.blocks.now) never_ends
 
 pub returns : goal.returns
 returns c =
-    let f : Frame = frame_at c.args.at in
-    let words : List Op = map op_of c.args.at.code.words.now in
-    let marks : List Mark = c.args.at.code.marks.now in
+    let f : Frame = frame_at c.args.at.now in
+    let words : List Op = map op_of c.args.at.now.code.words.now in
+    let marks : List Mark = c.args.at.now.code.marks.now in
     let ends : c.args.end ≡ suc c.in-Some.inner = search rules in
     on_ok_weaker c.leave.result
     (λ made code start one.
     let stands : Stands f words marks code start c.in-Some.inner =
     subst (λ (d : ℕ). Stands f words marks code start d) (before_is c.args.end one.0 c.in-Some.inner one.1.0 ends) one.1.1 in
     let has_end : (lowers f code).has_end ≡ true = sym (c.has_end.ensures f code start stands) ∙ search rules in
-    let scopes : scopes_of c.in_ok-scopes.scopes.now ≡ (lowers f code).after (scopes_of c.args.at.scopes.now) =
+    let scopes : scopes_of c.in_ok-scopes.scopes.now ≡ (lowers f code).after (scopes_of c.args.at.now.scopes.now) =
     c.in_ok-scopes.ensures f code start stands in
     made
     ∙ ap (λ (S : Scopes). build.leave_from f S (rest_of c.args.blocks.now.rest) (building_of c.args.blocks.now)) scopes
-    ∙ behind_true (lowers f code).has_end (lowers f code) (build.leave f) (ways_of c.args.at.ways) (scopes_of c.args.at.scopes.now)
+    ∙ behind_true (lowers f code).has_end (lowers f code) (build.leave f) (ways_of c.args.at.now.ways) (scopes_of c.args.at.now.scopes.now)
     (rest_of c.args.blocks.now.rest) (building_of c.args.blocks.now) has_end) c.leave.ensures
