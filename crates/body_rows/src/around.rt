@@ -15,11 +15,36 @@ use typed_tree::TBody;
 
 /// What is put aside of a walk while another body is gone over: the next number of a node, the breaks so far, and the
 /// bodies that are whole.
-#[derive(Drop)]
 pub struct Outer {
     pub next_node: u32,
     pub breaks: List<BreakOut>,
     pub bodies: List<TBody>,
+}
+
+/// As a derived one; but written here, it is proved here, and not again in each crate in which such a value ends.
+impl Drop for Outer {
+    fn drop(self) {
+        let Outer {
+            next_node: _,
+            breaks,
+            bodies,
+        } = self;
+        drop(breaks);
+        drop(bodies);
+    }
+}
+
+impl Outer {
+    fn into_parts(self) -> (u32, List<BreakOut>, List<TBody>)
+        ensures { result ≡ (self.next_node, self.breaks, self.bodies) }
+    {
+        let Outer {
+            next_node,
+            breaks,
+            bodies,
+        } = self;
+        (next_node, breaks, bodies)
+    }
 }
 
 /// A body of its own begins: its nodes are numbered from 0, and no `break` of the body around is one of its own.
@@ -62,11 +87,7 @@ pub fn end_body(checker: &mut Checker, outer: Outer, body: TBody) -> Result<(), 
     ensures same { OnOk result (Same checker.old checker.new) }
     ensures short { IfErr result (λ e. e ≡ RuleError.Memory) }
 {
-    let Outer {
-        next_node,
-        breaks,
-        bodies,
-    } = outer;
+    let (next_node, breaks, bodies) = outer.into_parts();
     let inner = mem::replace(&mut checker.walk.bodies, List::new(checker.alloc));
     checker.walk.next_node = next_node;
     checker.walk.breaks = breaks;

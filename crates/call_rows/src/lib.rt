@@ -7,4 +7,4 @@ mod lists;
 
 pub use aggregates::{array_end, box_end, tuple_end};
 pub use calls::{call_end, counted_end, fitted_many, match_end};
-pub use lists::{Behind, Many, one_type_of, take_nodes, wrap_behind, wrap_many};
+pub use lists::{Behind, Many, let_go, one_type_of, take_nodes, wrap_behind, wrap_many};

@@ -5,16 +5,15 @@ ghost use Rattle.typed_tree.specs.View.{form_of, nodes_from, tree_of};
 ghost use Rattle.typing_rules.specs.Places.{a_node_of};
 ghost use Rattle.typing_rules.specs.Rows as rows;
 ghost use Rattle.well_typed.specs.Places.{ty_of};
-ghost use Rattle.call_rows.specs.Lists.{behind_form, below_all, last_nodes, last_types, many_form};
+ghost use Rattle.call_rows.specs.Lists.{behind_form, below_all, last_nodes, last_types, many_form, nodes_on};
 ghost use Rattle.type_rows.specs.Stand.{Stays, below, node_if_any, stack, state, top};
 
-use item_heads::pushed;
-use mir_base::{List, NodeId, Pos, RuleError};
+use mir_base::{List, NoMemory, NodeId, Pos, RuleError};
 use mir_ty::{Items, TyId};
 use std::alloc::Global;
 use type_env::one_of_two;
 use type_rows::Checker;
-use typed_tree::{Form, Node};
+use typed_tree::{Form, Node, discard_nodes, push_node};
 
 /// A form with a list of parts.
 #[derive(Clone, Copy)]
@@ -97,11 +96,29 @@ fn take_one(checker: &mut Checker, taken: &mut List<Node>) -> Result<(), RuleErr
     ensures short { IfErr result (λ e. e ≡ RuleError.Memory) }
 {
     let node = checker.pop()?;
-    pushed(taken, node)
+    match push_node(taken, node) {
+        Ok(()) => Ok(()),
+        Err(NoMemory) => Err(RuleError::Memory),
+    }
+}
+
+/// The last nodes, so many, the last one first, taken off onto others.
+#[tactic(auto, using(crate::proofs::LastOnes::one_taken, crate::proofs::LastOnes::one_left))]
+fn take_each(checker: &mut Checker, taken: &mut List<Node>, count: usize) -> Result<(), RuleError>
+    ensures made { OnOk result (nodes_from (map tree_of (reverse taken.new)) ≡
+        nodes_on count (stack checker.old) (nodes_from (map tree_of (reverse taken.old)))) }
+    ensures left { OnOk result (stack checker.new ≡ below_all count (stack checker.old)) }
+    ensures state { OnOk result (state checker.new ≡ state checker.old) }
+    ensures place { OnOk result (Stays checker.old checker.new) }
+    ensures short { IfErr result (λ e. e ≡ RuleError.Memory) }
+{
+    for _n in 0..count {
+        take_one(checker, taken)?;
+    }
+    Ok(())
 }
 
 /// The last nodes, so many, the first of them first, taken off.
-#[tactic(auto, using(crate::proofs::LastOnes::one_taken, crate::proofs::LastOnes::one_left))]
 pub fn take_nodes(checker: &mut Checker, count: usize) -> Result<List<Node>, RuleError>
     ensures taken { IfOk result (λ nodes. nodes_from (map tree_of nodes) ≡ last_nodes count (stack checker.old)) }
     ensures left { OnOk result (stack checker.new ≡ below_all count (stack checker.old)) }
@@ -110,10 +127,25 @@ pub fn take_nodes(checker: &mut Checker, count: usize) -> Result<List<Node>, Rul
     ensures short { IfErr result (λ e. e ≡ RuleError.Memory) }
 {
     let mut taken = checker.list_for(count)?;
-    for _n in 0..count {
-        take_one(checker, &mut taken)?;
+    match take_each(checker, &mut taken, count) {
+        Ok(()) => Ok(turned(taken)),
+        Err(error) => {
+            discard_nodes(taken);
+            Err(error)
+        }
     }
-    Ok(turned(taken))
+}
+
+/// The last nodes, so many, taken off and let go.
+pub fn let_go(checker: &mut Checker, count: usize) -> Result<(), RuleError>
+    ensures left { OnOk result (stack checker.new ≡ below_all count (stack checker.old)) }
+    ensures state { OnOk result (state checker.new ≡ state checker.old) }
+    ensures place { OnOk result (Stays checker.old checker.new) }
+    ensures short { IfErr result (λ e. e ≡ RuleError.Memory) }
+{
+    let nodes = take_nodes(checker, count)?;
+    discard_nodes(nodes);
+    Ok(())
 }
 
 /// A node without a use around the last ones, so many.
@@ -152,8 +184,13 @@ pub fn wrap_behind(
     ensures short { IfErr result (λ e. e ≡ RuleError.Memory) }
 {
     let given = take_nodes(checker, count)?;
-    let first = checker.part()?;
-    checker.put(id, at, ty, form_of_behind(behind, first, given))
+    match checker.part() {
+        Ok(first) => checker.put(id, at, ty, form_of_behind(behind, first, given)),
+        Err(error) => {
+            discard_nodes(given);
+            Err(error)
+        }
+    }
 }
 
 #[tactic(auto, using(type_rows::proofs::Nodes::ty_same))]

@@ -14,7 +14,7 @@ ghost use Rattle.typing_rules.specs.Places as places;
 ghost use Rattle.typing_rules.specs.Rows as rows;
 
 use crate::begun::{Begun, Ending};
-use call_rows::{Many, box_end, call_end as body_end, take_nodes};
+use call_rows::{Many, box_end, call_end as body_end, let_go};
 use item_heads::{broken, obeys, pushed};
 use mir_base::{List, NodeId, Pos, Rule, RuleError};
 use mir_ty::TyId;
@@ -103,8 +103,7 @@ fn first_alone(checker: &mut Checker, count: usize) -> Result<(), RuleError>
     ensures place { OnOk result (Stays checker.old checker.new) }
     ensures short { IfErr result (λ e. e ≡ RuleError.Memory) }
 {
-    let _others = take_nodes(checker, count - 1)?;
-    Ok(())
+    let_go(checker, count - 1)
 }
 
 /// A node around the first of the last nodes, so many; `()` where there is none.
@@ -154,7 +153,7 @@ fn ask_end(
     ensures gives { Gives (counted_rest id.0 at (places.int IntKind.I32) tree.Ask Rule.T04 (count == 0) want (state checker.old)) result checker.new }
     ensures kept { Keeps (below_all count (stack checker.old)) checker.old result checker.new }
 {
-    let _given = take_nodes(checker, count)?;
+    let_go(checker, count)?;
     checker.fitted_leaf(id, at, TyId(3), Leaf::Ask, want)?;
     obeys(Rule::T04, at, count == 0)
 }

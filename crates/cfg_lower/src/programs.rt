@@ -28,6 +28,14 @@ pub struct Lowered {
     pub sites: List<Site>,
 }
 
+impl Lowered {
+    /// The graph and its sites are let go.
+    pub fn discard(self) {
+        self.graph.discard();
+        drop(self.sites);
+    }
+}
+
 /// The sites of a body that is lowered, behind others.
 fn add_sites(
     alloc: Global,

@@ -10,7 +10,7 @@ ghost use Rattle.typing_rules.specs.Program as rules;
 ghost use Rattle.typing_rules.specs.Written.{written_param};
 ghost use Rattle.item_check.specs.Forms.{done, fresh, with_outside};
 
-use call_rows::take_nodes;
+use call_rows::let_go;
 use mir_base::{List, RuleError};
 use param_rows::params_of;
 use src_ast::Nodes;
@@ -56,9 +56,7 @@ fn params_alone(checker: &mut Checker, params: Nodes) -> Result<(), RuleError>
 {
     let mut bound = Variables::new(checker.alloc);
     let tys = params_of(checker, &mut bound, true, params)?;
-    let patterns = take_nodes(checker, tys.len())?;
-    drop(patterns);
-    Ok(())
+    let_go(checker, tys.len())
 }
 
 /// The parameters of a head.

@@ -13,7 +13,7 @@ use call_rows::take_nodes;
 use mir_base::{NodeId, Pos, RuleError};
 use mir_ty::TyId;
 use type_rows::Checker;
-use typed_tree::Form;
+use typed_tree::{Form, discard_node};
 
 fn wrap_statements(
     checker: &mut Checker,
@@ -55,16 +55,16 @@ fn wrap_tail(
     ensures short { IfErr result (λ e. e ≡ RuleError.Memory) }
 {
     let tail = checker.part()?;
-    let statements = take_nodes(checker, count)?;
-    checker.put(
-        id,
-        at,
-        ty,
-        Form::Block {
-            statements,
-            tail: Some(tail),
-        },
-    )
+    match take_nodes(checker, count) {
+        Ok(statements) => {
+            let tail = Some(tail);
+            checker.put(id, at, ty, Form::Block { statements, tail })
+        }
+        Err(error) => {
+            discard_node(tail);
+            Err(error)
+        }
+    }
 }
 
 /// A block without a tail, whose statements are the last nodes, so many: it has the type `!` where one of them ends,

@@ -43,10 +43,14 @@ fn judged(graph: Graph) -> Result<Graph, ListingError>
 {
     match well_formed(&graph) {
         Ok(()) => Ok(graph),
-        Err(fault) => match line_of_fault(&graph, &fault) {
-            Some(line) => Err(ListingError::BadGraph { fault, line }),
-            None => Err(ListingError::Memory),
-        },
+        Err(fault) => {
+            let line = line_of_fault(&graph, &fault);
+            graph.discard();
+            match line {
+                Some(line) => Err(ListingError::BadGraph { fault, line }),
+                None => Err(ListingError::Memory),
+            }
+        }
     }
 }
 
@@ -55,10 +59,14 @@ fn answer(graph: Graph, whole: bool, rest: &[u8]) -> Result<Graph, ListingError>
     ensures { Judges graph whole rest.now result }
 {
     let Some(lines) = lines_count(&graph) else {
+        graph.discard();
         return Err(ListingError::Memory);
     };
     match wrong_line(lines, whole, rest) {
-        Some(line) => Err(ListingError::BadListing { line }),
+        Some(line) => {
+            graph.discard();
+            Err(ListingError::BadListing { line })
+        }
         None => judged(graph),
     }
 }

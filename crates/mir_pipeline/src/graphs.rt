@@ -64,7 +64,7 @@ fn counted(lowered: Lowered) -> Result<Lowered, NoMemory>
     if is_counted(&lowered.graph) {
         return Ok(lowered);
     }
-    drop(lowered);
+    lowered.discard();
     Err(NoMemory)
 }
 
@@ -92,7 +92,7 @@ pub fn build_raw(alloc: Global, text: &[u8]) -> Result<Lowered, Refusal>
 {
     let typed = read_typed(alloc, text)?;
     let built = graph_of(alloc, &typed);
-    drop(typed);
+    typed.discard();
     match built {
         Ok(lowered) => Ok(lowered),
         Err(NoMemory) => Err(Refusal::Memory),

@@ -24,7 +24,7 @@ fn borrowed(alloc: Global, typed: Typed) -> Result<Typed, RuleError>
     match borrow_check(alloc, &typed) {
         Ok(()) => Ok(typed),
         Err(e) => {
-            drop(typed);
+            typed.discard();
             Err(e)
         }
     }

@@ -190,7 +190,7 @@ fn accepted(alloc: Global, lowered: Lowered) -> Result<Lowered, Refusal>
     match checked_uses(alloc, &lowered) {
         Ok(()) => Ok(lowered),
         Err(refusal) => {
-            drop(lowered);
+            lowered.discard();
             Err(refusal)
         }
     }

@@ -27,7 +27,7 @@ pub fn check_answer(alloc: Global, text: &[u8]) -> Result<Answer, NoMemory>
 {
     match checked(alloc, text) {
         Ok(lowered) => {
-            drop(lowered);
+            lowered.discard();
             accepted(alloc)
         }
         Err(refusal) => refused(alloc, &refusal),

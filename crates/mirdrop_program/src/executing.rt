@@ -43,7 +43,11 @@ pub fn run_listing<K: Sink>(alloc: Global, request: &Request, text: &[u8], sink:
     ensures done { Responded request.now text.now (K.taken sink.old) (K.taken sink.new) (HasRisen (K.faults sink.old) (K.faults sink.new)) result }
 {
     match read_listing(alloc, text) {
-        Ok(graph) => execute(alloc, request, &graph, sink),
+        Ok(graph) => {
+            let status = execute(alloc, request, &graph, sink);
+            graph.discard();
+            status
+        }
         Err(error) => hand_on(sink, refused_listing(alloc, error)),
     }
 }

@@ -82,7 +82,11 @@ pub fn raw_answer(alloc: Global, text: &[u8]) -> Result<Answer, NoMemory>
     ensures { IfOk result (λ answer. OwedByRaw text.now answer.status answer.text.items) }
 {
     match build_raw(alloc, text) {
-        Ok(lowered) => graph_answer(alloc, &lowered),
+        Ok(lowered) => {
+            let answer = graph_answer(alloc, &lowered);
+            lowered.discard();
+            answer
+        }
         Err(refusal) => refused(alloc, &refusal),
     }
 }

@@ -67,7 +67,11 @@ pub fn run_program<K: Sink>(alloc: Global, request: &Request, text: &[u8], sink:
     ensures done { Responded request.now text.now (K.taken sink.old) (K.taken sink.new) (HasRisen (K.faults sink.old) (K.faults sink.new)) result }
 {
     match checked(alloc, text) {
-        Ok(lowered) => run_graph(alloc, request, &lowered.graph, sink),
+        Ok(lowered) => {
+            let status = run_graph(alloc, request, &lowered.graph, sink);
+            lowered.discard();
+            status
+        }
         Err(refusal) => hand_on(sink, refused(alloc, &refusal)),
     }
 }

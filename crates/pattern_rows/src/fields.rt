@@ -5,18 +5,18 @@ ghost use Rattle.typed_tree.specs.Tree.{a_field};
 ghost use Rattle.typed_tree.specs.View.{field_of, fields_from, form_of};
 ghost use Rattle.typing_rules.specs.Patterns as rules;
 ghost use Rattle.typing_rules.specs.Places.{a_node_of};
-ghost use Rattle.pattern_rows.specs.Fields.{below_given, below_if, last_fields, with_last};
+ghost use Rattle.pattern_rows.specs.Fields.{below_given, below_if, fields_on, last_fields, with_last};
 ghost use Rattle.pattern_rows.specs.Rests.{known_rest, target_rest, test_rest};
 ghost use Rattle.pattern_rows.specs.Targets.{target_of as target_in};
 ghost use Rattle.type_rows.specs.Stand.{Gives, Keeps, Stays, below, stack, state, top};
 
 use crate::targets::{Target, is_test};
-use item_heads::{obeys, pushed};
-use mir_base::{List, NodeId, Pos, Rule, RuleError};
+use item_heads::obeys;
+use mir_base::{List, NoMemory, NodeId, Pos, Rule, RuleError};
 use mir_ty::{Items, TyId};
 use type_env::is_enum;
 use type_rows::Checker;
-use typed_tree::{Form, NumberedField, Use};
+use typed_tree::{Form, NumberedField, Use, discard_fields, push_field};
 
 fn take_one(
     checker: &mut Checker,
@@ -31,7 +31,10 @@ fn take_one(
     ensures short { IfErr result (λ e. e ≡ RuleError.Memory) }
 {
     let value = checker.pop()?;
-    pushed(taken, NumberedField { number, value })
+    match push_field(taken, NumberedField { number, value }) {
+        Ok(()) => Ok(()),
+        Err(NoMemory) => Err(RuleError::Memory),
+    }
 }
 
 fn take_if(
@@ -60,6 +63,26 @@ fn turned(fields: List<NumberedField>) -> List<NumberedField>
     List::from_vec(fields)
 }
 
+/// The fields of these numbers, if they are, whose nodes are the last ones, the last one first, taken off onto others.
+fn take_each(
+    checker: &mut Checker,
+    taken: &mut List<NumberedField>,
+    given: List<Option<u32>>,
+) -> Result<(), RuleError>
+    ensures made { OnOk result (fields_from (map field_of (reverse taken.new)) ≡
+        fields_on (reverse given) (stack checker.old) (fields_from (map field_of (reverse taken.old)))) }
+    ensures left { OnOk result (stack checker.new ≡ below_given given (stack checker.old)) }
+    ensures state { OnOk result (state checker.new ≡ state checker.old) }
+    ensures place { OnOk result (Stays checker.old checker.new) }
+    ensures short { IfErr result (λ e. e ≡ RuleError.Memory) }
+{
+    let mut given = given;
+    while let Some(number) = given.pop() {
+        take_if(checker, taken, number)?;
+    }
+    Ok(())
+}
+
 /// The fields of these numbers, if they are, whose nodes are the last ones, taken off.
 fn take_fields(
     checker: &mut Checker,
@@ -72,11 +95,13 @@ fn take_fields(
     ensures short { IfErr result (λ e. e ≡ RuleError.Memory) }
 {
     let mut taken = checker.list_for(given.len())?;
-    let mut given = given;
-    while let Some(number) = given.pop() {
-        take_if(checker, &mut taken, number)?;
+    match take_each(checker, &mut taken, given) {
+        Ok(()) => Ok(turned(taken)),
+        Err(error) => {
+            discard_fields(taken);
+            Err(error)
+        }
     }
-    Ok(turned(taken))
 }
 
 fn form_of_target(items: &Items, target: Target, fields: List<NumberedField>) -> Form

@@ -12,20 +12,10 @@ use crate::forms::{
     Four, Leaf, One, Three, Two, form_of_four, form_of_leaf, form_of_one, form_of_three,
     form_of_two,
 };
-use mir_base::{List, NodeId, Pos, RuleError};
+use mir_base::{List, NoMemory, NodeId, Pos, RuleError};
 use mir_ty::TyId;
 use std::alloc::Global;
-use typed_tree::{Form, Node, Use};
-
-fn boxed(alloc: Global, node: Node) -> Result<Box<Node, Global>, RuleError>
-    ensures made { IfOk result (λ part. part.value ≡ node) }
-    ensures short { IfErr result (λ e. e ≡ RuleError.Memory) }
-{
-    match Box::new(alloc, node) {
-        Ok(part) => Ok(part),
-        Err(_) => Err(RuleError::Memory),
-    }
-}
+use typed_tree::{Form, Node, Use, boxed_node, discard_node, push_node};
 
 #[tactic(auto, using(crate::proofs::Nodes::ty_same))]
 fn ty_if_any(node: Option<&Node>) -> TyId
@@ -125,9 +115,9 @@ impl Checker {
         ensures place { OnOk result (Stays self.old self.new) }
         ensures short { IfErr result (λ e. e ≡ RuleError.Memory) }
     {
-        match self.walk.made.push(node) {
+        match push_node(&mut self.walk.made, node) {
             Ok(()) => Ok(()),
-            Err(_) => Err(RuleError::Memory),
+            Err(NoMemory) => Err(RuleError::Memory),
         }
     }
 
@@ -155,7 +145,28 @@ impl Checker {
         ensures short { IfErr result (λ e. e ≡ RuleError.Memory) }
     {
         let node = self.pop()?;
-        boxed(self.alloc, node)
+        match boxed_node(self.alloc, node) {
+            Ok(part) => Ok(part),
+            Err(NoMemory) => Err(RuleError::Memory),
+        }
+    }
+
+    /// The last two nodes, taken off, in order.
+    fn two_parts(&mut self) -> Result<(Box<Node, Global>, Box<Node, Global>), RuleError>
+        ensures taken { IfOk result (λ parts. (tree_of parts.0.value ≡ top (below (stack self.old))) × (tree_of parts.1.value ≡ top (stack self.old))) }
+        ensures made { OnOk result (stack self.new ≡ below (below (stack self.old))) }
+        ensures state { OnOk result (state self.new ≡ state self.old) }
+        ensures place { OnOk result (Stays self.old self.new) }
+        ensures short { IfErr result (λ e. e ≡ RuleError.Memory) }
+    {
+        let second = self.part()?;
+        match self.part() {
+            Ok(first) => Ok((first, second)),
+            Err(error) => {
+                discard_node(second);
+                Err(error)
+            }
+        }
     }
 
     /// A node without a use, behind those that were made.
@@ -208,8 +219,7 @@ impl Checker {
         ensures place { OnOk result (Stays self.old self.new) }
         ensures short { IfErr result (λ e. e ≡ RuleError.Memory) }
     {
-        let second = self.part()?;
-        let first = self.part()?;
+        let (first, second) = self.two_parts()?;
         self.put(id, at, ty, form_of_two(two, first, second))
     }
 
@@ -229,9 +239,13 @@ impl Checker {
         ensures short { IfErr result (λ e. e ≡ RuleError.Memory) }
     {
         let third = self.part()?;
-        let second = self.part()?;
-        let first = self.part()?;
-        self.put(id, at, ty, form_of_three(three, first, second, third))
+        match self.two_parts() {
+            Ok((first, second)) => self.put(id, at, ty, form_of_three(three, first, second, third)),
+            Err(error) => {
+                discard_node(third);
+                Err(error)
+            }
+        }
     }
 
     /// A node without a use around the last four.
@@ -243,11 +257,17 @@ impl Checker {
         ensures place { OnOk result (Stays self.old self.new) }
         ensures short { IfErr result (λ e. e ≡ RuleError.Memory) }
     {
-        let fourth = self.part()?;
-        let third = self.part()?;
-        let second = self.part()?;
-        let first = self.part()?;
-        self.put(id, at, ty, form_of_four(four, first, second, third, fourth))
+        let (third, fourth) = self.two_parts()?;
+        match self.two_parts() {
+            Ok((first, second)) => {
+                self.put(id, at, ty, form_of_four(four, first, second, third, fourth))
+            }
+            Err(error) => {
+                discard_node(third);
+                discard_node(fourth);
+                Err(error)
+            }
+        }
     }
 
     /// A node without parts and use, behind those that were made.

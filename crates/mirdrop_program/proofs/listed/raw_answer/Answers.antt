@@ -4,7 +4,7 @@ use Rattle.mirdrop_program.proofs.listed.raw_answer.Goals as goal
 
 pub returns-in-Ok : goal.returns-in-Ok
 returns-in-Ok c =
-    IfOk-weaker c.graph_answer.result _ _ (λ answer owed. owed c.args.text.now c.in-Ok.ensures.graph) c.graph_answer.ensures
+    IfOk-weaker c.graph_answer-answer.result _ _ (λ answer owed. owed c.args.text.now c.in-Ok.ensures.graph) c.graph_answer-answer.ensures
 
 pub returns-in-Err : goal.returns-in-Err
 returns-in-Err c =

@@ -6,7 +6,7 @@ use Rattle.mirdrop_program.proofs.running.run_program.Goals as goal
 
 pub returns-in-Ok-clause-done : goal.returns-in-Ok-clause-done
 returns-in-Ok-clause-done g c =
-    program_ran c.args.request.now c.args.text.now _ _ _ c.in-Ok.lowered c.run_graph.result c.requires.command c.in-Ok.ensures.accepted c.run_graph.ensures.done
+    program_ran c.args.request.now c.args.text.now _ _ _ c.in-Ok.lowered c.run_graph-status.result c.requires.command c.in-Ok.ensures.accepted c.run_graph-status.ensures.done
 
 pub returns-in-Err-clause-done : goal.returns-in-Err-clause-done
 returns-in-Err-clause-done g c =

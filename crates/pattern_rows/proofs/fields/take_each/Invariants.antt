@@ -1,13 +1,14 @@
 use Rattle.std.proofs.Common.{◌≡◌, length, map, reverse}
 use Rattle.typed_tree.specs.View.{field_of, fields_from}
 use Rattle.type_rows.specs.Stand.{Stays, stack, state}
-use Rattle.pattern_rows.specs.Fields.{below_given, below_on, fields_on, last_fields}
-use Rattle.pattern_rows.proofs.fields.take_fields.Given as goal
+use Rattle.pattern_rows.specs.Fields.{below_given, below_on, fields_on}
+use Rattle.pattern_rows.proofs.fields.take_each.Given as goal
 
 abbrev pub invariant-loop-number : goal.invariant-loop-number
 invariant-loop-number l =
     record {
-      taken : fields_on (reverse l.given) (stack l.checker) (fields_from (map field_of (reverse l.taken))) ≡ last_fields l.initial.given (stack l.initial.checker);
+      made : fields_on (reverse l.given) (stack l.checker) (fields_from (map field_of (reverse l.taken))) ≡
+          fields_on (reverse l.initial.given) (stack l.initial.checker) (fields_from (map field_of (reverse l.initial.taken)));
       left : below_on (reverse l.given) (stack l.checker) ≡ below_given l.initial.given (stack l.initial.checker);
       state : state l.checker ≡ state l.initial.checker;
       place : Stays l.initial.checker l.checker;
