@@ -3,7 +3,7 @@ use Rattle.std.proofs.Common.{◌≡◌, List, [], ◌∷◌, ℕ, refl}
 use Rattle.std.specs.Prelude.{codes}
 use Rattle.typing_rules.proofs.Accepted as accepted
 use Rattle.typing_rules.proofs.Words.{text}
-use Rattle.typing_examples.proofs.Bare.{trees, trees_of}
+use Rattle.worked_examples.proofs.Typing.Bare.{trees, trees_of}
 use Rattle.src_meaning.proofs.Examples.Closures as closures
 use Rattle.src_meaning.proofs.Examples.Conditions as conditions
 use Rattle.src_meaning.proofs.Examples.JobQueue as job_queue

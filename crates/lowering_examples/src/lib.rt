@@ -1,2 +1,0 @@
-//! The traces of worked programs, from their lowered graphs.
-#![tactic(auto)]

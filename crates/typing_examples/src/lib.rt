@@ -1,2 +1,0 @@
-//! The typed trees of worked programs, typed from their texts.
-#![tactic(auto)]

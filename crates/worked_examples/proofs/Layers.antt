@@ -1,0 +1,4 @@
+mod Items
+mod Numbers
+mod Tokens
+mod Values

@@ -1,0 +1,3 @@
+mod Layers
+mod Lowering
+mod Typing

@@ -1,0 +1,2 @@
+//! What the definitions say of worked cases, closed by computation.
+#![tactic(auto)]
