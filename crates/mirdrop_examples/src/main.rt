@@ -1,90 +1,62 @@
-//! Runs `mirdrop` on each example of the table in `data/README.md`, and says whether it ends with the status of
-//! the table and writes what stands in the file beside the example.
-//!
-//! A row of the table has the example's name, the file with its text, the words, the status, and what the example
-//! shows. What is to be written is in `NAME.trace`.
+//! Runs `mirdrop` on the texts of `data`, and writes whether what is answered is what stands there: a line for each
+//! example of the table in `data/README.md`, one for each file of rows, and one for each check that is code.
 #![tactic(auto)]
 
-use mir_base::{List, NoMemory};
-use mir_edge::{MemSink, MemSource};
-use mirdrop_program::mirdrop;
-use std::alloc::Global;
+mod calls;
+mod deep;
+mod edges;
+mod examples;
+mod faults;
+mod rows;
+mod runs;
+mod trees;
+
+use std::alloc::AllocError;
 use std::rt::Files;
 use std::{fs, io};
 
-/// A row of the table: an example, the file with its text, the words that it is run with, and the status that is
-/// wanted.
-#[derive(Clone, Copy)]
-struct Row<'a> {
-    name: &'a str,
-    text: &'a str,
-    words: &'a str,
-    status: &'a str,
-}
-
-/// A cell without blanks around it and without its backticks.
-fn plain(cell: &str) -> &str {
-    cell.trim().trim_matches('`')
-}
-
-/// The row that a line is, if its first cell is in backticks.
-fn row_in(line: &str) -> Option<Row<'_>> {
-    if !line.starts_with("| `") {
-        return None;
+/// Writes whether a check stands, or the first of its steps, counted from 0, that does not.
+fn tell(rt: &impl Print, what: &str, wrong: Result<Option<usize>, AllocError>) -> io::Result<()> {
+    match wrong? {
+        None => println!(rt; "{what}: as written"),
+        Some(step) => println!(rt; "{what}: otherwise at {step}"),
     }
-    let mut cells = line.split('|').skip(1);
-    Some(Row {
-        name: plain(cells.next()?),
-        text: plain(cells.next()?),
-        words: plain(cells.next()?),
-        status: plain(cells.next()?),
-    })
 }
 
-/// What the program wrote, and its status.
-#[derive(Drop)]
-struct Ended {
-    status: u8,
-    written: MemSink,
-}
-
-fn outcome(alloc: Global, words: &str, text: String) -> Result<Ended, NoMemory> {
-    let mut all = Vec::new(alloc);
-    for word in words.split(' ') {
-        all.push(String::from_str(alloc, word)?)?;
-    }
-    let text = List::from_vec(text.into_bytes());
-    let mut source = MemSource::new(text, 4096, List::new(alloc));
-    let mut written = MemSink::new(alloc, 4096, List::new(alloc));
-    written.reserve(1000000)?;
-    let status = mirdrop(alloc, all.as_slice(), &mut source, &mut written);
-    Ok(Ended { status, written })
-}
-
-/// The verdict on one example.
-fn verdict(rt: &(impl Files + AllocGlobal), row: &Row<'_>) -> io::Result<&'static str> {
+fn faults_told(rt: &(impl Print + AllocGlobal)) -> io::Result<()> {
     let alloc = rt.alloc();
-    let text = fs::read_to_string(rt, row.text)?;
-    let wanted = fs::read_to_string(rt, format!(in alloc; "{}.trace", row.name)?.as_str())?;
-    let Ok(ended) = outcome(alloc, row.words, text) else {
-        return Err(io::Error::from(io::ErrorKind::OutOfMemory));
-    };
-    let status = format!(in alloc; "{}", ended.status)?;
-    if status.as_str() != row.status {
-        return Ok("another status");
-    }
-    if ended.written.bytes() != wanted.as_bytes() {
-        return Ok("another trace");
-    }
-    Ok("as written")
+    tell(rt, "reads and writes that fail", faults::listed(alloc))?;
+    tell(rt, "each read fails", faults::each_read(alloc))?;
+    tell(rt, "each write fails", faults::each_write(alloc))?;
+    tell(rt, "each prefix is refused", faults::each_prefix(alloc))?;
+    tell(rt, "bytes that are no text", faults::no_text(alloc))?;
+    tell(rt, "the longest text", faults::long_texts(alloc))?;
+    tell(rt, "deep runs", faults::deep_run(alloc))
+}
+
+fn trees_told(rt: &(impl Files + Print + AllocGlobal)) -> io::Result<()> {
+    let alloc = rt.alloc();
+    let queue = fs::read_to_string(rt, "job_queue.rs")?;
+    let spelled = trees::spelled_back(alloc, queue.as_bytes());
+    drop(queue);
+    tell(rt, "texts spelled back", Ok(spelled))?;
+    tell(rt, "long chains of structs", trees::long_chains(alloc))
+}
+
+fn layers_told(rt: &(impl Print + AllocGlobal)) -> io::Result<()> {
+    let alloc = rt.alloc();
+    tell(rt, "readers of std", Ok(edges::readers(alloc)))?;
+    tell(rt, "writers of std", Ok(edges::writers(alloc)))?;
+    tell(rt, "deep values are dropped", Ok(deep::dropped(alloc)))?;
+    tell(rt, "long paths are walked", Ok(deep::walked(alloc)))?;
+    tell(rt, "long and deep graphs", Ok(deep::graphs(alloc)))?;
+    tell(rt, "calls that no run makes", Ok(calls::made(alloc)))
 }
 
 fn main(rt: HostRuntime) -> io::Result<()> {
-    let table = fs::read_to_string(&rt, "README.md")?;
-    for line in table.lines() {
-        if let Some(row) = row_in(line) {
-            println!(rt; "{}: {}", row.name, verdict(&rt, &row)?)?;
-        }
-    }
-    Ok(())
+    examples::told(&rt)?;
+    rows::told(&rt)?;
+    faults_told(&rt)?;
+    trees_told(&rt)?;
+    layers_told(&rt)
 }

@@ -1,2 +1,0 @@
-mod WorkedItems
-mod WorkedValues

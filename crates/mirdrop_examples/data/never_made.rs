@@ -1,0 +1,7 @@
+struct D(i32);
+impl Drop for D {
+    fn drop(&mut self) {}
+}
+fn main() {
+    let x: D;
+}
