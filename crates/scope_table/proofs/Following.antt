@@ -21,3 +21,7 @@ two_behind old first new a b all is_first is_all is_new =
 pub three_behind : {Y : Type 0} (old first second new a b d all : List Y) → first ≡ old ++ a → second ≡ first ++ b → all ≡ a ++ b ++ d → new ≡ second ++ d → new ≡ old ++ all
 three_behind old first second new a b d all is_first is_second is_all is_new =
     two_behind old second new (a ++ b) d all (two_behind old first second a b (a ++ b) is_first refl is_second) is_all is_new
+
+pub four_behind : {Y : Type 0} (old first second third new a b d e all : List Y) → first ≡ old ++ a → second ≡ first ++ b → third ≡ second ++ d → all ≡ a ++ b ++ d ++ e → new ≡ third ++ e → new ≡ old ++ all
+four_behind old first second third new a b d e all is_first is_second is_third is_all is_new =
+    two_behind old third new (a ++ b ++ d) e all (three_behind old first second third a b d (a ++ b ++ d) is_first is_second refl is_third) is_all is_new

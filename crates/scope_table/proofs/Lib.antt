@@ -1,6 +1,7 @@
 pub mod Entering
 mod Examples
 pub mod Following
+pub mod InForm
 pub mod Naming
 pub mod Passing
 pub mod Positions
