@@ -1,5 +1,5 @@
 -- Whether the names in a type are known tells whether it is refused, where no limit is asked of it.
-use Rattle.std.proofs.Common.{◌≡◌, ℕ, Bool, true, false, not, ◌&&◌, ◌||◌, nat_le, length, List, [], ◌∷◌, Option, Some, None, Result, Ok, Err, refl, ap, sym, subst}
+use Rattle.std.proofs.Common.{◌≡◌, ℕ, Bool, true, false, not, ◌&&◌, ◌||◌, nat_le, length, List, [], ◌∷◌, Option, Some, None, Result, Ok, Err, refl, ap, sym, subst, ◌∙◌}
 use Rattle.std.specs.Prelude.{is_some}
 use Rattle.std.specs.List.{position as position_of}
 use Rattle.mir_base.specs.declared.place_in_text.Pos.{Pos}
@@ -10,6 +10,8 @@ use Rattle.well_typed.specs.Items.{is_equal}
 use Rattle.src_tree.specs.declared.node.Node.{Node}
 use Rattle.src_ast.specs.Seen.{syn_of}
 use Rattle.src_ast.specs.Sorts.{type_part}
+use Rattle.src_ast.specs.Types.{type_of}
+use Rattle.src_ast.specs.declared.ty.TypeForm.{TypeForm}
 use Rattle.src_ast.specs.Syntax.{Syn, syn, Syns, no_syn, a_syn, Shape, shape_of, Ident, LabelOf, Literal, TruthLiteral, Path, Minus, Bang, Star, Ampersand, Calculate, Compare, Both, Either, Store, CallOf, MethodOf, FieldOf, PartOf, ElementOf, StructOf, FieldInit, Parens, TupleOf, ArrayOf, Braces, IfElse, IfLetElse, MatchOn, ArmOf, LoopOf, WhileOf, WhileLetOf, BreakOf, ContinueOf, ReturnOf, MoveOf, PanicOf, LetOf, Empty, Semi, AnyPattern, BindPattern, LiteralPattern, TruthPattern, PathPattern, PartsPattern, FieldsPattern, FieldPattern, ParensPattern, TuplePattern, ArrayPattern, Alternatives, NamedType, GenericType, DynType, SelfType, ParensType, TupleType, ArrayType, NeverType, RefType, StructItem, EnumItem, FieldDecl, VariantDecl, TraitItem, ImplItem, FnItem, ParamOf, SelfParam, Odd}
 use Rattle.typing_rules.specs.Check.{Check, State, Broken, and_then, obeys, known, interned, interned_at}
 use Rattle.typing_rules.specs.Places.{unit}
@@ -94,6 +96,12 @@ stands_seen_as w (syn at form) = form_stands_as w form
 
 pub stands_seen : (w : Around) (n : Node) → stands w (syn_of n) ≡ stands_as w (type_part (shape_of (syn_of n)))
 stands_seen w n = stands_seen_as w (syn_of n)
+
+-- what a form says is what its node says
+pub stands_as_seen : (w : Around) (n : Node) (b : Bool) (seen form : TypeForm) → seen ≡ form →
+    type_of seen ≡ type_part (shape_of (syn_of n)) → b ≡ stands_as w (type_of form) → b ≡ stands w (syn_of n)
+stands_as_seen w n b seen form is is_seen is_b =
+    is_b ∙ ap (λ f. stands_as w (type_of f)) (sym is) ∙ ap (stands_as w) is_seen ∙ sym (stands_seen w n)
 
 -- a test that is true exactly where a walk gives something
 abbrev Tells : {A : Type 0} → Bool → Result (A × State) Broken → Type 0

@@ -1,5 +1,5 @@
 -- Types as they are written, one behind another.
-use Rattle.std.proofs.Common.{◌≡◌, ℕ, Bool, true, not, ◌||◌, nat_le, ◌<◌, ◌≤◌, List, [], ◌∷◌, ◌++◌, length, Option, Result, Ok, refl, ap, sym, subst, ◌∙◌, arith}
+use Rattle.std.proofs.Common.{◌≡◌, ℕ, Bool, true, not, ◌||◌, nat_le, ◌<◌, ◌≤◌, List, [], ◌∷◌, ◌++◌, length, Option, Result, Ok, Err, refl, ap, sym, subst, ◌∙◌, arith}
 use Rattle.mir_base.specs.declared.place_in_text.Pos.{Pos}
 use Rattle.mir_base.specs.declared.rule.Rule.{Rule}
 use Rattle.mir_base.specs.declared.rule.RuleError.{RuleError}
@@ -51,6 +51,21 @@ array_answers w at count ty s b n r after holds is short h =
     let holds_ : (not w.has_limits || nat_le count 32) ≡ true = sym is ∙ holds in
     subst (λ z. Answers (and_then (obeys Rule.T19 at z s) (λ _. interned (Ty.Array ty (length_shown count)))) r after) (sym holds_)
     (subst (λ z. Answers (interned (Ty.Array ty z) s) r after) short h)
+
+-- what is written is what its form says
+pub written_answers : (w : Around) (n : Node) (s : State) (r : Result TyId RuleError) (after : ItemTable) (seen form : TypeForm) →
+    seen ≡ form → type_of seen ≡ type_part (shape_of (syn_of n)) → Answers (written_as w n.at (type_of form) s) r after →
+    Answers (written w (syn_of n) s) r after
+written_answers w n s r after seen form is is_seen h =
+    let equal : written_as w n.at (type_of form) s ≡ written w (syn_of n) s =
+    ap (λ f. written_as w n.at (type_of f) s) (sym is) ∙ ap (λ f. written_as w n.at f s) is_seen ∙ sym (type_seen w n s) in
+    subst (λ o. Answers o r after) equal h
+
+pub refused_answers : (w : Around) (n : Node) (s : State) (e : RuleError) (after : ItemTable) (seen : TypeForm) →
+    seen ≡ TypeForm.Other → type_of seen ≡ type_part (shape_of (syn_of n)) → e ≡ RuleError.Broken Rule.T20 n.at →
+    Answers (written w (syn_of n) s) (Err e) after
+refused_answers w n s e after seen is is_seen is_e =
+    written_answers w n s (Err e) after seen TypeForm.Other is is_seen (rw is_e refl)
 
 pub plain_answers : (w : Around) (n : Node) (s : State) (r : Result TyId RuleError) (after : ItemTable) (form : Option Shape) →
     form ≡ type_part (shape_of (syn_of n)) → param_as w n.at form s ≡ written_as w n.at form s →
