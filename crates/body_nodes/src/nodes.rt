@@ -2,6 +2,7 @@ ghost use Rattle.std.specs.Prelude.{◌≡◌, ◌++◌, IfOk, OnOk, map};
 ghost use Rattle.typed_tree.specs.Nodes as below;
 ghost use Rattle.typed_tree.specs.Nodes.{nodes_in, nodes_among, nodes_of_fields, nodes_if_any, param_nodes, body_nodes};
 ghost use Rattle.typed_tree.specs.View.{tree_of, form_of, field_of, maybe_of, nodes_from, fields_from, param_tree, body_of};
+ghost use Rattle.body_nodes.specs.Branches.{nodes_in_branches};
 ghost use Rattle.body_nodes.specs.Listed.{trees};
 
 use mir_base::{List, NoMemory};
@@ -113,6 +114,19 @@ fn add_in_form<'a>(form: &'a Form, found: &mut List<&'a Node>) -> Result<(), NoM
             add_node(pattern, found)?;
             add_if_any(initialiser, found)
         }
+        Form::If { .. } | Form::IfLet { .. } | Form::Arm { .. } | Form::WhileLet { .. } => {
+            add_in_branches(form, found)
+        }
+        Form::Break { value, .. } | Form::Return(value) => add_if_any(value, found),
+    }
+}
+
+/// The same of a form with a condition, a pattern or a guard before what it runs; of other forms nothing.
+#[cycle(nodes)]
+fn add_in_branches<'a>(form: &'a Form, found: &mut List<&'a Node>) -> Result<(), NoMemory>
+    ensures { OnOk result (trees found.new ≡ trees found.old ++ nodes_in_branches (form_of form.now)) }
+{
+    match form {
         Form::If {
             condition,
             then,
@@ -151,7 +165,7 @@ fn add_in_form<'a>(form: &'a Form, found: &mut List<&'a Node>) -> Result<(), NoM
             add_node(scrutinee, found)?;
             add_node(body, found)
         }
-        Form::Break { value, .. } | Form::Return(value) => add_if_any(value, found),
+        _ => Ok(()),
     }
 }
 
