@@ -17,7 +17,7 @@ pub fn renumber(node: &mut Node, places: &Places)
     ensures { tree_of node.new ≡ renumbered (placed places.now) (tree_of node.old) }
 {
     let form = mem::replace(&mut node.form, Form::UnitValue);
-    node.form = form_with(form, places);
+    drop(mem::replace(&mut node.form, form_with(form, places)));
     node.id = NodeId(places.get(node.id.0));
 }
 
