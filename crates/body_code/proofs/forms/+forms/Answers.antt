@@ -1,7 +1,7 @@
 use Rattle.body_code.proofs.Elements.{of_element}
 use Rattle.body_code.proofs.Grouped.{does_nothing, not_in}
 use Rattle.body_code.proofs.OfOperands.{on_all, each, of_nodes, of_first_and_nodes, of_fields}
-use Rattle.body_code.proofs.Statements.{of_match, match_of, of_block, of_declared}
+use Rattle.body_code.proofs.Statements.{of_match, match_of, of_block, of_declared, of_parts, parted}
 use Rattle.body_code.proofs.Whole.{of_words}
 use Rattle.body_code.specs.Scoped.{may_be_scope}
 use Rattle.cfg_code.specs.Code.{field_keys, moved_fields}
@@ -194,6 +194,30 @@ let_code-returns-in_ok-names-in-None t c =
     (ops_of c.declared.new.code) made are
     ∙ ap (λ initialiser. letting_of (maybe_of initialiser)) (sym c.in-None.is) in
     on_ok_weaker c.declared.result then_all c.declared.ensures
+
+pub let_code-returns-in_ok-names-in-Some-2 : goal.let_code-returns-in_ok-names-in-Some-2
+let_code-returns-in_ok-names-in-Some-2 t c =
+    let items : ItemTable = c.args.items.now in
+    let n : Node = c.deref-value.result.now in
+    let pattern : tree.Node = tree_of c.args.pattern.now in
+    let bounds : List Bound = map bound_of c.as_slice-in-Some-2.result.now in
+    let place : Place = named c.in_ok-place-in-Some-2.place in
+    let around : Around = around_of c.args.at.around in
+    let before : List Op = ops_of c.args.code.now in
+    let reached : List Op = ops_of c.node_code-in-Some-2.new.code in
+    let is_value : maybe_of c.args.initialiser.now ≡ tree.present (tree_of n) =
+    ap maybe_of c.in-Some-2.is ∙ ap (λ (n : Node). tree.present (tree_of n)) (sym c.deref-value.ensures) in
+    let headed : (code items (tree_of n)).head ≡ head n.id.0 n.ty n.by = search (rules, the_lemmas) in
+    let are : bounds ≡ (shape items pattern).bindings place =
+    ap (map bound_of) c.as_slice-in-Some-2.ensures ∙ c.in_ok-names-in-Some-2.ensures.bindings items in
+    let letting_of : MaybeNode → List Op =
+    λ value. onto (letting items (head_of c.args.at.head) (code items pattern) (code_if_any items value) around) before in
+    let then_all : ops_of c.let_parts.new.code ≡ parted items (head_of c.args.at.head) around before (tree_of n) (head n.id.0 n.ty n.by) bounds reached → ops_of c.let_parts.new.code ≡ letting_of (maybe_of c.args.initialiser.now) =
+    λ made. of_parts items (head_of c.args.at.head) around before pattern (tree_of n) (head n.id.0 n.ty n.by) bounds place reached
+    (ops_of c.let_parts.new.code) made headed c.in_ok-node_code-in-Some-2.ensures are c.in_ok-place-in-Some-2.ensures
+    (sym c.is_one_name.ensures ∙ c.if-is_one_name.false)
+    ∙ ap letting_of (sym is_value) in
+    on_ok_weaker c.let_parts.result then_all c.let_parts.ensures
 
 pub nodes_code-returns : goal.nodes_code-returns
 nodes_code-returns t c =
