@@ -1,5 +1,5 @@
 //! Bad uses, and the call that finds one.
-ghost use Rattle.std.specs.Prelude.{◌≡◌, ◌<◌, [], IfOk, IfErr, OnOk, Some, None, length, slice_get, true};
+ghost use Rattle.std.specs.Prelude.{◌≡◌, ◌<◌, [], IfOk, IfErr, IfSome, OnOk, Some, None, length, slice_get, true};
 ghost use Rattle.cfg_graph.specs.declared.graph.Body.{Body as GraphBody};
 ghost use Rattle.cfg_graph.specs.WellFormed.Faults.{IsWellFormed};
 ghost use Rattle.move_paths.specs.Uses.{use_of};
@@ -149,6 +149,53 @@ fn refusal(
     Ok(by_rule(bad))
 }
 
+/// The refusal of the bad use that a search finds, if it finds one.
+fn searched(
+    alloc: Global,
+    watch: &Watch<'_>,
+    first: BitRow,
+    body: u32,
+) -> Result<Option<UseError>, NoMemory>
+    requires watched { IsWatched watch.now.items.now watch.now.body.now watch.now.forest watch.now.below }
+    requires row { first ≡ state watch.now.items.now watch.now.body.now watch.now.forest.paths [] }
+    ensures none { IfOk result (λ error. error ≡ None → MeetsNoBad (problem watch.now.items.now watch.now.body.now watch.now.forest.paths)) }
+    ensures refused { IfOk result (λ error. IfSome error (λ why. IsRefusal watch.now.items.now watch.now.body.now body why)) }
+{
+    let Some(trace) = least_bad(alloc, watch, first)? else {
+        return Ok(None);
+    };
+    let error = refusal(alloc, watch, body, &trace);
+    drop(trace);
+    Ok(Some(error?))
+}
+
+/// Why a body is refused, if it is. Only one whose rows show a bad use is searched.
+fn refused(alloc: Global, solved: Solved<'_>, body: u32) -> Result<Option<UseError>, NoMemory>
+    requires watched { IsWatched solved.watch.items.now solved.watch.body.now solved.watch.forest solved.watch.below }
+    requires first { solved.first ≡ state solved.watch.items.now solved.watch.body.now solved.watch.forest.paths [] }
+    requires rows { AreSolved solved.watch.items.now solved.watch.body.now solved.watch.forest.paths solved.rows }
+    ensures none { IfOk result (λ error. error ≡ None → MeetsNoBad (problem solved.entry.watch.items.now solved.entry.watch.body.now solved.entry.watch.forest.paths)) }
+    ensures refused { IfOk result (λ error. IfSome error (λ why. IsRefusal solved.entry.watch.items.now solved.entry.watch.body.now body why)) }
+{
+    match is_plain(alloc, &solved) {
+        Ok(false) => {
+            let Solved { watch, first, rows } = solved;
+            drop(rows);
+            let error = searched(alloc, &watch, first, body);
+            drop(watch);
+            error
+        }
+        Ok(true) => {
+            drop(solved);
+            Ok(None)
+        }
+        Err(error) => {
+            drop(solved);
+            Err(error)
+        }
+    }
+}
+
 /// The same as [`check_uses`], of a body of which only this is known: it has a block, and the locals that its uses name
 /// (`bad_uses::has_locals`).
 pub fn check_body(alloc: Global, graph: &Graph, body: u32) -> Result<(), UseError>
@@ -158,13 +205,9 @@ pub fn check_body(alloc: Global, graph: &Graph, body: u32) -> Result<(), UseErro
     ensures refused { IfErr result (λ error. (found : GraphBody) → slice_get graph.now.bodies body ≡ Some found → IsRefusal graph.now.items found body error) }
 {
     let solved = solution(alloc, graph, body)?;
-    if is_plain(alloc, &solved)? {
-        return Ok(());
-    }
-    let Solved { watch, first, .. } = solved;
-    match least_bad(alloc, &watch, first)? {
+    match refused(alloc, solved, body)? {
         None => Ok(()),
-        Some(trace) => Err(refusal(alloc, &watch, body, &trace)?),
+        Some(error) => Err(error),
     }
 }
 

@@ -13,13 +13,4 @@ returns-in-None-clause-accepted c = λ found at.
     let body : w.body.now ≡ found = same_Some w.body.now found (sym e.body ∙ at) in
     subst (λ (z : Body). MeetsNone c.args.graph.now.items z) body
     (subst (λ (z : ItemTable). MeetsNone z w.body.now) e.items
-    (accepts w.items.now w.body.now w.forest w.below e.watched (c.in_ok-least_bad.ensures.none c.in-None.is)))
-
-pub returns-then-branch-clause-accepted : goal.returns-then-branch-clause-accepted
-returns-then-branch-clause-accepted c = λ found at.
-    let w = c.in_ok-solved.solved.watch in
-    let e = c.in_ok-solved.ensures in
-    let body : w.body.now ≡ found = same_Some w.body.now found (sym e.body ∙ at) in
-    subst (λ (z : Body). MeetsNone c.args.graph.now.items z) body
-    (subst (λ (z : ItemTable). MeetsNone z w.body.now) e.items
-    (accepts w.items.now w.body.now w.forest w.below e.watched (c.in_ok-is_plain.ensures c.if-branch.true)))
+    (accepts w.items.now w.body.now w.forest w.below e.watched (c.in_ok-refused.ensures.none c.in-None.is)))
