@@ -20,8 +20,13 @@ fn items_under<'a>(
     ensures { IfOk result (λ found. AreItemsOf heads.now text.now found.0 found.1.now) }
 {
     let mut items = Items::new(alloc);
-    let rest = read_items(alloc, heads, &mut items, text)?;
-    Ok((items, rest))
+    match read_items(alloc, heads, &mut items, text) {
+        Ok(rest) => Ok((items, rest)),
+        Err(error) => {
+            drop(items);
+            Err(error)
+        }
+    }
 }
 
 /// How many structs and enums, and how many traits, are read under heads.
@@ -30,7 +35,9 @@ fn counts_under(alloc: Global, heads: &Heads, text: &[u8]) -> Result<(u32, u32),
     ensures traits { IfOk result (λ counts. counts.1 ≡ length (reading.items_under heads.now text.now).0.traits) }
 {
     let (items, _) = items_under(alloc, heads, text)?;
-    Ok((adt_count(&items), trait_count(&items)))
+    let counts = (adt_count(&items), trait_count(&items));
+    drop(items);
+    Ok(counts)
 }
 
 /// How many of so many structs and enums, and of so many traits, where those are not all.
@@ -60,11 +67,34 @@ fn settled_heads(alloc: Global, text: &[u8]) -> Result<Heads, NoMemory>
     let count = text.len();
     let mut heads = read_heads(alloc, count, count, text)?;
     loop {
-        match fewer(alloc, &heads, text)? {
-            None => return Ok(heads),
-            Some((adts, traits)) => {
+        match fewer(alloc, &heads, text) {
+            Ok(None) => return Ok(heads),
+            Ok(Some((adts, traits))) => {
+                drop(heads);
                 heads = read_heads(alloc, adts as usize, traits as usize, text)?;
             }
+            Err(error) => {
+                drop(heads);
+                return Err(error);
+            }
+        }
+    }
+}
+
+/// The graph that is read under heads.
+fn graph_under<'a>(
+    alloc: Global,
+    heads: &Heads,
+    text: &'a [u8],
+) -> Result<((Graph, bool), &'a [u8]), NoMemory>
+    ensures { IfOk result (λ found. reading.IsTold text.now heads.now found.0.0 found.0.1 found.1.now) }
+{
+    let (mut items, rest) = items_under(alloc, heads, text)?;
+    match read_bodies(alloc, heads, &mut items, rest) {
+        Ok(((bodies, whole), rest)) => Ok(((Graph { items, bodies }, whole), rest)),
+        Err(error) => {
+            drop(items);
+            Err(error)
         }
     }
 }
@@ -76,9 +106,7 @@ pub fn read_graph(alloc: Global, text: &[u8]) -> Result<((Graph, bool), &[u8]), 
     ensures { IfOk result (λ found. reading.IsRead text.now found.0.0 found.0.1 found.1.now) }
 {
     let heads = settled_heads(alloc, text)?;
-    let (mut items, rest) = items_under(alloc, &heads, text)?;
-    match read_bodies(alloc, &heads, &mut items, rest) {
-        Ok(((bodies, whole), rest)) => Ok(((Graph { items, bodies }, whole), rest)),
-        Err(NoMemory) => Err(NoMemory),
-    }
+    let read = graph_under(alloc, &heads, text);
+    drop(heads);
+    read
 }

@@ -136,7 +136,16 @@ pub fn read_heads(alloc: Global, adts: usize, traits: usize, text: &[u8]) -> Res
     ensures { IfOk result (λ heads. heads ≡ reading.heads_within adts traits text.now) }
 {
     let mut heads = Items::new(alloc);
-    let rest = adt_heads(alloc, &mut heads, adts, text)?;
-    trait_heads(alloc, &mut heads, traits, rest)?;
+    let rest = match adt_heads(alloc, &mut heads, adts, text) {
+        Ok(rest) => rest,
+        Err(error) => {
+            drop(heads);
+            return Err(error);
+        }
+    };
+    if let Err(error) = trait_heads(alloc, &mut heads, traits, rest) {
+        drop(heads);
+        return Err(error);
+    }
     Heads::of(alloc, heads)
 }

@@ -7,14 +7,14 @@ use Rattle.listing_reader.proofs.graphs.settled_heads.Goals as goal
 
 pub loop-heads-preserved : goal.loop-heads-preserved
 loop-heads-preserved c =
-    let counts : ℕ × ℕ = (c.in-Some.adts, c.in-Some.traits) in
+    let counts : ℕ × ℕ = (c.in-Ok-Some.adts, c.in-Ok-Some.traits) in
     let some : fewer c.loop-heads.heads (items_under c.loop-heads.heads c.args.text.now).0 ≡ Some counts = search rules in
-    let read : c.in_ok-heads-in-Some.heads ≡ heads_within counts.0 counts.1 c.args.text.now = search rules in
-    next_heads c.args.text.now c.loop-heads.heads c.in_ok-heads-in-Some.heads counts c.loop-heads.invariant some read
+    let read : c.in_ok-heads-in-Ok-Some.heads ≡ heads_within counts.0 counts.1 c.args.text.now = search rules in
+    next_heads c.args.text.now c.loop-heads.heads c.in_ok-heads-in-Ok-Some.heads counts c.loop-heads.invariant some read
 
 pub loop-heads-smaller : goal.loop-heads-smaller
 loop-heads-smaller c =
-    let counts : ℕ × ℕ = (c.in-Some.adts, c.in-Some.traits) in
+    let counts : ℕ × ℕ = (c.in-Ok-Some.adts, c.in-Ok-Some.traits) in
     let some : fewer c.loop-heads.heads (items_under c.loop-heads.heads c.args.text.now).0 ≡ Some counts = search rules in
-    let read : c.in_ok-heads-in-Some.heads ≡ heads_within counts.0 counts.1 c.args.text.now = search rules in
-    are_less c.args.text.now c.loop-heads.heads c.in_ok-heads-in-Some.heads counts some read
+    let read : c.in_ok-heads-in-Ok-Some.heads ≡ heads_within counts.0 counts.1 c.args.text.now = search rules in
+    are_less c.args.text.now c.loop-heads.heads c.in_ok-heads-in-Ok-Some.heads counts some read
