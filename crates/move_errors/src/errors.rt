@@ -81,9 +81,22 @@ fn solution<'a>(alloc: Global, graph: &'a Graph, body: u32) -> Result<Solved<'a>
     ensures rows { IfOk result (λ solved. AreSolved solved.watch.items.now solved.watch.body.now solved.watch.forest.paths solved.rows) }
 {
     let forest = paths(alloc, graph, body)?;
-    let gone = MaybeGone::new(alloc, graph, body, &forest)?;
+    let gone = match MaybeGone::new(alloc, graph, body, &forest) {
+        Ok(gone) => gone,
+        Err(error) => {
+            drop(forest);
+            return Err(error);
+        }
+    };
     let found = &graph.bodies.as_slice()[body as usize];
-    let rows = solve(alloc, &gone, &graph.items, found)?;
+    let rows = match solve(alloc, &gone, &graph.items, found) {
+        Ok(rows) => rows,
+        Err(error) => {
+            drop(gone);
+            drop(forest);
+            return Err(error);
+        }
+    };
     let (first, below) = gone.into_parts();
     Ok(Solved {
         watch: Watch {

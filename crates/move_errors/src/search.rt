@@ -275,6 +275,25 @@ pub struct Trace<'a> {
     pub found: Found<'a>,
 }
 
+/// The bad use that the first of the runs meets that wait, or come from those.
+fn first_found<'a>(
+    alloc: Global,
+    watch: &Watch<'a>,
+    search: &mut Search,
+) -> Result<Option<Found<'a>>, NoMemory>
+    requires watched { IsWatched watch.now.items.now watch.now.body.now watch.now.forest watch.now.below }
+    requires stands { Stands (problem watch.now.items.now watch.now.body.now watch.now.forest.paths) search.old search.old.queue.items }
+    ensures found { IfOk result (λ found. IfSome found (λ bad. IsFound watch.now.items.now watch.now.body.now watch.now.forest.paths search.new.visits bad)) }
+    ensures none { IfOk result (λ found. found ≡ None → MeetsNoBad (problem watch.now.items.now watch.now.body.now watch.now.forest.paths)) }
+{
+    while let Some(item) = search.queue.pop_front() {
+        if let Some(found) = turn(alloc, watch, search, item)? {
+            return Ok(Some(found));
+        }
+    }
+    Ok(None)
+}
+
 /// How many points the blocks of a body have.
 fn point_count(blocks: usize) -> Result<usize, NoMemory>
     ensures { IfOk result (λ count. count ≡ blocks * 4) }
@@ -297,13 +316,18 @@ pub fn least_bad<'a>(
     let count = point_count(watch.body.blocks.len())?;
     let mut search = Search::new(alloc, watch.forest.len(), count)?;
     begin(alloc, watch, &mut search, first)?;
-    while let Some(item) = search.queue.pop_front() {
-        if let Some(found) = turn(alloc, watch, &mut search, item)? {
-            return Ok(Some(Trace {
-                visits: search.visits,
-                found,
-            }));
+    match first_found(alloc, watch, &mut search) {
+        Ok(Some(found)) => Ok(Some(Trace {
+            visits: search.visits,
+            found,
+        })),
+        Ok(None) => {
+            drop(search);
+            Ok(None)
+        }
+        Err(error) => {
+            drop(search);
+            Err(error)
         }
     }
-    Ok(None)
 }

@@ -16,7 +16,7 @@ returns-clause-watched c =
     ∙ ap Some (sym (c.index-as_slice-body.is ∙ ap (λ (z : List Body). slice_index_or z c.args.body c.index-as_slice-body.result) c.as_slice.ensures)) in
     record {
       is_forest = c.in_ok-forest.ensures body found;
-      masks = c.into_parts-first.ensures.masks ∙ c.in_ok-gone.ensures.masks;
+      masks = c.into_parts-first.ensures.masks ∙ c.in-Ok.ensures.masks;
       locals = locals-below body (c.requires.locals body found);
       some_block = block-there body (c.requires.locals body found);
     }
@@ -27,7 +27,7 @@ returns-clause-first c =
     let found : slice_get c.args.graph.now.bodies c.args.body ≡ Some c.index-as_slice-body.result =
     slice_get-get_or c.args.graph.now.bodies c.args.body c.index-as_slice-body.result c.requires.body
     ∙ ap Some (sym (c.index-as_slice-body.is ∙ ap (λ (z : List Body). slice_index_or z c.args.body c.index-as_slice-body.result) c.as_slice.ensures)) in
-    let said = (c.in_ok-gone.ensures.says body found).rows [] c.in_ok-gone.gone.switches.first (0, omega arith, refl) in
+    let said = (c.in-Ok.ensures.says body found).rows [] c.in-Ok.gone.switches.first (0, omega arith, refl) in
     let none : said.0 ≡ [] = sym (append_cancel_right [] said.0 (actions_on body (0 ∷ [])) said.1) in
     c.into_parts-first.ensures.first ∙ said.2 ∙ ap (state c.args.graph.now.items body c.in_ok-forest.forest.paths) none
 
@@ -37,13 +37,13 @@ returns-clause-rows c =
     let found : slice_get c.args.graph.now.bodies c.args.body ≡ Some c.index-as_slice-body.result =
     slice_get-get_or c.args.graph.now.bodies c.args.body c.index-as_slice-body.result c.requires.body
     ∙ ap Some (sym (c.index-as_slice-body.is ∙ ap (λ (z : List Body). slice_index_or z c.args.body c.index-as_slice-body.result) c.as_slice.ensures)) in
-    let gone = c.in_ok-gone.gone in
-    let says = c.in_ok-gone.ensures.says body found in
+    let gone = c.in-Ok.gone in
+    let says = c.in-Ok.ensures.says body found in
     record {
       pass = λ block way row. passed_by gone.switches block way row;
       first = gone.switches.first;
       says = says;
-      carried = c.in_ok-rows.ensures.carried;
-      long = c.in_ok-rows.ensures.blocks;
-      widths = λ n within. c.in_ok-rows.ensures.widths n within ∙ says.width;
+      carried = c.in-Ok-solve.ensures.carried;
+      long = c.in-Ok-solve.ensures.blocks;
+      widths = λ n within. c.in-Ok-solve.ensures.widths n within ∙ says.width;
     }

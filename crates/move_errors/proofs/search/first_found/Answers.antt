@@ -9,7 +9,7 @@ use Rattle.move_errors.specs.declared.search.Search.{Search}
 use Rattle.move_errors.specs.declared.search.Waiting.{Waiting}
 use Rattle.move_errors.proofs.Owning.{owns}
 use Rattle.move_errors.proofs.Visiting.{none-left}
-use Rattle.move_errors.proofs.search.least_bad.Goals as goal
+use Rattle.move_errors.proofs.search.first_found.Goals as goal
 
 popped : (f : Problem) (old new : Search) (items : List Waiting) → new.seen ≡ old.seen → new.reached ≡ old.reached → new.visits ≡ old.visits → Stands f old old.queue.items → old.queue.items ≡ items → Stands f new items
 popped f old new items seen reached visits stands same =
