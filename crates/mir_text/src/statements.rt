@@ -3,7 +3,7 @@ ghost use Rattle.std.specs.String.{string_bytes};
 ghost use Rattle.std.specs.Fmt.{decimal};
 ghost use Rattle.mir_ty.specs.Named.{adt_name};
 ghost use Rattle.mir_base.specs.Lines.{why_word};
-ghost use Rattle.mir_text.specs.Parts.{borrow_text, comparison_text, math_text, operand_text, operands_text, place_text, stmt_text, term_text, unwind_text};
+ghost use Rattle.mir_text.specs.Parts.{borrow_text, comparison_text, math_text, operand_text, operands_text, place_text, stmt_text, term_text, unwind_text, ways_text};
 ghost use Rattle.mir_text.specs.Types.{trait_name};
 
 use crate::parts::{put_operand, put_operands, put_place, put_ways};
@@ -210,37 +210,62 @@ fn put_case(out: &mut String, on: &Place, variant: u32, yes: u32, no: u32) -> Re
     put_blank_number(out, no)
 }
 
-/// Arithmetic, before its ways on.
+/// Arithmetic.
 fn put_math(
     out: &mut String,
     to: &Place,
     op: Math,
     left: &Operand,
     right: &Operand,
+    then: u32,
+    unwind: Unwind,
 ) -> Result<(), AllocError>
-    ensures { OnOk result (string_bytes out.new ≡ string_bytes out.old ++ (place_text to.now ++ codes " = " ++ math_text op ++ codes " " ++ operand_text left.now ++ codes " " ++ operand_text right.now)) }
+    ensures { OnOk result (string_bytes out.new ≡ string_bytes out.old ++ (place_text to.now ++ codes " = " ++ math_text op ++ codes " " ++ operand_text left.now ++ codes " " ++ operand_text right.now ++ ways_text then unwind)) }
 {
     put_to(out, to, " = ")?;
     put(out, word_of_math(op))?;
-    put_two(out, left, right)
+    put_two(out, left, right)?;
+    put_ways(out, then, unwind)
 }
 
-/// A test of an index, before its ways on.
-fn put_bounds(out: &mut String, index: &Operand, length: u32) -> Result<(), AllocError>
-    ensures { OnOk result (string_bytes out.new ≡ string_bytes out.old ++ (codes "bounds " ++ operand_text index.now ++ codes " " ++ decimal length)) }
+/// A test of an index.
+fn put_bounds(
+    out: &mut String,
+    index: &Operand,
+    length: u32,
+    then: u32,
+    unwind: Unwind,
+) -> Result<(), AllocError>
+    ensures { OnOk result (string_bytes out.new ≡ string_bytes out.old ++ (codes "bounds " ++ operand_text index.now ++ codes " " ++ decimal length ++ ways_text then unwind)) }
 {
     put_on(out, "bounds ", index)?;
-    put_blank_number(out, length)
+    put_blank_number(out, length)?;
+    put_ways(out, then, unwind)
 }
 
-/// A call, before its ways on.
-fn put_call(out: &mut String, to: &Place, body: u32, args: &[Operand]) -> Result<(), AllocError>
-    ensures { OnOk result (string_bytes out.new ≡ string_bytes out.old ++ (place_text to.now ++ codes " = call " ++ decimal body ++ codes " " ++ operands_text args.now)) }
+/// The arguments of a call behind a blank, and its ways on.
+fn put_args(out: &mut String, args: &[Operand], then: u32, unwind: Unwind) -> Result<(), AllocError>
+    ensures { OnOk result (string_bytes out.new ≡ string_bytes out.old ++ (codes " " ++ operands_text args.now ++ ways_text then unwind)) }
+{
+    put(out, " ")?;
+    put_operands(out, args)?;
+    put_ways(out, then, unwind)
+}
+
+/// A call.
+fn put_call(
+    out: &mut String,
+    to: &Place,
+    body: u32,
+    args: &[Operand],
+    then: u32,
+    unwind: Unwind,
+) -> Result<(), AllocError>
+    ensures { OnOk result (string_bytes out.new ≡ string_bytes out.old ++ (place_text to.now ++ codes " = call " ++ decimal body ++ codes " " ++ operands_text args.now ++ ways_text then unwind)) }
 {
     put_to(out, to, " = call ")?;
     put_number(out, body)?;
-    put(out, " ")?;
-    put_operands(out, args)
+    put_args(out, args, then, unwind)
 }
 
 /// A place, and a method of a trait.
@@ -256,14 +281,6 @@ fn put_method(
     put_to(out, to, " = virtual ")?;
     put_trait_name(out, items, trait_no)?;
     put_blank_number(out, method)
-}
-
-/// Operands behind a blank.
-fn put_args(out: &mut String, args: &[Operand]) -> Result<(), AllocError>
-    ensures { OnOk result (string_bytes out.new ≡ string_bytes out.old ++ (codes " " ++ operands_text args.now)) }
-{
-    put(out, " ")?;
-    put_operands(out, args)
 }
 
 /// A panic.
@@ -298,10 +315,7 @@ pub fn put_term(out: &mut String, items: &Items, term: &Term) -> Result<(), Allo
             right,
             then,
             unwind,
-        } => {
-            put_math(out, to, *op, left, right)?;
-            put_ways(out, *then, *unwind)
-        }
+        } => put_math(out, to, *op, left, right, *then, *unwind),
         Term::Negate {
             to,
             of,
@@ -316,20 +330,14 @@ pub fn put_term(out: &mut String, items: &Items, term: &Term) -> Result<(), Allo
             length,
             then,
             unwind,
-        } => {
-            put_bounds(out, index, *length)?;
-            put_ways(out, *then, *unwind)
-        }
+        } => put_bounds(out, index, *length, *then, *unwind),
         Term::Call {
             to,
             body,
             args,
             then,
             unwind,
-        } => {
-            put_call(out, to, *body, args.as_slice())?;
-            put_ways(out, *then, *unwind)
-        }
+        } => put_call(out, to, *body, args.as_slice(), *then, *unwind),
         Term::Virtual {
             to,
             trait_no,
@@ -339,8 +347,7 @@ pub fn put_term(out: &mut String, items: &Items, term: &Term) -> Result<(), Allo
             unwind,
         } => {
             put_method(out, items, to, *trait_no, *method)?;
-            put_args(out, args.as_slice())?;
-            put_ways(out, *then, *unwind)
+            put_args(out, args.as_slice(), *then, *unwind)
         }
         Term::Ask { to, then, unwind } => {
             put_to(out, to, " = ask")?;
