@@ -99,24 +99,24 @@ fn finish<K: Sink>(alloc: Global, flow: &mut Flow, end: End, out: &mut K) -> Res
 fn turns<K: Sink>(
     alloc: Global,
     graph: &Graph,
-    mut world: World<'_>,
+    world: &mut World<'_>,
     main: u32,
     out: &mut K,
 ) -> Result<End, RunError>
     requires { main ≡ main_of graph.now.items }
     ensures counts { K.faults out.old ≤ K.faults out.new }
     ensures fault { IfErr result (λ error. IsWriteFault error → HasRisen (K.faults out.old) (K.faults out.new)) }
-    ensures end { IfOk result (λ end. ForRun graph.now world.entry (λ run. run.1 ≡ end)) }
-    ensures text { OnOk result (ForRun graph.now world.entry (λ run. WhereTold (K.taken out.old) (λ taken.
+    ensures end { IfOk result (λ end. ForRun graph.now world.old (λ run. run.1 ≡ end)) }
+    ensures text { OnOk result (ForRun graph.now world.old (λ run. WhereTold (K.taken out.old) (λ taken.
         K.taken out.new ≡ Some (taken ++ run_text graph.now run)))) }
-    ensures part { IfErr result (λ error. ForRun graph.now world.entry (λ run.
+    ensures part { IfErr result (λ error. ForRun graph.now world.old (λ run.
         TookPart (run_text graph.now run) (K.taken out.old) (K.taken out.new) error)) }
 {
     let mut tasks = List::new(alloc);
     let entered = enter(
         alloc,
         graph,
-        &mut world,
+        world,
         &tasks,
         Event::Call(main),
         main,
@@ -128,13 +128,13 @@ fn turns<K: Sink>(
     };
     let mut flow = Flow::new(alloc);
     for _turn in 0..u64::MAX {
-        if let Err(error) = hand_on(alloc, graph, &mut world, &mut flow, out) {
+        if let Err(error) = hand_on(alloc, graph, world, &mut flow, out) {
             return Err(error);
         }
         if let Some(end) = end_of(&doing) {
             return finish(alloc, &mut flow, end, out);
         }
-        match turn(alloc, graph, &mut world, &mut tasks, doing) {
+        match turn(alloc, graph, world, &mut tasks, doing) {
             Ok(next) => doing = next,
             Err(NoMemory) => return Err(RunError::Memory),
         }
@@ -164,7 +164,7 @@ fn run_graph<K: Sink>(
         Ok(main) => main,
         Err(NoMemory) => return Err(RunError::Memory),
     };
-    let world = World {
+    let mut world = World {
         graph,
         strict,
         asks,
@@ -173,7 +173,9 @@ fn run_graph<K: Sink>(
         store: Store::new(alloc),
         told: List::new(alloc),
     };
-    turns(alloc, graph, world, main, out)
+    let end = turns(alloc, graph, &mut world, main, out);
+    drop(world);
+    end
 }
 
 /// Runs the body `main` of a well formed graph by strict steps, with these numbers to be asked and at most 1,000,000,000

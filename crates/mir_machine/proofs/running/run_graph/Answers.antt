@@ -15,23 +15,23 @@ returns-clause-end g c =
     let graph = c.args.graph.now in
     let world : World = record { graph = c.args.graph; strict = c.args.strict; asks = c.args.asks; ticks = c.args.ticks; serial = 1; store = c.new.result; told = c.new-2.result } in
     let is : state_of [] world ≡ beginning c.args.asks.now c.args.ticks = at_start world c.new.ensures c.new-2.ensures refl in
-    IfOk-weaker c.turns.result _ _
-    (λ end tells. sym (run_is_told c.args.strict graph c.args.asks.now c.args.ticks world is refl (λ n body there. well_formed-ranked graph n body c.requires there) (λ run. run.1 ≡ end) tells)) c.turns.ensures.end
+    IfOk-weaker c.turns-end.result _ _
+    (λ end tells. sym (run_is_told c.args.strict graph c.args.asks.now c.args.ticks world is refl (λ n body there. well_formed-ranked graph n body c.requires there) (λ run. run.1 ≡ end) tells)) c.turns-end.ensures.end
 
 pub returns-clause-text : goal.returns-clause-text
 returns-clause-text g c =
     let graph = c.args.graph.now in
     let world : World = record { graph = c.args.graph; strict = c.args.strict; asks = c.args.asks; ticks = c.args.ticks; serial = 1; store = c.new.result; told = c.new-2.result } in
     let is : state_of [] world ≡ beginning c.args.asks.now c.args.ticks = at_start world c.new.ensures c.new-2.ensures refl in
-    on_ok_weaker c.turns.result
+    on_ok_weaker c.turns-end.result
     (run_is_told c.args.strict graph c.args.asks.now c.args.ticks world is refl (λ n body there. well_formed-ranked graph n body c.requires there)
-    (λ run. WhereTold (g.K.Sink.taken c.args.out.now) (λ taken. g.K.Sink.taken c.turns.new.out ≡ Some (taken ++ run_text graph run)))) c.turns.ensures.text
+    (λ run. WhereTold (g.K.Sink.taken c.args.out.now) (λ taken. g.K.Sink.taken c.turns-end.new.out ≡ Some (taken ++ run_text graph run)))) c.turns-end.ensures.text
 
 pub returns-clause-part : goal.returns-clause-part
 returns-clause-part g c =
     let graph = c.args.graph.now in
     let world : World = record { graph = c.args.graph; strict = c.args.strict; asks = c.args.asks; ticks = c.args.ticks; serial = 1; store = c.new.result; told = c.new-2.result } in
     let is : state_of [] world ≡ beginning c.args.asks.now c.args.ticks = at_start world c.new.ensures c.new-2.ensures refl in
-    IfErr-weaker c.turns.result _ _
+    IfErr-weaker c.turns-end.result _ _
     (λ error tells. run_is_told c.args.strict graph c.args.asks.now c.args.ticks world is refl (λ n body there. well_formed-ranked graph n body c.requires there)
-    (λ run. TookPart (run_text graph run) (g.K.Sink.taken c.args.out.now) (g.K.Sink.taken c.turns.new.out) error) tells) c.turns.ensures.part
+    (λ run. TookPart (run_text graph run) (g.K.Sink.taken c.args.out.now) (g.K.Sink.taken c.turns-end.new.out) error) tells) c.turns-end.ensures.part
