@@ -1,5 +1,5 @@
 -- One more of things that are counted.
-use Rattle.std.proofs.Common.{◌≡◌, ℕ, suc, ◌+◌, ◌<◌, List, [], ◌∷◌, ◌++◌, length, take, get_or, Some, None, ⊎_elim, ◌≤◌, ap, sym, ◌∙◌, arith, append_assoc}
+use Rattle.std.proofs.Common.{◌≡◌, ℕ, suc, ◌+◌, ◌-◌, ◌<◌, List, [], ◌∷◌, ◌++◌, length, take, get_or, Some, None, ⊎_elim, ◌≤◌, ap, sym, ◌∙◌, arith, append_assoc}
 use Rattle.std.proofs.lemmas.List.{take_more, take_all, append-nil, length-take-le}
 use Rattle.std.specs.Prelude.{slice_get, flat_map}
 use Rattle.std.proofs.lemmas.List.Concat.{flat_map-append}
@@ -32,6 +32,10 @@ module _ {X : Type 0} (text : ℕ → X → List ℕ) where
 module _ {X : Type 0} (xs : List X) (n : ℕ) where
   pub stands : (x : X) → Some x ≡ slice_get xs n → (n < length xs) × (x ≡ get_or xs n x)
   stands x found = (slice_get_within xs n x (sym found), sym (get_or_from_slice_get xs n x x (sym found)))
+
+  -- with one that stands there, fewer are left behind it
+  pub fewer_left : (x : X) → Some x ≡ slice_get xs n → length xs - (n + 1) < length xs - n
+  fewer_left x found = let here : n < length xs = (stands x found).0 in omega arith
 
   pub over : None ≡ slice_get xs n → length xs ≤ n
   over missing =
