@@ -1,4 +1,4 @@
--- The nodes of the children of forms that choose what runs, and none of other forms.
+-- The nodes of the children of an `if`, of an arm of a match and of a loop on a pattern, and none of other forms.
 use Rattle.std.specs.Prelude.{List, []}
 use Rattle.typed_tree.specs.Nodes.{nodes_in}
 use Rattle.typed_tree.specs.Tree.{Node, Form, If, IfLet, Arm, WhileLet}

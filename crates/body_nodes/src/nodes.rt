@@ -121,7 +121,7 @@ fn add_in_form<'a>(form: &'a Form, found: &mut List<&'a Node>) -> Result<(), NoM
     }
 }
 
-/// The same of a form with a condition, a pattern or a guard before what it runs; of other forms nothing.
+/// The same of an `if`, of an arm of a match and of a loop on a pattern; of other forms nothing.
 #[cycle(nodes)]
 fn add_in_branches<'a>(form: &'a Form, found: &mut List<&'a Node>) -> Result<(), NoMemory>
     ensures { OnOk result (trees found.new ≡ trees found.old ++ nodes_in_branches (form_of form.now)) }
