@@ -1,13 +1,16 @@
 //! Calls that no run of the program makes: each succeeds where memory is there.
-use cfg_graph::Graph;
+ghost use Rattle.std.specs.Prelude.{◌≡◌, []};
+
+use cfg_graph::{Graph, Place, Steps};
 use listing_answers::read_listing;
-use mir_base::{List, NodeId, Pos};
+use mir_base::{Key, List, NoMemory, NodeId, Pos};
 use mir_ty::TyId;
 use move_flow::MaybeInit;
 use move_paths::paths;
 use scope_table::scopes;
 use std::alloc::Global;
 use typed_tree::{Form, Node, TBody};
+use unwind_tree::ExitTree;
 
 /// The body of `fn f() {}`.
 fn body(alloc: Global) -> TBody {
@@ -53,13 +56,46 @@ fn is_answered(alloc: Global) -> bool {
     }
 }
 
-/// The scopes of a body, and what is present in one of a graph.
+fn local(alloc: Global, number: u32) -> Place {
+    Place {
+        local: number,
+        steps: Steps::new(alloc),
+    }
+}
+
+/// Whether the entries of two scopes are what is dropped where both are left, by a panic or otherwise, and the first one's
+/// alone once the second is left.
+fn are_left(alloc: Global, tree: &mut ExitTree) -> Result<bool, NoMemory>
+    requires { tree.old ≡ [] }
+{
+    tree.enter()?;
+    tree.schedule(0, Key(1), local(alloc, 1))?;
+    tree.enter()?;
+    tree.schedule(1, Key(2), local(alloc, 2))?;
+    let unwound = tree.unwind_from(alloc)?.len();
+    let left = tree.exit_to(alloc, 0)?.len();
+    tree.leave();
+    let left_later = tree.exit_to(alloc, 0)?.len();
+    Ok(unwound == 2 && left == 2 && left_later == 1)
+}
+
+fn has_exits(alloc: Global) -> bool {
+    let mut tree = ExitTree::new(alloc);
+    let left = are_left(alloc, &mut tree);
+    drop(tree);
+    left == Ok(true)
+}
+
+/// The scopes of a body, what is present in one of a graph, and what exits of scopes drop.
 pub fn made(alloc: Global) -> Option<usize> {
     if !has_scopes(alloc) {
         return Some(0);
     }
     if !is_answered(alloc) {
         return Some(1);
+    }
+    if !has_exits(alloc) {
+        return Some(2);
     }
     None
 }
