@@ -3,36 +3,39 @@ ghost use Rattle.std.specs.Prelude.{◌≡◌, []};
 
 use cfg_graph::{Graph, Place, Steps};
 use listing_answers::read_listing;
-use mir_base::{Key, List, NoMemory, NodeId, Pos};
-use mir_ty::TyId;
+use mir_base::{Key, NoMemory};
+use mir_pipeline::read_typed;
 use move_flow::MaybeInit;
 use move_paths::paths;
 use scope_table::scopes;
 use std::alloc::Global;
-use typed_tree::{Form, Node, TBody};
+use typed_tree::Typed;
 use unwind_tree::ExitTree;
 
-/// The body of `fn f() {}`.
-fn body(alloc: Global) -> TBody {
-    TBody {
-        number: 0,
-        params: List::new(alloc),
-        result: TyId(0),
-        block: Node {
-            id: NodeId(0),
-            at: Pos { line: 1, col: 8 },
-            ty: TyId(0),
-            by: None,
-            form: Form::Block {
-                statements: List::new(alloc),
-                tail: None,
-            },
-        },
+/// Whether the first body of a program has scopes.
+fn has_scopes(alloc: Global, typed: &Typed) -> bool {
+    match typed.bodies.get(0) {
+        Some(body) => scopes(alloc, body).is_ok(),
+        None => false,
     }
 }
 
-fn has_scopes(alloc: Global) -> bool {
-    scopes(alloc, &body(alloc)).is_ok()
+/// Whether a text has a program, and its first body has scopes.
+fn is_scoped(alloc: Global, text: &[u8]) -> bool {
+    if text.len() > 200_000 {
+        return false;
+    }
+    match read_typed(alloc, text) {
+        Ok(typed) => {
+            let scoped = has_scopes(alloc, &typed);
+            typed.discard();
+            scoped
+        }
+        Err(refusal) => {
+            drop(refusal);
+            false
+        }
+    }
 }
 
 const GRAPH: &[u8] =
@@ -44,14 +47,24 @@ fn has_presence(alloc: Global, graph: &Graph) -> bool {
         return false;
     }
     match paths(alloc, graph, 0) {
-        Ok(forest) => MaybeInit::new(alloc, graph, 0, &forest).is_ok(),
+        Ok(forest) => {
+            let init = MaybeInit::new(alloc, graph, 0, &forest);
+            drop(forest);
+            let made = init.is_ok();
+            drop(init);
+            made
+        }
         Err(_) => false,
     }
 }
 
 fn is_answered(alloc: Global) -> bool {
     match read_listing(alloc, GRAPH) {
-        Ok(graph) => has_presence(alloc, &graph),
+        Ok(graph) => {
+            let present = has_presence(alloc, &graph);
+            graph.discard();
+            present
+        }
         Err(_) => false,
     }
 }
@@ -88,7 +101,7 @@ fn has_exits(alloc: Global) -> bool {
 
 /// The scopes of a body, what is present in one of a graph, and what exits of scopes drop.
 pub fn made(alloc: Global) -> Option<usize> {
-    if !has_scopes(alloc) {
+    if !is_scoped(alloc, b"fn main() {}") {
         return Some(0);
     }
     if !is_answered(alloc) {

@@ -185,6 +185,7 @@ fn tells(alloc: Global, text: &str, lines: u64) -> bool {
         longest: 0,
     };
     let end = run(alloc, &graph, &[], 1000000000, &mut sink);
+    graph.discard();
     end == Ok(End::Returned) && sink.lines == lines && sink.longest <= 8192
 }
 
