@@ -7,7 +7,7 @@ use std::alloc::Global;
 use std::marker::Model;
 
 /// A row of bits.
-#[derive(Debug, Drop)]
+#[derive(Drop)]
 pub struct BitRow {
     len: u32,
     words: Vec<u64>,

@@ -5,7 +5,7 @@ use mir_base::List;
 use mir_ty::{Items, TyId};
 
 /// The kind of a block.
-#[derive(Clone, Copy, Debug, PartialEq, Eq)]
+#[derive(Clone, Copy, Debug)]
 pub enum Kind {
     Plain,
     /// A turn of a loop begins here: entering it spends a tick.
@@ -55,7 +55,7 @@ impl Graph {
 /// field has no meaning it is 4294967295: `block` for a fault of a local, whose number is `line`; `block` and
 /// `line` for one of a body; `body` and `block` for one of an item, whose number in the order structs and enums,
 /// traits, impls, closures is `line`; all three for a `main` that is missing.
-#[derive(Clone, Copy, Debug, PartialEq, Eq)]
+#[derive(Clone, Copy, Debug)]
 pub struct GraphFault {
     /// 1 to 7, for G1 to G7.
     pub number: u8,

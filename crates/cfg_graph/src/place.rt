@@ -4,7 +4,7 @@ use store_model::Path;
 /// One step from a place inwards; rustc's development guide calls it a projection.
 ///
 /// The default stands for itself alone: a short list of steps fills its places with it.
-#[derive(Clone, Copy, Debug, Default, PartialEq, Eq, Hash)]
+#[derive(Clone, Copy, Default, PartialEq, Eq, Hash)]
 pub enum Step {
     /// To the part with this number of a struct, a tuple, an array or a closure, counted from 0.
     Part(u32),
@@ -21,7 +21,7 @@ pub enum Step {
 pub type Steps = Path<Step>;
 
 /// A place: a local of the body, and steps from its value inwards.
-#[derive(Debug, Drop)]
+#[derive(Drop)]
 pub struct Place {
     /// The local's number; local 0 is the result, and the parameters follow it.
     pub local: u32,
@@ -29,7 +29,7 @@ pub struct Place {
 }
 
 /// What a statement or a terminator takes as a value.
-#[derive(Debug, Drop)]
+#[derive(Drop)]
 pub enum Operand {
     /// The value of a place, which stays there.
     Copied(Place),

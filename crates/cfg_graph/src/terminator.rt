@@ -2,7 +2,7 @@ use crate::{Operand, Place};
 use mir_base::{List, Math, Why};
 
 /// Where a panic goes on.
-#[derive(Clone, Copy, Debug, PartialEq, Eq)]
+#[derive(Clone, Copy)]
 pub enum Unwind {
     /// In this cleanup block.
     Block(u32),

@@ -15,7 +15,7 @@ use std::alloc::Global;
 use std::marker::Model;
 
 /// What an analysis knows at the start of each block.
-#[derive(Debug, Drop)]
+#[derive(Drop)]
 pub struct Solution {
     rows: List<BitRow>,
 }

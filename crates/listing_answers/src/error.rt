@@ -1,7 +1,7 @@
 use cfg_graph::GraphFault;
 
 /// Why a text was not read as a graph. Lines are counted from 1.
-#[derive(Clone, Copy, Debug, PartialEq, Eq)]
+#[derive(Clone, Copy, Debug)]
 pub enum ListingError {
     /// No list of lines of the format: the first line that is none in its place, or the line behind the last.
     BadListing { line: u32 },

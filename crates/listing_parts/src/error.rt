@@ -5,7 +5,7 @@ use std::error::Error;
 use std::fmt;
 
 /// Why a text was not read.
-#[derive(Clone, Copy, Debug, PartialEq, Eq)]
+#[derive(Clone, Copy, Debug)]
 pub enum ReadError {
     /// It does not begin as it should.
     Unreadable,

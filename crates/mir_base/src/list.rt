@@ -20,7 +20,7 @@ use std::vec::IntoIter;
 
 /// A `Vec` that contracts see as the list of its elements: two of them are equal where their elements
 /// are, wherever they lie and however much room they have.
-#[derive(Debug, Drop)]
+#[derive(Drop)]
 pub struct List<T> {
     elements: Vec<T>,
 }

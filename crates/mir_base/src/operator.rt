@@ -1,5 +1,5 @@
 /// A comparison of two integers of one type, or of two truth values (The Rust Reference, "Comparison operators").
-#[derive(Clone, Copy, Debug, PartialEq, Eq, Hash)]
+#[derive(Clone, Copy)]
 pub enum Cmp {
     Eq,
     Ne,
@@ -11,7 +11,7 @@ pub enum Cmp {
 
 /// A checked operation on two integers of one type (The Rust Reference, "Arithmetic and logical binary
 /// operators"). A result outside the type, and a division by zero, are panics.
-#[derive(Clone, Copy, Debug, PartialEq, Eq, Hash)]
+#[derive(Clone, Copy)]
 pub enum Math {
     Add,
     Sub,

@@ -1,7 +1,7 @@
 use crate::Pos;
 
 /// The typing rules, by the numbers under which a refusal names them to a user.
-#[derive(Clone, Copy, Debug, PartialEq, Eq, PartialOrd, Ord, Hash)]
+#[derive(Clone, Copy, Debug)]
 pub enum Rule {
     T01,
     T02,
@@ -26,7 +26,7 @@ pub enum Rule {
 }
 
 /// Why a program is not typed.
-#[derive(Clone, Copy, Debug, PartialEq, Eq)]
+#[derive(Clone, Copy, Debug)]
 pub enum RuleError {
     /// The program breaks a rule at a place.
     Broken { rule: Rule, at: Pos },

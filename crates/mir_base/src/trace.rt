@@ -2,7 +2,7 @@ ghost use Rattle.std.specs.Prelude.{◌≡◌};
 ghost use Rattle.mir_base.specs.Lines.{why_word};
 
 /// Why a panic starts.
-#[derive(Clone, Copy, Debug, PartialEq, Eq, Hash)]
+#[derive(Clone, Copy)]
 pub enum Why {
     /// `panic!` was reached.
     Explicit,
@@ -35,7 +35,7 @@ impl Why {
 }
 
 /// How a run ends.
-#[derive(Clone, Copy, Debug, PartialEq, Eq, Hash)]
+#[derive(Clone, Copy, PartialEq, Eq)]
 pub enum End {
     /// `main` returned.
     Returned,
@@ -51,7 +51,7 @@ pub enum End {
 
 /// One line of a trace. Bodies and types go by their numbers in the tables of their program, values by
 /// their serial numbers, which count from 1.
-#[derive(Clone, Copy, Debug, PartialEq, Eq, Hash)]
+#[derive(Clone, Copy)]
 pub enum Event {
     /// A body other than a `Drop` body is entered.
     Call(u32),

@@ -14,7 +14,7 @@ use std::marker::Model;
 /// the numbers of the calls that fail, how many calls there were, and the count of faults. Calls and
 /// faults are counted up to the greatest `u64` and stay there. A call past that number is no listed
 /// one, since the listed numbers are `u32`.
-#[derive(Debug, Drop)]
+#[derive(Drop)]
 pub struct MemSource {
     bytes: List<u8>,
     at: usize,

@@ -30,7 +30,7 @@ pub trait Source {
 }
 
 /// Why the bytes of a source were not all read.
-#[derive(Clone, Copy, Debug, PartialEq, Eq, Error)]
+#[derive(Clone, Copy, Debug, Error)]
 pub enum ReadAllError {
     /// A read failed; the source's count of faults rose.
     #[error("a read failed")]

@@ -18,7 +18,7 @@ use std::alloc::Global;
 use store_model::{Addr, Value};
 
 /// How one step of a run ends.
-#[derive(Clone, Copy, Debug, PartialEq, Eq)]
+#[derive(Clone, Copy)]
 pub enum Outcome {
     /// It goes on.
     Goes,

@@ -18,7 +18,7 @@ use std::alloc::Global;
 use store_model::Value;
 
 /// What a checked operation gives.
-#[derive(Clone, Copy, Debug, PartialEq, Eq)]
+#[derive(Clone, Copy)]
 pub enum Computation {
     Gives(i128),
     PanicsBy(Why),

@@ -15,7 +15,7 @@ use store_model::{At, Value};
 
 /// As what a value is found: a value as its type, and the content of a boxed trait object as the trait and as the type
 /// of its impl (The Rust Reference, "Trait objects").
-#[derive(Clone, Copy, Debug, PartialEq, Eq)]
+#[derive(Clone, Copy)]
 pub enum Dynamic {
     /// As its type.
     OfType(TyId),

@@ -2,7 +2,7 @@ use crate::TyId;
 use mir_base::{List, Name};
 
 /// A variant of an enum, or the one variant of a struct.
-#[derive(Debug, PartialEq, Eq, Drop)]
+#[derive(Drop)]
 pub struct Variant {
     /// The variant's name; for a struct it is the struct's.
     pub name: Name,
@@ -13,7 +13,7 @@ pub struct Variant {
 }
 
 /// A struct or an enum.
-#[derive(Debug, PartialEq, Eq, Drop)]
+#[derive(Drop)]
 pub struct Adt {
     pub name: Name,
     pub is_enum: bool,

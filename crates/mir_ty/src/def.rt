@@ -2,7 +2,7 @@ use crate::TyId;
 use mir_base::{List, Name};
 
 /// The head of a body, or of a trait's method.
-#[derive(Debug, PartialEq, Eq, Drop)]
+#[derive(Drop)]
 pub struct Sig {
     pub name: Name,
     /// The types of the parameters in order, that of `self` first where there is one.
@@ -11,7 +11,7 @@ pub struct Sig {
 }
 
 /// A trait.
-#[derive(Debug, PartialEq, Eq, Drop)]
+#[derive(Drop)]
 pub struct TraitDef {
     pub name: Name,
     /// The heads of its methods, in the order of their declaration.
@@ -19,7 +19,7 @@ pub struct TraitDef {
 }
 
 /// An impl of a trait for a struct or an enum.
-#[derive(Debug, PartialEq, Eq, Drop)]
+#[derive(Drop)]
 pub struct ImplDef {
     pub trait_no: u32,
     pub adt: u32,
@@ -28,7 +28,7 @@ pub struct ImplDef {
 }
 
 /// A closure.
-#[derive(Debug, PartialEq, Eq, Drop)]
+#[derive(Drop)]
 pub struct ClosureDef {
     /// The types of what it captures, in the order of the written list.
     pub captures: List<TyId>,

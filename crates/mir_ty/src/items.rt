@@ -28,7 +28,7 @@ use std::marker::Model;
 ///
 /// Beside each type stands whether it is Copy and whether it needs dropping, so that asking costs the same for all
 /// types. See [`Items::intern`] and [`Items::add_adt`] for what keeping that costs.
-#[derive(Debug, Drop)]
+#[derive(Drop)]
 pub struct Items {
     types: TypeTable,
     copies: Vec<bool>,

@@ -1,11 +1,11 @@
 use mir_base::{IntKind, List};
 
 /// The number of a type in the table of its items, counted from 0.
-#[derive(Clone, Copy, Debug, PartialEq, Eq, PartialOrd, Ord, Hash)]
+#[derive(Clone, Copy, PartialEq, Eq, Hash)]
 pub struct TyId(pub u32);
 
 /// A type, with the types in it by their numbers.
-#[derive(Debug, PartialEq, Eq, Hash, Drop)]
+#[derive(PartialEq, Eq, Hash, Drop)]
 pub enum Ty {
     /// An integer type.
     Int(IntKind),

@@ -10,7 +10,7 @@ use std::alloc::Global;
 use std::marker::Model;
 
 /// The types of a program in the order of their numbers, each of them once.
-#[derive(Debug, Drop)]
+#[derive(Drop)]
 pub struct TypeTable {
     types: IndexSet<Ty>,
 }

@@ -24,7 +24,7 @@ use move_paths::{Use, paths};
 use std::alloc::Global;
 
 /// A bad use of a body: what is used is gone there on a path.
-#[derive(Debug, Drop)]
+#[derive(Drop)]
 pub struct BadUse {
     /// The body, by its number.
     pub body: u32,
@@ -43,7 +43,7 @@ pub struct BadUse {
 }
 
 /// Why the uses of a body are refused, or were not looked at.
-#[derive(Debug, Drop)]
+#[derive(Drop)]
 pub enum UseError {
     /// A place is copied, moved, borrowed, touched or tested that is gone there, or a container or a part of it.
     U1(BadUse),

@@ -16,7 +16,7 @@ use std::marker::Model;
 
 /// For each path of a forest the mask of the paths at or below it. The mask of a path with none below it is that path
 /// alone, and takes no row.
-#[derive(Debug, Drop)]
+#[derive(Drop)]
 pub struct Masks {
     bits: u32,
     rows: List<Option<BitRow>>,

@@ -20,7 +20,7 @@ use move_paths::{Forest, add_inner_uses};
 use std::alloc::Global;
 
 /// Which paths are gone on some path of a body: the bit of a path says this of its own part.
-#[derive(Debug, Drop)]
+#[derive(Drop)]
 pub struct MaybeGone {
     switches: Switches,
 }
@@ -54,7 +54,7 @@ impl Analysis for MaybeGone {
 }
 
 /// Which paths are present on some path of a body: the bit of a path says this of its own part.
-#[derive(Debug, Drop)]
+#[derive(Drop)]
 pub struct MaybeInit {
     switches: Switches,
 }

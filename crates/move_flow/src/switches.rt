@@ -7,7 +7,7 @@ use bit_rows::BitRow;
 use mir_base::List;
 
 /// The bits of a path and of all paths below it turn on or off.
-#[derive(Clone, Copy, Debug, PartialEq, Eq)]
+#[derive(Clone, Copy)]
 pub struct Switch {
     pub path: u32,
     pub on: bool,
@@ -15,7 +15,7 @@ pub struct Switch {
 
 /// What a block switches: its uses in order, and then the store of its result on the first way out of it, and on the
 /// second.
-#[derive(Debug, Drop)]
+#[derive(Drop)]
 pub struct BlockSwitches {
     pub uses: List<Switch>,
     pub first: Option<Switch>,
@@ -31,7 +31,7 @@ impl BlockSwitches {
 }
 
 /// The row at the start of a body, for each path the mask of the paths at or below it, and what each block switches.
-#[derive(Debug, Drop)]
+#[derive(Drop)]
 pub struct Switches {
     pub first: BitRow,
     pub below: Masks,

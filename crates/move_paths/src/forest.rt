@@ -19,7 +19,7 @@ use std::alloc::Global;
 use std::marker::Model;
 
 /// What a forest has of a place.
-#[derive(Clone, Copy, Debug, PartialEq, Eq)]
+#[derive(Clone, Copy)]
 pub enum Found {
     /// The place is the path with this number.
     Exact(u32),
@@ -30,7 +30,7 @@ pub enum Found {
 }
 
 /// The paths of a body that are watched for moves, numbered from 0.
-#[derive(Debug, Drop)]
+#[derive(Drop)]
 pub struct Forest {
     trie: Trie,
     children: List<List<u32>>,

@@ -10,14 +10,14 @@ use std::alloc::Global;
 use std::marker::Model;
 
 /// A path below another: the number of that one, and the step from it.
-#[derive(Clone, Copy, Debug, PartialEq, Eq, Hash)]
+#[derive(Clone, Copy, PartialEq, Eq, Hash)]
 pub struct Part {
     pub of: u32,
     pub step: Step,
 }
 
 /// The parts in the order of their numbers, each of them once.
-#[derive(Debug, Drop)]
+#[derive(Drop)]
 pub struct Parts {
     parts: IndexSet<Part>,
 }

@@ -13,14 +13,14 @@ use std::alloc::Global;
 use std::marker::Model;
 
 /// How far paths lead along a place: the last path, and how many steps of the place lead to it.
-#[derive(Clone, Copy, Debug, PartialEq, Eq)]
+#[derive(Clone, Copy)]
 pub struct Near {
     pub path: u32,
     pub depth: usize,
 }
 
 /// Places: the locals, and places that are a step below an earlier one.
-#[derive(Debug, Drop)]
+#[derive(Drop)]
 pub struct Trie {
     locals: u32,
     parts: Parts,

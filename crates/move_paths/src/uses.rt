@@ -9,7 +9,7 @@ use mir_base::{List, NoMemory};
 use std::alloc::Global;
 
 /// How a place is used.
-#[derive(Clone, Copy, Debug, PartialEq, Eq)]
+#[derive(Clone, Copy)]
 pub enum Use {
     Copies,
     Moves,
@@ -24,7 +24,7 @@ pub enum Use {
 }
 
 /// A use of a place.
-#[derive(Clone, Copy, Debug)]
+#[derive(Clone, Copy)]
 pub struct Used<'a> {
     pub how: Use,
     pub place: &'a Place,

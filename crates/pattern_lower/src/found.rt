@@ -4,7 +4,7 @@ use mir_ty::TyId;
 use typed_tree::Use;
 
 /// One test of a pattern, made by the node of its pattern.
-#[derive(Debug, Drop)]
+#[derive(Drop)]
 #[cycle(question)]
 pub enum Test {
     /// What stands at the place is of the variant with this number.
@@ -31,7 +31,7 @@ pub enum Test {
 }
 
 /// A name of a pattern: the entry that it makes has the key of the pattern's node.
-#[derive(Debug, Drop)]
+#[derive(Drop)]
 pub struct Binding {
     pub key: Key,
     pub ty: TyId,

@@ -1,7 +1,7 @@
 use mir_base::List;
 
 /// What is done with a text.
-#[derive(Clone, Copy, Debug, PartialEq, Eq)]
+#[derive(Clone, Copy)]
 pub enum Command {
     /// A program is accepted, or refused with the first reason.
     Check,
@@ -14,7 +14,7 @@ pub enum Command {
 }
 
 /// What the words ask for.
-#[derive(Debug, Drop)]
+#[derive(Drop)]
 pub struct Request {
     pub command: Command,
     /// The numbers that `ask()` answers, at most 64, each from 0 to 2,147,483,647; none but for `run` and `exec`.
@@ -24,7 +24,7 @@ pub struct Request {
 }
 
 /// Why words ask for nothing.
-#[derive(Clone, Copy, Debug, PartialEq, Eq)]
+#[derive(Clone, Copy, Debug)]
 pub enum WordsError {
     /// They are no words of the program.
     Refused,

@@ -13,7 +13,7 @@ use src_token::{Mark, Token, Word};
 use src_tree::{Kind, Node, Piece, Row, is};
 
 /// How the parts of a struct or of a variant are written.
-#[derive(Clone, Copy, Debug, PartialEq, Eq)]
+#[derive(Clone, Copy)]
 pub enum FieldKind {
     /// There are none.
     Unit,

@@ -14,7 +14,7 @@ use src_token::{Mark, Word};
 use src_tree::{Kind, Node, Piece, Row};
 
 /// How a method takes `self`.
-#[derive(Clone, Copy, Debug, PartialEq, Eq)]
+#[derive(Clone, Copy)]
 pub enum Receiver {
     /// `self`.
     Value,

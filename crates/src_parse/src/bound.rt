@@ -7,7 +7,7 @@ use crate::endings::ending_at;
 use src_tree::{Place, Point, Row, Sort, Start, Step, allowed, counts, place_of, step_at};
 
 /// What is known of a depth: it is at least `floor`, and by at least `around` more than that of what stands inside.
-#[derive(Clone, Copy, Debug, PartialEq, Eq)]
+#[derive(Clone, Copy)]
 pub struct Bound {
     pub floor: u32,
     pub around: u32,

@@ -8,7 +8,7 @@ use std::fmt;
 /// Why tokens have no syntax tree. `at` is the number of the bad token, counted from 0, and `pos` its place: the
 /// first with which the tokens up to it begin no tree that is nested at most 64 levels deep. Where the text ends too
 /// early, `at` is the number of tokens and `pos` the end of the text.
-#[derive(Clone, Copy, Debug, PartialEq, Eq)]
+#[derive(Clone, Copy, Debug)]
 pub enum ParseError {
     /// No tree goes on with this token.
     Syntax { at: u32, pos: Pos },

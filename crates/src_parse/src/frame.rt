@@ -15,7 +15,7 @@ use std::alloc::Global;
 use std::mem;
 
 /// A node of which a part may still come.
-#[derive(Debug, Drop)]
+#[derive(Drop)]
 pub(crate) struct Frame {
     /// Where it stands.
     pub(crate) place: Place,

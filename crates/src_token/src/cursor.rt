@@ -6,7 +6,7 @@ ghost use Rattle.src_token.specs.Cursors.{cursor_after, past_char};
 use mir_base::Pos;
 
 /// A place in a text: the line and the column, and the number of bytes before it.
-#[derive(Clone, Copy, Debug)]
+#[derive(Clone, Copy)]
 pub struct Cursor {
     pub at: Pos,
     pub bytes: u32,

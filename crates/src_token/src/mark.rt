@@ -1,6 +1,6 @@
 /// A mark: punctuation, a delimiter, or `_`, by the names of The Rust Reference ("Punctuation"). There is no
 /// mark `>>`, so that two generic types may end without a blank between.
-#[derive(Clone, Copy, Debug, PartialEq, Eq)]
+#[derive(Clone, Copy, PartialEq, Eq)]
 pub enum Mark {
     /// `{`
     OpenBrace,

@@ -2,7 +2,7 @@ use crate::{LexError, Token};
 use mir_base::Pos;
 
 /// What kind of piece a character begins.
-#[derive(Clone, Copy, Debug, PartialEq, Eq)]
+#[derive(Clone, Copy)]
 pub enum Beginning {
     /// A blank.
     Blank,
@@ -23,7 +23,7 @@ pub enum Beginning {
 }
 
 /// What is wrong with a piece.
-#[derive(Clone, Copy, Debug, PartialEq, Eq)]
+#[derive(Clone, Copy)]
 pub enum Fault {
     BadChar,
     BadNumber,
@@ -32,7 +32,7 @@ pub enum Fault {
 }
 
 /// What a piece is by itself.
-#[derive(Debug, Drop)]
+#[derive(Drop)]
 pub enum Reading {
     /// A blank or a comment.
     Skipped,
@@ -43,7 +43,7 @@ pub enum Reading {
 }
 
 /// A piece at the beginning of some characters: how many of them it has, and what it is.
-#[derive(Debug, Drop)]
+#[derive(Drop)]
 pub struct Piece {
     pub length: usize,
     pub reading: Reading,

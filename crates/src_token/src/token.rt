@@ -9,7 +9,7 @@ use std::fmt;
 
 /// A token of a text. A name, a label and a text hold their characters in UTF-8, without the `'` of a label
 /// and the quotes of a text.
-#[derive(Debug, Drop, PartialEq, Eq)]
+#[derive(Drop, PartialEq, Eq)]
 pub enum Token {
     /// An identifier that is no keyword.
     Name(Name),
@@ -27,7 +27,7 @@ pub enum Token {
 
 /// A token where it stands: the place of its first character, and the numbers of bytes before its first
 /// character and before the first one after it.
-#[derive(Debug, Drop, PartialEq, Eq)]
+#[derive(Drop)]
 pub struct Spanned {
     pub token: Token,
     pub at: Pos,
@@ -36,7 +36,7 @@ pub struct Spanned {
 }
 
 /// Why a text has no tokens.
-#[derive(Clone, Copy, Debug, PartialEq, Eq)]
+#[derive(Clone, Copy, Debug)]
 pub enum LexError {
     /// A character begins no token, a `'` no label, or a `\` stands in a text between quotes.
     BadChar(Pos),

@@ -1,6 +1,6 @@
 /// A keyword (The Rust Reference, "Keywords"): the strict, the reserved and those of edition 2024. A word that
 /// the grammar does not use is a token all the same, and no name.
-#[derive(Clone, Copy, Debug, PartialEq, Eq)]
+#[derive(Clone, Copy, PartialEq, Eq)]
 pub enum Word {
     As,
     Async,

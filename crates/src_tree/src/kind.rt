@@ -1,7 +1,7 @@
 use src_token::{Mark, Word};
 
 /// A kind of token that a row names.
-#[derive(Clone, Copy, Debug, PartialEq, Eq)]
+#[derive(Clone, Copy)]
 pub enum Kind {
     Mark(Mark),
     Word(Word),

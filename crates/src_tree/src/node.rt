@@ -4,7 +4,7 @@ use src_token::Token;
 
 /// A node of a syntax tree: an item, a type, a pattern, an expression, or a part of one. It keeps all its
 /// tokens, parentheses and last commas among them.
-#[derive(Debug, Drop)]
+#[derive(Drop)]
 #[cycle(node)]
 pub struct Node {
     /// Which row of the grammar it is.
@@ -16,7 +16,7 @@ pub struct Node {
 }
 
 /// A part of a node.
-#[derive(Debug, Drop)]
+#[derive(Drop)]
 #[cycle(node)]
 pub enum Piece {
     Token(Token),
@@ -24,7 +24,7 @@ pub enum Piece {
 }
 
 /// The syntax tree of a text.
-#[derive(Debug, Drop)]
+#[derive(Drop)]
 pub struct Tree {
     /// The items, each `Piece::Node` of a row of items.
     pub items: List<Piece>,

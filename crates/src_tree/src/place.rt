@@ -1,7 +1,7 @@
 use crate::Sort;
 
 /// What a node may be, and begin with.
-#[derive(Clone, Copy, Debug, PartialEq, Eq)]
+#[derive(Clone, Copy)]
 pub enum Start {
     Anything,
     /// A statement, or the value of a block.
@@ -29,7 +29,7 @@ pub enum Start {
 }
 
 /// Where a node stands.
-#[derive(Clone, Copy, Debug, PartialEq, Eq)]
+#[derive(Clone, Copy)]
 pub struct Place {
     pub sort: Sort,
     /// The least level that it has.
@@ -41,7 +41,7 @@ pub struct Place {
 }
 
 /// What the parts of a node see of its place.
-#[derive(Clone, Copy, Debug, PartialEq, Eq)]
+#[derive(Clone, Copy)]
 pub struct Seen {
     pub sort: Sort,
     pub head: bool,
@@ -49,7 +49,7 @@ pub struct Seen {
 }
 
 /// A part that is due.
-#[derive(Clone, Copy, Debug, PartialEq, Eq)]
+#[derive(Clone, Copy)]
 pub enum Part {
     /// At a place of its own.
     At(Place),

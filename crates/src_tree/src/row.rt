@@ -1,6 +1,6 @@
 /// A row of the grammar: what a node is. The forms are those of The Rust Reference, "Items", "Statements and
 /// expressions", "Patterns" and "Type system", as far as the language has them.
-#[derive(Clone, Copy, Debug, PartialEq, Eq)]
+#[derive(Clone, Copy)]
 pub enum Row {
     /// item*
     File,
@@ -141,7 +141,7 @@ pub enum Row {
 }
 
 /// What kind of node a row is.
-#[derive(Clone, Copy, Debug, PartialEq, Eq)]
+#[derive(Clone, Copy)]
 pub enum Sort {
     File,
     Item,

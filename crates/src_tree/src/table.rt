@@ -4,7 +4,7 @@ use crate::{Kind, Part, Place, Row, Sort, Start};
 use src_token::{Mark, Word};
 
 /// What a node still has to have. A number is that of the step behind a token or a part.
-#[derive(Clone, Copy, Debug, PartialEq, Eq)]
+#[derive(Clone, Copy)]
 pub enum Step {
     /// It ends.
     Ends(Row),
@@ -39,7 +39,7 @@ pub enum Step {
 }
 
 /// Where a node is: at a step, or in its list behind a part, behind a comma or behind `..`.
-#[derive(Clone, Copy, Debug, PartialEq, Eq)]
+#[derive(Clone, Copy)]
 pub enum Point {
     At(u16),
     More(u16),
@@ -48,7 +48,7 @@ pub enum Point {
 }
 
 /// How a node begins that begins with a part: its row, the place of the part, and where it is behind the token.
-#[derive(Clone, Copy, Debug, PartialEq, Eq)]
+#[derive(Clone, Copy)]
 pub struct Begun {
     pub row: Row,
     pub place: Place,

@@ -4,7 +4,7 @@ use mir_base::Key;
 /// One step from a value to a part of it.
 ///
 /// The default stands for itself alone: a short path fills its places with it.
-#[derive(Clone, Copy, Debug, Default, PartialEq, Eq, Hash)]
+#[derive(Clone, Copy, Default, PartialEq, Eq)]
 pub enum At {
     /// To the part with this number of a struct, a variant, a tuple, an array or a closure, counted from 0.
     Part(u32),
@@ -17,7 +17,7 @@ pub enum At {
 pub type AtPath = Path<At>;
 
 /// Where a value stands: in an entry of an activation, at the end of a path.
-#[derive(Debug, Drop)]
+#[derive(Drop)]
 pub struct Addr {
     /// The depth of the activation among those that have not ended.
     pub depth: u32,

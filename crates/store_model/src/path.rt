@@ -7,7 +7,7 @@ use std::alloc::Global;
 use std::marker::Model;
 
 /// A path: the steps from a value, or from a local, to a part of it, outermost first. Up to one of them takes no memory: most places of a program are a local, or one step from it, and a graph holds many. Contracts see it as the list of its steps.
-#[derive(Debug, Drop)]
+#[derive(Drop)]
 pub struct Path<S: Drop> {
     steps: SmallVec<S, 1, Global>,
 }

@@ -12,7 +12,6 @@ use std::mem;
 /// A value is numbered where it has a serial number: a box, and a value of a struct or enum with a `Drop`
 /// impl. A run numbers them from 1 in the order in which they are made. A value is whole where nothing at
 /// or below it is gone.
-#[derive(Debug)]
 pub enum Value {
     /// What was moved, dropped or never made.
     Gone,

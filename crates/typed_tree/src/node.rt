@@ -3,7 +3,7 @@ use mir_ty::TyId;
 use std::alloc::Global;
 
 /// How a node uses its place.
-#[derive(Clone, Copy, Debug, PartialEq, Eq, Hash)]
+#[derive(Clone, Copy)]
 pub enum Use {
     /// The value is moved out of the place, which is gone then.
     Move,

@@ -5,7 +5,7 @@ use mir_base::List;
 use std::marker::Model;
 
 /// The row of an impl of a trait for a struct or an enum.
-#[derive(Debug, PartialEq, Eq, Drop)]
+#[derive(Drop)]
 pub struct Row {
     /// The number of the struct or enum.
     pub adt: u32,
@@ -17,7 +17,7 @@ pub struct Row {
 }
 
 /// The rows of all impls of a program by number.
-#[derive(Debug, Drop)]
+#[derive(Drop)]
 pub struct Rows {
     rows: List<Row>,
 }
