@@ -1,2 +1,4 @@
 mod Limited
 mod Zipped
+mod Lists
+mod Placed

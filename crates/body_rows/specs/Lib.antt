@@ -1,2 +1,4 @@
 pub mod Around
 pub mod Whole
+pub mod Places
+pub mod Renumbered

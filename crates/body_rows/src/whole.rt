@@ -9,12 +9,12 @@ ghost use Rattle.typing_rules.specs.Check.{State};
 ghost use Rattle.typing_rules.specs.Numbered.{in_text_order};
 ghost use Rattle.body_rows.specs.Whole.{IsWithin, body_on, one_param, params_from, plain_body_on};
 
+use crate::number_in_text_order;
 use body_nodes::all_nodes;
 use call_rows::take_nodes;
 use item_heads::{broken, pushed};
 use mir_base::{List, Pos, Rule, RuleError};
 use mir_ty::TyId;
-use node_numbers::number_in_text_order;
 use std::alloc::Global;
 use type_rows::Checker;
 use typed_tree::{Node, Param, TBody};

@@ -15,12 +15,12 @@ use Rattle.typing_rules.specs.Rows.{Expected, loop_around, match_row, no_referen
 use Rattle.typing_rules.specs.Scope.{Env, within_loop}
 use Rattle.typing_rules.specs.Typed.{base_of, typed_arms, value}
 use Rattle.well_typed.specs.Places.{ty_of}
-use Rattle.list_rows.specs.Lists.{behind_typed}
+use Rattle.expression_rows.specs.Lists.{behind_typed}
 use Rattle.call_rows.specs.Lists.{nodes_on, types_on}
 use Rattle.type_rows.specs.Stand.{below, top}
 use Rattle.expression_check.specs.Matches.{arm_check, arm_of_syn, arms_rest, if_let_rest, while_let_rest}
 use Rattle.expression_check.proofs.Jumps.{words_are}
-use Rattle.binding_rows.specs.Rests.{scrutinised_rest}
+use Rattle.pattern_check.specs.BindingRests.{scrutinised_rest}
 use Rattle.item_heads.proofs.Sequences.{stopped}
 use Rattle.item_heads.specs.Answers.{Refuses}
 use Rattle.mir_base.specs.declared.rule.RuleError.{RuleError}

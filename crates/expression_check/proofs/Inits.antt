@@ -2,8 +2,8 @@
 use Rattle.std.proofs.Common.{◌≡◌, ℕ, List, [], Option, Result, Ok, Err, refl, ap, sym, subst, ◌∙◌}
 use Rattle.item_heads.proofs.Sequences.{stopped}
 use Rattle.item_heads.specs.Answers.{Refuses}
-use Rattle.init_rows.proofs.Tabled.{variant_is}
-use Rattle.init_rows.specs.Inits.{behind_inits, variant_by}
+use Rattle.struct_rows.proofs.Tabled.{variant_is}
+use Rattle.struct_rows.specs.Inits.{behind_inits, variant_by}
 use Rattle.mir_base.specs.declared.place_in_text.Pos.{Pos}
 use Rattle.mir_base.specs.declared.rule.RuleError.{RuleError}
 use Rattle.mir_ty.specs.ItemTable.{ItemTable}

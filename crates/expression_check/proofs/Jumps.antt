@@ -4,8 +4,8 @@ use Rattle.std.specs.Borrow.{Bor}
 use Rattle.std.specs.Prelude.{option_map}
 use Rattle.mir_base.specs.declared.place_in_text.Pos.{Pos}
 use Rattle.mir_ty.specs.declared.ty.TyId.{TyId}
-use Rattle.branch_rows.specs.Jumps.{unlabelled}
-use Rattle.branch_rows.specs.Rests.{break_rest}
+use Rattle.expression_rows.specs.Jumps.{unlabelled}
+use Rattle.expression_rows.specs.BranchRests.{break_rest}
 use Rattle.src_ast.specs.Seen.{word_of}
 use Rattle.type_env.specs.Scope.{word_in}
 use Rattle.typed_tree.specs.Tree.{MaybeNode, Node, absent, present}

@@ -12,8 +12,8 @@ use Rattle.typing_rules.specs.Check.{State, Broken, and_then, pure}
 use Rattle.typing_rules.specs.Scope.{Env, Entry, joined, with_variables}
 use Rattle.typing_rules.specs.Typed.{statement, typed_all, with_statement}
 use Rattle.call_rows.specs.Lists.{below_all, nodes_on}
-use Rattle.scope_rows.specs.Scopes.{OnlyPlace, with_only}
-use Rattle.scope_rows.proofs.Left.{leaves}
+use Rattle.name_rows.specs.Scopes.{OnlyPlace, with_only}
+use Rattle.name_rows.proofs.Left.{leaves}
 use Rattle.type_rows.specs.Stand.{Stays, below, env, stack, top}
 use Rattle.type_rows.specs.declared.checker.Checker.{Checker}
 use Rattle.expression_check.specs.Blocks.{Grows, behind_statements, below_if, last_if, more_if, statement_as}

@@ -2,7 +2,7 @@
 use Rattle.std.proofs.Common.{◌≡◌, ℕ, Bool, Option, Some, Result, Ok, ap, sym, ◌∙◌}
 use Rattle.mir_base.specs.declared.place_in_text.Pos.{Pos}
 use Rattle.mir_ty.specs.declared.ty.TyId.{TyId}
-use Rattle.operator_rows.specs.Rests.{borrow_rest, store_rest}
+use Rattle.expression_rows.specs.Rests.{borrow_rest, store_rest}
 use Rattle.typed_tree.specs.Tree.{Node}
 use Rattle.typing_rules.specs.Check.{Check, State, ◌>>=◌, and_then, number}
 use Rattle.typing_rules.specs.Rows.{Typer, borrow, no_reference, store}

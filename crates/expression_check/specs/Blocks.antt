@@ -12,7 +12,7 @@ use Rattle.typing_rules.specs.Scope.{Env, Entry, with_variables}
 use Rattle.typing_rules.specs.Typed.{a_statement, for_parts, other_statement, typed}
 use Rattle.src_ast.specs.Syntax.{Shape, Syn}
 use Rattle.item_heads.specs.Answers.{Refuses}
-use Rattle.binding_rows.specs.Rests.{below_value}
+use Rattle.pattern_check.specs.BindingRests.{below_value}
 use Rattle.call_rows.specs.Lists.{below_all, last_nodes, nodes_on}
 use Rattle.type_rows.specs.Stand.{Stays, below, env, stack, state, top}
 use Rattle.type_rows.specs.declared.checker.Checker.{Checker}

@@ -3,8 +3,8 @@ use Rattle.std.specs.Prelude.{ℕ, false, List, [], Option, Some, None}
 use Rattle.mir_base.specs.declared.place_in_text.Pos.{Pos}
 use Rattle.mir_base.specs.declared.rule.Rule.{Rule}
 use Rattle.mir_ty.specs.declared.ty.TyId.{TyId}
-use Rattle.binding_rows.specs.Rests.{arm_rest}
-use Rattle.branch_rows.specs.Rests.{if_let_else_rest}
+use Rattle.pattern_check.specs.BindingRests.{arm_rest}
+use Rattle.expression_rows.specs.BranchRests.{if_let_else_rest}
 use Rattle.call_rows.specs.Rests.{match_rest}
 use Rattle.src_ast.specs.Syntax.{Word, Syn, syn, Shape, ArmOf, Syns, MaybeSyn, nothing, just}
 use Rattle.typed_tree.specs.Tree as tree

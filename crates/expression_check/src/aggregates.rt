@@ -4,15 +4,15 @@ ghost use Rattle.src_ast.specs.Seen.{nodes_of};
 ghost use Rattle.typing_rules.specs.Patterns.{count_of as count_of_};
 ghost use Rattle.typing_rules.specs.Rows as rows;
 ghost use Rattle.typing_rules.specs.Typed as rules;
-ghost use Rattle.list_rows.specs.Lists.{GivesParts, GivesTyped, KeepsBelow, KeepsBelowParts};
+ghost use Rattle.expression_rows.specs.Lists.{GivesParts, GivesTyped, KeepsBelow, KeepsBelowParts};
 ghost use Rattle.type_rows.specs.Stand.{Gives, Keeps, env, stack, state};
 
 use crate::expressions::typed;
 use call_rows::tuple_end;
-use item_heads::pushed;
-use list_rows::{
+use expression_rows::{
     count_of, element_wanted, elements_end, one_more, part_ty, parts_wanted, wanted_at,
 };
+use item_heads::pushed;
 use mir_base::{List, Pos, RuleError};
 use mir_ty::TyId;
 use src_ast::Nodes;

@@ -4,22 +4,20 @@ ghost use Rattle.mir_base.specs.declared.rule.RuleError.{RuleError};
 ghost use Rattle.src_ast.specs.Seen.{maybe_of, nodes_of, syn_of};
 ghost use Rattle.src_ast.specs.Syntax.{Braces, LetOf};
 ghost use Rattle.typing_rules.specs.Typed as rules;
-ghost use Rattle.binding_rows.specs.Rests.{value_if};
+ghost use Rattle.pattern_check.specs.BindingRests.{value_if};
 ghost use Rattle.call_rows.specs.Lists.{below_all, last_nodes};
 ghost use Rattle.expression_check.specs.Blocks.{GivesStatement, GivesStatements, KeepsGrown, KeepsStatement, KeepsStatements, KeepsValue, block_rest, evaluated, initialiser_of, more_if};
 ghost use Rattle.type_rows.specs.Stand.{Gives, GivesValue, Keeps, env, stack, state};
 
 use crate::expressions::{for_parts, typed};
-use binding_rows::{is_one_name, let_end};
-use branch_rows::evaluate_end;
-use list_rows::{block_end, one_more, tail_end};
+use expression_rows::{block_end, evaluate_end, one_more, tail_end};
 use mir_base::{NodeId, Pos, RuleError};
 use mir_ty::TyId;
-use scope_rows::{count, leave};
+use name_rows::{count, leave, written_if};
+use pattern_check::{is_one_name, let_end};
 use src_ast::{Nodes, StatementForm, statement_form};
 use src_tree::Node;
 use type_rows::Checker;
-use written_rows::written_if;
 
 /// What a statement gives: whether it has a node, and whether its expression or initialiser has the type `!`.
 #[derive(Clone, Copy)]

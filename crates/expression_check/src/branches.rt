@@ -4,11 +4,11 @@ ghost use Rattle.src_ast.specs.Seen.{maybe_of, syn_of};
 ghost use Rattle.src_ast.specs.Syntax.{IfElse};
 ghost use Rattle.typing_rules.specs.Rows as rows;
 ghost use Rattle.typing_rules.specs.Typed as rules;
-ghost use Rattle.list_rows.specs.Pairs.{KeepsTwo};
+ghost use Rattle.expression_rows.specs.Pairs.{KeepsTwo};
 ghost use Rattle.type_rows.specs.Stand.{Gives, GivesValue, Keeps, below, env, stack, state, top};
 
 use crate::expressions::typed;
-use branch_rows::if_else_end;
+use expression_rows::if_else_end;
 use mir_base::{Pos, RuleError};
 use mir_ty::TyId;
 use src_tree::Node;

@@ -4,7 +4,7 @@ ghost use Rattle.src_ast.specs.Expressions.{expression_of};
 ghost use Rattle.src_ast.specs.Seen.{syn_of};
 ghost use Rattle.typing_rules.specs.Typed as rules;
 ghost use Rattle.expression_check.specs.Bases as bases;
-ghost use Rattle.expression_forms.specs.Forms.{place_by, value_as};
+ghost use Rattle.expression_rows.specs.Forms.{place_by, value_as};
 ghost use Rattle.type_rows.specs.Stand.{Gives, Keeps, env, stack, state};
 
 use crate::aggregates::{array, tuple};
@@ -17,20 +17,20 @@ use crate::matches::{if_let, match_on, while_let};
 use crate::operators::{arithmetic, comparison, logic, minus, not, store};
 use crate::places::{borrowed_value, deref, element, field, part};
 use crate::structs::struct_of;
-use binding_rows::place_for_parts;
 use callee_rows::path_alone;
-use expression_forms::{PlaceForm, place_form};
+use expression_rows::{PlaceForm, place_form};
 use item_heads::broken;
 use mir_base::{Pos, Rule, RuleError};
 use mir_ty::TyId;
 use name_rows::put_variable;
+use pattern_check::place_for_parts;
 use src_ast::{ExpressionForm, PathForm, expression_form};
 use src_tree::Node;
 use type_rows::{Checker, Leaf, Two};
 
 /// An expression whose value is used, of the type that is required, if one is.
 #[cycle(typed)]
-#[tactic(auto, using(expression_forms::proofs::Shapes::typed_place, expression_forms::proofs::Shapes::typed_value))]
+#[tactic(auto, using(expression_rows::proofs::Shapes::typed_place, expression_rows::proofs::Shapes::typed_value))]
 pub fn typed(checker: &mut Checker, node: &Node, want: Option<TyId>) -> Result<(), RuleError>
     ensures gives { Gives (rules.typed (env checker.old) (syn_of node.now) want (state checker.old)) result checker.new }
     ensures kept { Keeps (stack checker.old) checker.old result checker.new }
@@ -46,7 +46,7 @@ pub fn typed(checker: &mut Checker, node: &Node, want: Option<TyId>) -> Result<(
 
 /// An expression whose place is gone through: a place, or a value that becomes a temporary.
 #[cycle(typed)]
-#[tactic(auto, using(expression_forms::proofs::Shapes::base_value))]
+#[tactic(auto, using(expression_rows::proofs::Shapes::base_value))]
 pub fn base_of(checker: &mut Checker, node: &Node) -> Result<(), RuleError>
     ensures gives { Gives (rules.base_of (env checker.old) (syn_of node.now) (state checker.old)) result checker.new }
     ensures kept { Keeps (stack checker.old) checker.old result checker.new }

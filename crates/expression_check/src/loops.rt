@@ -10,12 +10,12 @@ ghost use Rattle.typing_rules.specs.Typed as rules;
 ghost use Rattle.type_rows.specs.Stand.{Gives, Keeps, env, stack, state};
 
 use crate::expressions::typed;
-use branch_rows::{
+use expression_rows::{
     break_alone_end, break_end, carried, continue_end, jump_target, loop_end, return_alone_end,
 };
 use mir_base::{NodeId, Pos, RuleError};
 use mir_ty::TyId;
-use scope_rows::{enter_loop, leave_loop};
+use name_rows::{enter_loop, leave_loop};
 use src_tree::Node;
 use type_rows::{Checker, One, Two};
 

@@ -12,21 +12,20 @@ ghost use Rattle.typing_rules.specs.Rows.{loop_around};
 ghost use Rattle.typing_rules.specs.Scope.{in_guard, with_variables, within_loop};
 ghost use Rattle.typing_rules.specs.Typed as rules;
 ghost use Rattle.expression_check.specs.Matches.{arm_check, arm_of_syn, arm_parts, arms_rest, if_let_parts, if_let_rest, while_let_rest};
-ghost use Rattle.list_rows.specs.Lists.{GivesTyped, KeepsBelow};
+ghost use Rattle.expression_rows.specs.Lists.{GivesTyped, KeepsBelow};
 ghost use Rattle.type_rows.specs.Stand.{Gives, Keeps, below, env, stack, state, top};
 
 use crate::expressions::{base_of, typed};
-use binding_rows::{
-    arm_end, bindings, enter_bound, enter_guard, expected_of_last, guarded_arm_end, scrutinised,
-};
-use branch_rows::if_let_else_end;
 use call_rows::match_end;
+use expression_rows::{if_let_else_end, one_more};
 use item_heads::broken;
-use list_rows::one_more;
 use mir_base::{NodeId, Pos, Rule, RuleError};
 use mir_ty::TyId;
+use name_rows::{count, enter_loop, leave, leave_loop};
+use pattern_check::{
+    arm_end, bindings, enter_bound, enter_guard, expected_of_last, guarded_arm_end, scrutinised,
+};
 use pattern_rows::Expected;
-use scope_rows::{count, enter_loop, leave, leave_loop};
 use src_ast::{ArmForm, Nodes, arm_form};
 use src_tree::Node;
 use type_env::Variables;

@@ -3,16 +3,17 @@ ghost use Rattle.std.specs.Prelude.{◌≡◌};
 ghost use Rattle.src_ast.specs.Seen.{syn_of};
 ghost use Rattle.typing_rules.specs.Rows as rows;
 ghost use Rattle.typing_rules.specs.Typed as rules;
-ghost use Rattle.list_rows.specs.Pairs.{KeepsTwo, left_of, right_of};
+ghost use Rattle.expression_rows.specs.Pairs.{KeepsTwo, left_of, right_of};
 ghost use Rattle.type_rows.specs.Forms.{two_form};
 ghost use Rattle.type_rows.specs.Stand.{Gives, GivesValue, Keeps, below, env, stack, state, top};
 
 use crate::expressions::{plain_base, typed};
-use expression_forms::{is_plain, literal_in};
-use list_rows::{arithmetic_of, comparison_of, unless_never};
+use expression_rows::{
+    arithmetic_of, comparison_of, if_int, is_plain, literal_in, logic_end, negate_end, not_end,
+    store_end, unless_never, wanted_int,
+};
 use mir_base::{Cmp, Math, Pos, RuleError};
 use mir_ty::TyId;
-use operator_rows::{if_int, logic_end, negate_end, not_end, store_end, wanted_int};
 use src_tree::Node;
 use type_rows::{Checker, Two};
 

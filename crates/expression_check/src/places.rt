@@ -8,11 +8,11 @@ ghost use Rattle.expression_check.specs.Bases as bases;
 ghost use Rattle.type_rows.specs.Stand.{Gives, Keeps, env, stack, state};
 
 use crate::expressions::{base_of, plain_base, typed};
+use expression_rows::{deref_end, element_end};
 use item_heads::broken;
 use member_rows::{field_end, part_end};
 use mir_base::{Pos, Rule, RuleError};
 use mir_ty::TyId;
-use operator_rows::{deref_end, element_end};
 use src_tree::Node;
 use type_rows::Checker;
 

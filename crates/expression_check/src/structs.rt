@@ -1,6 +1,6 @@
 //! Struct expressions (The Rust Reference, "Struct expressions").
 ghost use Rattle.std.specs.Prelude.{◌≡◌, Some};
-ghost use Rattle.init_rows.specs.Inits.{GivesInit, GivesInits, KeepsBelowInits, init_by, one_init, variant_by};
+ghost use Rattle.struct_rows.specs.Inits.{GivesInit, GivesInits, KeepsBelowInits, init_by, one_init, variant_by};
 ghost use Rattle.src_ast.specs.Expressions.{init_of};
 ghost use Rattle.src_ast.specs.Seen.{maybe_of, nodes_of, syn_of, word_of};
 ghost use Rattle.src_ast.specs.Syntax.{StructOf, Word};
@@ -11,14 +11,13 @@ ghost use Rattle.type_rows.specs.Stand.{Gives, Keeps, env, stack, state};
 
 use crate::expressions::typed;
 use callee_rows::path;
-use init_rows::field_wanted;
 use item_heads::{broken, pushed};
 use mir_base::{List, Pos, Rule, RuleError};
 use mir_ty::TyId;
 use pattern_rows::target_of;
 use src_ast::{InitForm, Nodes, PathForm, init_form};
 use src_tree::Node;
-use struct_rows::{struct_begin, struct_end};
+use struct_rows::{field_wanted, struct_begin, struct_end};
 use type_rows::Checker;
 
 /// The value of a field; without one it is the variable of that name.

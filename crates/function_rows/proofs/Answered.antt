@@ -10,7 +10,7 @@ use Rattle.typing_rules.specs.Scope.{Around, Env}
 use Rattle.body_rows.specs.declared.around.Outer.{Outer}
 use Rattle.call_rows.specs.Lists.{below_all}
 use Rattle.item_heads.specs.Answers.{Refuses}
-use Rattle.param_rows.specs.Answers.{last_params}
+use Rattle.function_rows.specs.ParamAnswers.{last_params}
 use Rattle.type_rows.specs.Stand.{Same, Stays, env, env_in, stack, state}
 use Rattle.type_rows.specs.declared.checker.Checker.{Checker}
 use Rattle.type_rows.specs.declared.surroundings.Surroundings.{Surroundings}

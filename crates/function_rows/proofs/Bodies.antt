@@ -19,8 +19,8 @@ use Rattle.body_rows.specs.declared.around.Outer.{Outer}
 use Rattle.call_rows.specs.Lists.{below_all, nodes_on}
 use Rattle.item_heads.proofs.Sequences.{stopped}
 use Rattle.item_heads.specs.Answers.{Refuses}
-use Rattle.param_rows.specs.Answers.{last_param, last_params}
-use Rattle.param_rows.specs.Rests.{type_by}
+use Rattle.function_rows.specs.ParamAnswers.{last_param, last_params}
+use Rattle.function_rows.specs.ParamRests.{type_by}
 use Rattle.type_rows.specs.Stand.{Same, Stays, below, env_in, stack, top}
 use Rattle.type_rows.specs.declared.checker.Checker.{Checker}
 use Rattle.type_rows.specs.declared.tables.Tables.{Tables}

@@ -14,8 +14,8 @@ use Rattle.body_rows.specs.Whole.{body_on}
 use Rattle.body_rows.specs.declared.around.Outer.{Outer}
 use Rattle.call_rows.specs.Lists.{below_all}
 use Rattle.item_heads.specs.Answers.{Refuses}
-use Rattle.param_rows.specs.Answers.{last_params}
-use Rattle.param_rows.specs.Rests.{type_by}
+use Rattle.function_rows.specs.ParamAnswers.{last_params}
+use Rattle.function_rows.specs.ParamRests.{type_by}
 use Rattle.type_rows.specs.Stand.{below, env, env_in, stack, state}
 use Rattle.type_rows.specs.declared.checker.Checker.{Checker}
 use Rattle.function_rows.specs.Aside.{with_loops}

@@ -2,3 +2,9 @@ pub mod Aside
 pub mod Closures
 pub mod Heads
 pub mod Scoped
+pub mod CaptureAnswers
+pub mod Names
+pub mod CaptureRests
+pub mod ParamAnswers
+pub mod ParamRests
+pub mod ParamForms

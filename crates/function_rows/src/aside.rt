@@ -1,6 +1,6 @@
 //! Where the body around stands, put aside while another body is gone over.
 ghost use Rattle.std.specs.Prelude.{◌≡◌, []};
-ghost use Rattle.scope_rows.specs.Scopes.{OnlyPlace};
+ghost use Rattle.name_rows.specs.Scopes.{OnlyPlace};
 ghost use Rattle.type_rows.specs.Stand.{env, env_in};
 ghost use Rattle.function_rows.specs.Aside.{IsAlone, IsAside, IsBlock, alone, in_block, with_loops};
 ghost use Rattle.type_rows.specs.declared.tables.Tables.{Tables};

@@ -10,8 +10,8 @@ ghost use Rattle.type_rows.specs.Stand.{Gives, GivesValue, Keeps, Same, env, sta
 ghost use Rattle.function_rows.specs.Closures.{GivesStart, KeepsStart, closure_ty as closure_ty_of, started, started_at, ty_seen};
 
 use crate::numbers::{body_number, closure_added};
+use crate::{capture_types, captured};
 use call_rows::{Many, fitted_many};
-use capture_rows::{capture_types, captured};
 use mir_base::{NodeId, Pos, RuleError};
 use mir_ty::{Ty, TyId};
 use src_ast::Nodes;

@@ -10,11 +10,11 @@ ghost use Rattle.function_rows.specs.Scoped.{KeepsSelf};
 
 use crate::numbers::body_number;
 use crate::scopes::{Begun, BodyHead, begin, block_scope};
-use binding_rows::enter_bound;
+use crate::{name_param, params_of};
 use item_heads::pushed;
 use mir_base::{List, Pos, RuleError};
 use mir_ty::TyId;
-use param_rows::{name_param, params_of};
+use pattern_check::enter_bound;
 use src_ast::Nodes;
 use src_tree::Node;
 use std::alloc::Global;

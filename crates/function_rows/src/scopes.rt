@@ -1,21 +1,21 @@
 //! What is put aside where a body begins, and the scope of its block.
 ghost use Rattle.std.specs.Prelude.{◌≡◌, reverse};
 ghost use Rattle.body_rows.specs.Around.{in_body, with_outer};
-ghost use Rattle.param_rows.specs.Answers.{last_params};
+ghost use Rattle.function_rows.specs.ParamAnswers.{last_params};
 ghost use Rattle.src_ast.specs.Seen.{maybe_of};
 ghost use Rattle.type_rows.specs.Stand.{env, env_in, stack, state};
 ghost use Rattle.function_rows.specs.Aside.{alone, with_loops};
 ghost use Rattle.function_rows.specs.Heads.{GivesBlock, KeepsBlock, answered};
 
 use crate::aside::{begin_block, put_aside};
-use binding_rows::enter_bound;
 use body_rows::{Outer, begin_body};
 use mir_base::{List, Pos, RuleError};
 use mir_ty::TyId;
+use name_rows::answer_of;
+use pattern_check::enter_bound;
 use src_tree::Node;
 use type_env::Variables;
 use type_rows::{Checker, Surroundings};
-use written_rows::answer_of;
 
 /// What is put aside of the body around another: of the walk, and where it stands.
 #[derive(Drop)]

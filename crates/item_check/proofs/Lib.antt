@@ -7,3 +7,5 @@ pub mod ParamForms
 pub mod VariantForms
 pub mod ItemForms
 pub mod ItemAnswers
+mod Lists
+mod Named

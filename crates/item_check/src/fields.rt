@@ -10,10 +10,10 @@ ghost use Rattle.item_check.specs.Forms.{named_field, once, plain_field};
 use crate::names::{is_new, with_name};
 use item_heads::{NameTable, obeys};
 use mir_base::{Pos, Rule, RuleError};
+use name_rows::written;
 use src_ast::{Nodes, field_form};
 use src_tree::Node;
 use type_rows::Checker;
-use written_rows::written;
 
 /// A name that has to be new, behind those so far.
 fn add_once(

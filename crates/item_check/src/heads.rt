@@ -11,14 +11,14 @@ ghost use Rattle.typing_rules.specs.Written.{written_param};
 ghost use Rattle.item_check.specs.Forms.{done, fresh, with_outside};
 
 use call_rows::let_go;
+use function_rows::params_of;
 use mir_base::{List, RuleError};
-use param_rows::params_of;
+use name_rows::answer_of;
 use src_ast::Nodes;
 use src_tree::Node;
 use std::mem;
 use type_env::{BreakOut, Variables};
 use type_rows::Checker;
-use written_rows::answer_of;
 
 /// What is put aside of a walk while a head is gone over: the next number of a node, and the breaks so far.
 #[derive(Drop)]

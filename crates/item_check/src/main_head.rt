@@ -7,8 +7,8 @@ ghost use Rattle.typing_rules.specs.Scope as scope;
 ghost use Rattle.well_typed.specs.Types as types;
 
 use crate::counts::are_none;
+use crate::head_of;
 use item_heads::obeys;
-use item_rows::head_of;
 use mir_base::{Pos, Rule, RuleError};
 use mir_ty::{Items, Sig};
 use src_ast::Nodes;

@@ -8,7 +8,7 @@ ghost use Rattle.item_check.specs.Forms.{drop_head, impl_head, method_head};
 
 use crate::receivers::{takes_reference, takes_unique};
 use crate::trait_heads::is_called_drop;
-use item_rows::{has_drop_head, has_trait_head};
+use crate::{has_drop_head, has_trait_head};
 use mir_base::RuleError;
 use src_ast::{Nodes, name_of};
 use src_tree::Node;

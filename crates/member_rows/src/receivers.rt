@@ -20,10 +20,10 @@ ghost use Rattle.well_typed.specs.Types as types;
 
 use crate::methods::{Method, head, is_drop, through};
 use call_rows::{Behind, counted_end};
+use expression_rows::borrow_of;
 use item_heads::{broken, obeys};
 use mir_base::{List, NodeId, Pos, Rule, RuleError};
 use mir_ty::{Items, Sig, TyId};
-use operator_rows::borrow_of;
 use std::alloc::Global;
 use type_env::{is_behind_shared, reference_of};
 use type_rows::Checker;

@@ -1,1 +1,3 @@
 pub mod Variables
+pub mod Scopes
+pub mod Local

@@ -3,3 +3,5 @@ pub mod Forms
 pub mod Answers
 pub mod Numbers
 pub mod Rests
+pub mod BindingForms
+pub mod BindingRests

@@ -1,3 +1,4 @@
 pub mod Fields
 pub mod Given
 pub mod Rests
+pub mod Inits

@@ -1,2 +1,5 @@
 pub mod Forms
 pub mod Checks
+pub mod Drops
+pub mod Kinds
+pub mod Start

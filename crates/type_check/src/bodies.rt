@@ -7,7 +7,7 @@ ghost use Rattle.typing_rules.specs.Program as rules;
 ghost use Rattle.typing_rules.specs.Scope.{adt_named};
 ghost use Rattle.type_check.specs.Forms.{fn_check};
 
-use function_check::fn_body;
+use crate::fn_body;
 use item_check::{enter_impl, leave_impl};
 use item_heads::broken;
 use mir_base::{Pos, Rule, RuleError};

@@ -8,8 +8,8 @@ ghost use Rattle.typing_rules.specs.Items.{item_syns, items_of};
 ghost use Rattle.typing_rules.specs.Program as rules;
 ghost use Rattle.type_check.specs.Checks.{Checks, program_at};
 
+use crate::checker_of;
 use crate::walk::all_items;
-use checker_tables::checker_of;
 use mir_base::{NoMemory, RuleError};
 use mir_ty::Items;
 use src_tree::{Piece, Tree};

@@ -6,7 +6,7 @@ use Rattle.callee_rows.specs.Callees.{callee_seen}
 use Rattle.callee_rows.specs.Rests.{begun_rest, callee_rest, closure_rest}
 use Rattle.member_rows.specs.Calls.{Arguments}
 use Rattle.member_rows.specs.Rests.{method_rest, receiver_rest}
-use Rattle.binding_rows.specs.Rests.{value_if}
+use Rattle.pattern_check.specs.BindingRests.{value_if}
 use Rattle.expression_check.proofs.Lets.{brings, let_done, let_refused}
 use Rattle.expression_check.proofs.Inits.{behind_fields, by_tables, named_init, none_given, refused_fields, refused_value}
 use Rattle.function_rows.proofs.Bodies.{block_given, block_refused, returned_if}
@@ -16,9 +16,9 @@ use Rattle.function_rows.specs.Heads.{unvalued}
 use Rattle.src_ast.specs.View.{idents, syns_of}
 use Rattle.typing_rules.specs.Bodies as bodies_of
 use Rattle.typing_rules.specs.Places.{a_node_of}
-use Rattle.init_rows.proofs.InitForms.{init_seen}
-use Rattle.init_rows.proofs.Turns.{below_more, field_refused, no_more, one_field}
-use Rattle.init_rows.specs.Inits.{GivesInit, behind_inits, init_by, one_init, variant_by}
+use Rattle.struct_rows.proofs.InitForms.{init_seen}
+use Rattle.struct_rows.proofs.Turns.{below_more, field_refused, no_more, one_field}
+use Rattle.struct_rows.specs.Inits.{GivesInit, behind_inits, init_by, one_init, variant_by}
 use Rattle.struct_rows.specs.Fields.{numbered_by, variant_of}
 use Rattle.struct_rows.specs.Rests.{struct_rest}
 use Rattle.mir_ty.specs.declared.adt.Variant.{Variant}
@@ -37,17 +37,17 @@ use Rattle.expression_check.proofs.Statements.{below_statement, block_left, grow
 use Rattle.expression_check.proofs.Stores.{borrowed, stored}
 use Rattle.expression_check.proofs.Jumps.{broken_out}
 use Rattle.expression_check.specs.Bases.{plain_base}
-use Rattle.branch_rows.specs.Jumps.{target_of, unlabelled}
-use Rattle.operator_rows.specs.Rests.{store_rest}
+use Rattle.expression_rows.specs.Jumps.{target_of, unlabelled}
+use Rattle.expression_rows.specs.Rests.{store_rest}
 use Rattle.mir_ty.specs.declared.ty.TyId.{TyId}
 use Rattle.type_env.specs.Scope.{word_in}
 use Rattle.typed_tree.specs.Tree as tree
 use Rattle.well_typed.specs.Places.{ty_of}
-use Rattle.expression_forms.specs.Forms.{value_as}
-use Rattle.expression_forms.specs.Sizes.{sizes}
+use Rattle.expression_rows.specs.Forms.{value_as}
+use Rattle.expression_rows.specs.Sizes.{sizes}
 use Rattle.item_heads.specs.Answers.{Refuses}
-use Rattle.list_rows.proofs.Lists.{below_next, below_part, one_argument, one_element, one_part, refused_argument, refused_part}
-use Rattle.list_rows.specs.Lists.{argument_at}
+use Rattle.expression_rows.proofs.Lists.{below_next, below_part, one_argument, one_element, one_part, refused_argument, refused_part}
+use Rattle.expression_rows.specs.Lists.{argument_at}
 use Rattle.src_ast.specs.Expressions.{expression_of, init_of}
 use Rattle.src_ast.specs.Seen.{maybe_of, nodes_of, syn_of, word_of}
 use Rattle.src_ast.specs.Syntax.{BreakOf, IfElse, IfLetElse, LetOf, MoveOf}

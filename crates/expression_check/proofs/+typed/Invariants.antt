@@ -2,15 +2,15 @@ use Rattle.std.proofs.Common.{◌≡◌, ◌≤◌, ◌+◌, ◌*◌, Some, drop
 use Rattle.src_ast.specs.Expressions.{arm_of, expression_of, init_of}
 use Rattle.src_ast.specs.Seen.{maybe_of, nodes_of, syn_of}
 use Rattle.call_rows.specs.Lists.{below_all}
-use Rattle.init_rows.specs.Inits.{behind_inits, variant_by}
+use Rattle.struct_rows.specs.Inits.{behind_inits, variant_by}
 use Rattle.src_ast.specs.Syntax.{Word}
 use Rattle.pattern_rows.specs.Expected.{expected_of}
 use Rattle.type_rows.specs.Stand.{Stays, env, stack, state}
 use Rattle.typing_rules.specs.Patterns.{count_of}
 use Rattle.typing_rules.specs.Typed as rules
-use Rattle.expression_forms.specs.Forms.{argument_size, place_size}
-use Rattle.expression_forms.specs.Sizes.{form_size, seen_size, size, size_if_any, sizes}
-use Rattle.list_rows.specs.Lists.{behind_nodes, behind_parts, behind_typed}
+use Rattle.expression_rows.specs.Forms.{argument_size, place_size}
+use Rattle.expression_rows.specs.Sizes.{form_size, seen_size, size, size_if_any, sizes}
+use Rattle.expression_rows.specs.Lists.{behind_nodes, behind_parts, behind_typed}
 use Rattle.expression_check.specs.Blocks.{Grows, behind_statements}
 use Rattle.expression_check.proofs.+typed.Given as goal
 

@@ -8,8 +8,8 @@ use Rattle.typing_rules.specs.Bodies.{params_of}
 use Rattle.typing_rules.specs.Check.{Check}
 use Rattle.typing_rules.specs.Rows.{Typer}
 use Rattle.typing_rules.specs.Scope.{Entry, Env}
-use Rattle.param_rows.specs.Answers.{last_param, last_params}
-use Rattle.param_rows.specs.Rests.{type_by}
+use Rattle.function_rows.specs.ParamAnswers.{last_param, last_params}
+use Rattle.function_rows.specs.ParamRests.{type_by}
 use Rattle.function_rows.specs.Heads.{GivesBlock, answered, closure_inside}
 use Rattle.function_rows.specs.declared.scopes.BodyHead.{BodyHead}
 use Rattle.function_rows.proofs.Bodies.{below_first, first_param, self_given, self_params_refused, self_refused}

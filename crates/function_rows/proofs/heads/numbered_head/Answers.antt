@@ -8,8 +8,8 @@ use Rattle.src_ast.specs.Seen.{maybe_of, nodes_of}
 use Rattle.type_rows.specs.Stand.{env, stack, state}
 use Rattle.typing_rules.specs.Check.{Broken, Check, State}
 use Rattle.typing_rules.specs.Scope.{Entry, Env}
-use Rattle.param_rows.specs.Rests.{type_by}
-use Rattle.param_rows.specs.Answers.{last_params}
+use Rattle.function_rows.specs.ParamRests.{type_by}
+use Rattle.function_rows.specs.ParamAnswers.{last_params}
 use Rattle.function_rows.specs.Aside.{alone}
 use Rattle.function_rows.specs.Heads.{GivesHead, answered, closed, fn_inside, numbered_fn}
 use Rattle.function_rows.specs.declared.scopes.BodyHead.{BodyHead}

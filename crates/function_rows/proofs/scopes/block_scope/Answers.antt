@@ -6,7 +6,7 @@ use Rattle.typed_tree.specs.Tree.{BodyTree, Node}
 use Rattle.typing_rules.specs.Check.{Check}
 use Rattle.typing_rules.specs.Rows.{Typer}
 use Rattle.typing_rules.specs.Scope.{Env}
-use Rattle.param_rows.specs.Answers.{last_params}
+use Rattle.function_rows.specs.ParamAnswers.{last_params}
 use Rattle.function_rows.specs.Heads.{GivesBlock, answered, block_rest}
 use Rattle.function_rows.specs.declared.scopes.BodyHead.{BodyHead}
 use Rattle.function_rows.proofs.Bodies.{scope_given, scope_refused}

@@ -1,2 +1,0 @@
-pub mod LoopTypes
-pub mod Targets

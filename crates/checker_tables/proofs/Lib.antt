@@ -1,4 +1,0 @@
-pub mod DropBodies
-pub mod KindForms
-pub mod KindWalk
-pub mod Starting

@@ -1,3 +1,0 @@
-pub mod Drops
-pub mod Kinds
-pub mod Start

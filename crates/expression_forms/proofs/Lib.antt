@@ -1,4 +1,0 @@
-pub mod Shapes
-pub mod PlaceForms
-pub mod Referring
-pub mod Numbers

@@ -1,0 +1,29 @@
+//! Statements (The Rust Reference, "Statements").
+ghost use Rattle.std.specs.Prelude.{◌≡◌};
+ghost use Rattle.expression_rows.specs.BranchRests.{evaluate_rest};
+ghost use Rattle.type_rows.specs.Stand.{GivesValue, Keeps, below, env, stack, state, top};
+
+use item_heads::obeys;
+use mir_base::{NodeId, Pos, Rule, RuleError};
+use mir_ty::TyId;
+use type_env::{is_never, is_unit};
+use type_rows::{Checker, One};
+
+/// An expression as a statement: without `;` it is `()` or `!`. Answers whether it has the type `!`.
+pub fn evaluate_end(
+    checker: &mut Checker,
+    id: NodeId,
+    at: Pos,
+    has_semicolon: bool,
+) -> Result<bool, RuleError>
+    ensures gives { GivesValue (λ ends. (top (stack checker.new), ends, env checker.old))
+        (evaluate_rest (env checker.old) id.0 at has_semicolon (top (stack checker.old)) (state checker.old)) result checker.new }
+    ensures kept { Keeps (below (stack checker.old)) checker.old result checker.new }
+{
+    let ty = checker.last_ty();
+    let ends = is_never(&checker.walk.items, ty);
+    let is_whole = has_semicolon || is_unit(&checker.walk.items, ty) || ends;
+    obeys(Rule::T03, checker.last_at(), is_whole)?;
+    checker.wrap_one(id, at, TyId(0), One::Evaluate)?;
+    Ok(ends)
+}

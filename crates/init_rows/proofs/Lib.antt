@@ -1,3 +1,0 @@
-pub mod InitForms
-pub mod Tabled
-pub mod Turns

@@ -1,3 +1,0 @@
-pub mod Answers
-pub mod Rests
-pub mod Forms

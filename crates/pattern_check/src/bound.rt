@@ -1,0 +1,67 @@
+//! What patterns bind.
+ghost use Rattle.std.specs.Prelude.{◌≡◌, [], reverse, IfErr, OnOk};
+ghost use Rattle.mir_base.specs.declared.rule.RuleError.{RuleError};
+ghost use Rattle.pattern_rows.specs.Expected.{expected_of};
+ghost use Rattle.name_rows.specs.Scopes.{OnlyPlace};
+ghost use Rattle.src_ast.specs.Seen.{syn_of};
+ghost use Rattle.type_rows.specs.Stand.{GivesValue, Keeps, env, stack, state, top};
+ghost use Rattle.typing_rules.specs.Patterns as patterns;
+ghost use Rattle.typing_rules.specs.Scope.{in_guard, with_variables};
+ghost use Rattle.pattern_check.specs.BindingRests.{matched_rest};
+
+use crate::pattern;
+use crate::scrutinees::expected_of_last;
+use mir_base::RuleError;
+use mir_ty::TyId;
+use name_rows::enter_all;
+use pattern_rows::Expected;
+use src_tree::Node;
+use type_env::Variables;
+use type_rows::Checker;
+
+/// The pattern of a place of a type; answers its bindings, the youngest first.
+pub fn bindings(
+    checker: &mut Checker,
+    e: Expected,
+    ty: TyId,
+    node: &Node,
+) -> Result<Variables, RuleError>
+    ensures gives { GivesValue (λ bound. (top (stack checker.new), reverse bound))
+        (patterns.pattern (env checker.old) (expected_of e) ty (syn_of node.now) [] (state checker.old)) result checker.new }
+    ensures kept { Keeps (stack checker.old) checker.old result checker.new }
+{
+    let mut bound = Variables::new(checker.alloc);
+    pattern(checker, &mut bound, e, ty, node)?;
+    Ok(bound)
+}
+
+/// The pattern that the last node is matched with; answers its bindings, the youngest first.
+pub fn matched(checker: &mut Checker, takes_all: bool, node: &Node) -> Result<Variables, RuleError>
+    ensures gives { GivesValue (λ bound. (top (stack checker.new), reverse bound))
+        (matched_rest (env checker.old) takes_all (top (stack checker.old)) (syn_of node.now) (state checker.old)) result checker.new }
+    ensures kept { Keeps (stack checker.old) checker.old result checker.new }
+{
+    let e = expected_of_last(checker, takes_all);
+    let ty = checker.last_ty();
+    bindings(checker, e, ty, node)
+}
+
+/// The bindings of a pattern come into scope.
+#[tactic(auto, using(crate::proofs::Entered::plain_same))]
+pub fn enter_bound(checker: &mut Checker, bound: &Variables) -> Result<(), RuleError>
+    ensures entered { OnOk result (env checker.new ≡ with_variables (reverse bound.now) (env checker.old)) }
+    ensures others { OnlyPlace checker.old checker.new }
+    ensures short { IfErr result (λ e. e ≡ RuleError.Memory) }
+{
+    enter_all(checker, bound, false)
+}
+
+/// The bindings of a pattern come into scope inside the guard of their arm.
+#[tactic(auto, using(crate::proofs::Entered::guarded_same))]
+pub fn enter_guard(checker: &mut Checker, bound: &Variables) -> Result<(), RuleError>
+    ensures entered { OnOk result (env checker.new ≡ with_variables (in_guard (reverse bound.now)) (env checker.old)) }
+    ensures others { OnlyPlace checker.old checker.new }
+    ensures short { IfErr result (λ e. e ≡ RuleError.Memory) }
+{
+    enter_all(checker, bound, true)
+}

@@ -1,0 +1,76 @@
+-- Tables put together of three parts, and the place where a checker begins.
+use Rattle.std.proofs.Common.{◌≡◌, ℕ, List, [], Option, None, map, reverse, ap, ◌∙◌}
+use Rattle.mir_ty.specs.declared.ty.TyId.{TyId}
+use Rattle.mir_ty.specs.ItemTable.{ItemTable}
+use Rattle.type_env.specs.Scope.{around_of}
+use Rattle.type_rows.specs.Stand.{env_in, stack_of}
+use Rattle.type_rows.specs.Tables.{IsReady, all_kinds_of}
+use Rattle.type_rows.specs.declared.surroundings.Surroundings.{Surroundings}
+use Rattle.type_rows.specs.declared.tables.Tables.{Tables}
+use Rattle.typed_tree.specs.declared.node.Node.{Node}
+use Rattle.typing_rules.specs.Items.{adt_names, all_kinds, trait_names}
+use Rattle.typing_rules.specs.Places.{unit}
+use Rattle.typing_rules.specs.Program.{outermost}
+use Rattle.typing_rules.specs.Scope.{Around, Entry, Env}
+use Rattle.src_ast.specs.Syntax.{Kind, Syn, Word}
+use Rattle.type_check.specs.Start.{HasItemTables, HasImplTables}
+use Rattle.type_check.specs.declared.start.TextTables.{TextTables}
+use Rattle.type_check.specs.declared.start.ItemTables.{ItemTables}
+use Rattle.type_check.specs.declared.start.ImplTables.{ImplTables}
+
+abbrev together : TextTables → ItemTables → ImplTables → Tables
+together text of_items impls =
+    record {
+      adts = text.adts;
+      traits = text.traits;
+      kinds = text.kinds;
+      adt_names = of_items.adt_names;
+      trait_names = of_items.trait_names;
+      body_names = of_items.body_names;
+      members = of_items.members;
+      methods = of_items.methods;
+      pairs = impls.pairs;
+      drop_bodies = impls.drop_bodies;
+    }
+
+pub ready : (items : ItemTable) (text : TextTables) (of_items : ItemTables) (impls : ImplTables) →
+    HasItemTables items of_items → HasImplTables items impls → IsReady items (together text of_items impls)
+ready items text of_items impls known done =
+    record {
+      adts = known.adts;
+      traits = known.traits;
+      bodies = known.bodies;
+      members = known.members;
+      methods = known.methods;
+      impls = done.impls;
+      drops = done.drops;
+    }
+
+abbrev made : List Word → List Word → List (List Kind) → Option ℕ → List Entry → List Around → TyId → Env
+made adts traits kinds self_adt variables loops answer =
+    record {
+      adts = adts;
+      traits = traits;
+      kinds = kinds;
+      self_adt = self_adt;
+      variables = variables;
+      loops = loops;
+      answer = answer;
+    }
+
+pub begins : (items : List Syn) (t : Tables) (s : Surroundings) → t.adts ≡ adt_names items → t.traits ≡ trait_names items →
+    all_kinds_of t.kinds ≡ all_kinds items → s.self_adt ≡ None → s.variables ≡ [] → s.loops ≡ [] → s.answer ≡ unit →
+    env_in t s ≡ outermost items
+unfolding env_in
+begins items t s adts traits kinds self_adt variables loops answer =
+    ap (λ x. made x t.traits (all_kinds_of t.kinds) s.self_adt s.variables (reverse (map around_of s.loops)) s.answer) adts
+    ∙ ap (λ x. made (adt_names items) x (all_kinds_of t.kinds) s.self_adt s.variables (reverse (map around_of s.loops)) s.answer) traits
+    ∙ ap (λ x. made (adt_names items) (trait_names items) x s.self_adt s.variables (reverse (map around_of s.loops)) s.answer) kinds
+    ∙ ap (λ x. made (adt_names items) (trait_names items) (all_kinds items) x s.variables (reverse (map around_of s.loops)) s.answer) self_adt
+    ∙ ap (λ x. made (adt_names items) (trait_names items) (all_kinds items) None x (reverse (map around_of s.loops)) s.answer) variables
+    ∙ ap (λ x. made (adt_names items) (trait_names items) (all_kinds items) None [] (reverse (map around_of x)) s.answer) loops
+    ∙ ap (λ x. made (adt_names items) (trait_names items) (all_kinds items) None [] [] x) answer
+
+pub none_made : (nodes : List Node) → nodes ≡ [] → stack_of nodes ≡ []
+unfolding stack_of
+none_made nodes is = ap stack_of is

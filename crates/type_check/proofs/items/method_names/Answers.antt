@@ -1,0 +1,23 @@
+use Rattle.std.proofs.Common.{◌≡◌, ◌∷◌, [], ◌++◌, map, take, Some, None, slice_get, rules, ap, sym, ◌∙◌, arith}
+use Rattle.std.proofs.lemmas.List.{map_push}
+use Rattle.std.proofs.lemmas.Option.{slice_get_within}
+use Rattle.type_rows.specs.Tables.{method_words}
+use Rattle.type_env.proofs.ImplPairs.{all_taken, with_next}
+use Rattle.type_check.proofs.items.method_names.Goals as goal
+
+pub loop-def-preserved : goal.loop-def-preserved
+loop-def-preserved c =
+    let at : slice_get c.args.items.now.traits c.loop-def.n ≡ Some c.in-Some.def.now = search rules in
+    record {
+      within = omega (arith, slice_get_within c.args.items.now.traits c.loop-def.n c.in-Some.def.now at);
+      names =
+          c.in_ok-push.ensures.pushed ∙ ap (λ xs. xs ++ c.in_ok-methods_of.field-0 ∷ []) c.loop-def.invariant.names
+          ∙ ap (λ x. map method_words (take c.loop-def.n c.args.items.now.traits) ++ x ∷ []) c.in_ok-methods_of.ensures
+          ∙ sym (ap (map method_words) (with_next c.args.items.now.traits c.loop-def.n c.in-Some.def.now at)
+          ∙ map_push method_words (take c.loop-def.n c.args.items.now.traits) c.in-Some.def.now);
+    }
+
+pub returns : goal.returns
+returns c =
+    let past : slice_get c.args.items.now.traits c.loop-def.n ≡ None = search rules in
+    c.loop-def.invariant.names ∙ ap (map method_words) (all_taken c.args.items.now.traits c.loop-def.n past c.loop-def.invariant.within)
