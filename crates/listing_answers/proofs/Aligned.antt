@@ -16,12 +16,12 @@ use Rattle.mir_text.proofs.Reading.Basics.{Every}
 use Rattle.listing_answers.proofs.Free.{feedless, AllFree, both_free, name_free, decimal_free, tuple_free, kind_free, array_free, box_free}
 use Rattle.listing_answers.proofs.Named.{adt_names, trait_names, length_map}
 use Rattle.listing_answers.proofs.Sections.{every_joined}
-use Rattle.listing_items.specs.ItemReading.{blank_name, blank_behind}
+use Rattle.listing_lines.specs.ItemReading.{blank_name, blank_behind}
 use Rattle.listing_lines.specs.LineReading.{name_read}
 use Rattle.listing_lines.proofs.Sound.{name_sound}
 use Rattle.listing_reader.specs.HeadReading.{behind_feed, named_line, adt_head, trait_head, adt_of, trait_of, one_adt_head, one_trait_head, heads_within}
-use Rattle.listing_sections.specs.SectionReading.{onward, on_within}
-use Rattle.listing_sections.proofs.Onward.{one_more, keeps}
+use Rattle.listing_reader.specs.SectionReading.{onward, on_within}
+use Rattle.listing_reader.proofs.Onward.{one_more, keeps}
 use Rattle.listing_reader.proofs.Settling.{adt_more, trait_more}
 use Rattle.listing_types.specs.Table.{under, text_under}
 use Rattle.listing_types.proofs.Complete.{name_all}

@@ -19,12 +19,12 @@ use Rattle.listing_answers.specs.Beginning.{LineStands, texts}
 use Rattle.listing_answers.proofs.Named.{Extends, length_map, tree_up, stmt_up, term_up}
 use Rattle.listing_answers.proofs.Sections.{Begin, Passes, Grows, Read, section, counted_so}
 use Rattle.listing_answers.proofs.Until.{Founds, Rows, rows_through, Partly, Wholly, PartlyAll, WhollyAll, total, missing, broken_some, until}
-use Rattle.listing_code.specs.CodeReading.{statement_read, terminator_read, closed, code_behind, code_read, blocks_read}
-use Rattle.listing_code.specs.CodeStands.{stmt_in, term_in}
-use Rattle.listing_code.proofs.Complete.{statements_read, terminators_read, no_statements}
+use Rattle.listing_lines.specs.CodeReading.{statement_read, terminator_read, closed, code_behind, code_read, blocks_read}
+use Rattle.listing_lines.specs.CodeStands.{stmt_in, term_in}
+use Rattle.listing_lines.proofs.CodeComplete.{statements_read, terminators_read, no_statements}
 use Rattle.listing_lines.specs.LineReading as lines
 use Rattle.listing_lines.proofs.Complete.{blocks_read_, bodies_read_, locals_read_}
-use Rattle.listing_sections.specs.BodyReading.{BodyTold, one_local, locals_read, with_locals, body_read, bodies_read}
+use Rattle.listing_reader.specs.BodyReading.{BodyTold, one_local, locals_read, with_locals, body_read, bodies_read}
 use Rattle.listing_types.proofs.Splits.{split, same_found}
 
 -- the lines of a block that was read, and of a body

@@ -10,10 +10,10 @@ use Rattle.mir_text.specs.Lines.{Tree, Trees, Number, Truth, Nothing, Never, Nam
 use Rattle.mir_text.specs.Lists.{behind_commas, joined, in_parentheses, in_braces}
 use Rattle.mir_text.specs.Types.{kind_text, tuple_text}
 use Rattle.mir_text.proofs.Reading.Basics.{Every, any_decimal}
-use Rattle.listing_items.specs.ItemsFound.{VariantsStand}
+use Rattle.listing_lines.specs.ItemsFound.{VariantsStand}
 use Rattle.listing_reader.specs.HeadReading.{behind_feed}
-use Rattle.listing_traits.specs.TraitsFound.{ParamsStand, MethodsStand}
-use Rattle.listing_traits.specs.TraitReading.{self_text}
+use Rattle.listing_lines.specs.TraitsFound.{ParamsStand, MethodsStand}
+use Rattle.listing_lines.specs.TraitReading.{self_text}
 use Rattle.listing_types.specs.TypesFound.{Stands, AllStand, EachStands}
 use Rattle.listing_types.proofs.Complete.{digits_stand, not_true, name_all}
 use Rattle.listing_types.proofs.Depth.{is_a_name}

@@ -36,16 +36,16 @@ use Rattle.listing_answers.proofs.Named.{Extends, no_fewer_adts, no_fewer_traits
 use Rattle.listing_answers.proofs.Standing.{adt_stands, trait_stands, adt_named, word_is, words_are, type_stands, types_stand}
 use Rattle.listing_answers.proofs.Told.{AdtValid, TraitValid, ClosureValid, trait_text, impl_text, closure_text}
 use Rattle.listing_answers.proofs.Valid.{IsNamed, BeginsWithSelf, MethodNamed, body_fits, local_fits, block_fits, ImplValid}
-use Rattle.listing_code.specs.CodeReading.{statement_read, terminator_read, closed, code_behind, code_read, blocks_read, goes_on, until_within}
-use Rattle.listing_code.specs.CodeStands.{IsAdtName, IsTraitName, StmtLineStands, TermLineStands, AreNames}
-use Rattle.listing_code.proofs.Sound.{statements_sound, terminators_sound}
-use Rattle.listing_items.specs.ItemsFound.{VariantsStand, written_variant, own_fields, written_shape, written_adt}
+use Rattle.listing_lines.specs.CodeReading.{statement_read, terminator_read, closed, code_behind, code_read, blocks_read, goes_on, until_within}
+use Rattle.listing_lines.specs.CodeStands.{IsAdtName, IsTraitName, StmtLineStands, TermLineStands, AreNames}
+use Rattle.listing_lines.proofs.CodeSound.{statements_sound, terminators_sound}
+use Rattle.listing_lines.specs.ItemsFound.{VariantsStand, written_variant, own_fields, written_shape, written_adt}
 use Rattle.listing_lines.specs.LineReading as lines
 use Rattle.listing_lines.proofs.Sound.{bodies_sound, locals_sound, blocks_sound}
-use Rattle.listing_sections.specs.BodiesRead.{body_told, bodies_told, AreSigned}
-use Rattle.listing_sections.specs.BodyReading.{BodyTold, one_local, locals_read, told, with_locals, body_read}
-use Rattle.listing_traits.specs.TraitReading.{self_text}
-use Rattle.listing_traits.specs.TraitsFound.{ParamsStand, MethodsStand, written_method}
+use Rattle.listing_reader.specs.BodiesRead.{body_told, bodies_told, AreSigned}
+use Rattle.listing_reader.specs.BodyReading.{BodyTold, one_local, locals_read, told, with_locals, body_read}
+use Rattle.listing_lines.specs.TraitReading.{self_text}
+use Rattle.listing_lines.specs.TraitsFound.{ParamsStand, MethodsStand, written_method}
 use Rattle.listing_types.specs.Table.{AreRead, under, text_under}
 use Rattle.listing_types.specs.TypesFound.{EachStands}
 use Rattle.listing_types.proofs.Complete.{found_at}

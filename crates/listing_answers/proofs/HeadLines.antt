@@ -11,7 +11,7 @@ use Rattle.mir_text.specs.Reading.Words.{Found, bind, or_else, strip}
 use Rattle.mir_text.proofs.Reading.Basics.{behind3, behind5, behind7}
 use Rattle.listing_answers.specs.Beginning.{LineStands}
 use Rattle.listing_answers.proofs.Free.{feedless, both_free, behind, row_free, braces_free, each_free, variants_free, methods_free, copy_free, drop_free, name_free}
-use Rattle.listing_items.specs.ItemReading.{blank_behind}
+use Rattle.listing_lines.specs.ItemReading.{blank_behind}
 use Rattle.listing_lines.proofs.Complete.{name_reads}
 use Rattle.listing_reader.specs.HeadReading.{behind_feed, named_line, adt_head, trait_head}
 use Rattle.listing_types.proofs.Complete.{name_all}

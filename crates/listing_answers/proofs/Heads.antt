@@ -19,9 +19,9 @@ use Rattle.listing_lines.specs.LineReading.{impl_read, closure_read}
 use Rattle.listing_reader.specs.GraphReading.{none_seen, items_under, fewer, again, heads_after}
 use Rattle.listing_reader.specs.HeadReading.{adt_head, trait_head, adt_of, trait_of, one_adt_head, one_trait_head, heads_within}
 use Rattle.listing_reader.proofs.Settling.{trait_more, are_fewer}
-use Rattle.listing_sections.specs.SectionReading.{ItemsSeen, onward, on_within, as_long_as, one_adt, one_trait, one_impl, one_closure, then_section}
-use Rattle.listing_sections.proofs.Onward.{no_more, keeps}
-use Rattle.listing_traits.specs.TraitReading.{trait_read}
+use Rattle.listing_reader.specs.SectionReading.{ItemsSeen, onward, on_within, as_long_as, one_adt, one_trait, one_impl, one_closure, then_section}
+use Rattle.listing_reader.proofs.Onward.{no_more, keeps}
+use Rattle.listing_lines.specs.TraitReading.{trait_read}
 use Rattle.listing_types.proofs.Splits.{split, same_found}
 
 -- the lines of structs, enums and traits stand in front

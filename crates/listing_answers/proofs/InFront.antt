@@ -3,7 +3,7 @@ use Rattle.std.proofs.Common.{◌≡◌, ℕ, zero, suc, List, [], ◌∷◌, �
 use Rattle.std.specs.Prelude.{⊤}
 use Rattle.mir_text.specs.Items.{counted}
 use Rattle.mir_text.specs.Reading.Words.{Found}
-use Rattle.listing_sections.specs.SectionReading.{onward, on_within}
+use Rattle.listing_reader.specs.SectionReading.{onward, on_within}
 
 -- of things that are counted from a number on
 abbrev pub EachFrom : {X : Type 0} → (ℕ → X → Type 0) → ℕ → List X → Type 0

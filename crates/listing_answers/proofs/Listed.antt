@@ -47,10 +47,10 @@ use Rattle.listing_answers.proofs.Longest.{adt_lines, trait_lines, impl_lines, c
 use Rattle.listing_answers.proofs.Sections.{every_joined}
 use Rattle.listing_answers.proofs.Standing.{all_at, trait_stands, adt_named, form_stands}
 use Rattle.listing_answers.proofs.Told.{all_from_every}
-use Rattle.listing_code.specs.CodeStands.{AreNames}
-use Rattle.listing_items.specs.ItemsFound.{VariantsStand}
-use Rattle.listing_traits.specs.TraitReading.{self_text}
-use Rattle.listing_traits.specs.TraitsFound.{ParamsStand, MethodsStand}
+use Rattle.listing_lines.specs.CodeStands.{AreNames}
+use Rattle.listing_lines.specs.ItemsFound.{VariantsStand}
+use Rattle.listing_lines.specs.TraitReading.{self_text}
+use Rattle.listing_lines.specs.TraitsFound.{ParamsStand, MethodsStand}
 use Rattle.listing_types.specs.Table.{HasHead}
 use Rattle.listing_types.specs.TypesFound.{Stands, EachStands}
 use Rattle.listing_types.proofs.Texts.{every_from_all}

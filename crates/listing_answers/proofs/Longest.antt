@@ -15,8 +15,8 @@ use Rattle.listing_answers.proofs.Passing.{count_seen, adts_pass, adts_grow, tra
 use Rattle.listing_answers.proofs.Sections.{Read, section, counted_so, never_less, stand_behind}
 use Rattle.listing_answers.proofs.Until.{PartlyAll, WhollyAll, total, missing, begin_up}
 use Rattle.listing_reader.specs.GraphReading.{none_seen, items_under}
-use Rattle.listing_sections.specs.BodyReading.{BodyTold, body_read, bodies_read}
-use Rattle.listing_sections.specs.SectionReading.{ItemsSeen, then_section, one_adt, one_trait, one_impl, one_closure}
+use Rattle.listing_reader.specs.BodyReading.{BodyTold, body_read, bodies_read}
+use Rattle.listing_reader.specs.SectionReading.{ItemsSeen, then_section, one_adt, one_trait, one_impl, one_closure}
 
 -- the lines of bodies that were read
 abbrev pub tolds_full : List BodyTold → ℕ

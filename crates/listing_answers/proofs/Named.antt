@@ -12,10 +12,10 @@ use Rattle.mir_text.specs.Lines.{Tree, Trees, Number, Truth, Nothing, Never, Nam
 use Rattle.mir_text.specs.Reading.Words.{place_in}
 use Rattle.mir_text.specs.Types.{trait_name, name_of_trait}
 use Rattle.listing_answers.specs.Beginning.{LineStands}
-use Rattle.listing_code.specs.CodeStands.{IsAdtName, IsTraitName, StmtLineStands, TermLineStands}
-use Rattle.listing_items.specs.ItemsFound.{VariantsStand}
+use Rattle.listing_lines.specs.CodeStands.{IsAdtName, IsTraitName, StmtLineStands, TermLineStands}
+use Rattle.listing_lines.specs.ItemsFound.{VariantsStand}
 use Rattle.listing_parts.specs.Numbers.{adt_no, trait_no}
-use Rattle.listing_traits.specs.TraitsFound.{ParamsStand, MethodsStand}
+use Rattle.listing_lines.specs.TraitsFound.{ParamsStand, MethodsStand}
 use Rattle.listing_types.specs.TypesFound.{Stands, AllStand, EachStands}
 use Rattle.listing_types.proofs.Complete.{found_at}
 

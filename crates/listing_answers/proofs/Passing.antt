@@ -20,16 +20,16 @@ use Rattle.listing_answers.proofs.Named.{Extends, no_fewer_traits, each_up, vari
 use Rattle.listing_answers.proofs.Sections.{Begin, Passes, Grows}
 use Rattle.listing_answers.proofs.Until.{begin_up}
 use Rattle.listing_reader.specs.HeadReading.{adt_head}
-use Rattle.listing_items.specs.ItemReading.{adt_read}
-use Rattle.listing_items.specs.ItemsFound.{found_variant}
-use Rattle.listing_items.proofs.Complete.{structs_read, enums_read}
+use Rattle.listing_lines.specs.ItemReading.{adt_read}
+use Rattle.listing_lines.specs.ItemsFound.{found_variant}
+use Rattle.listing_lines.proofs.ItemsComplete.{structs_read, enums_read}
 use Rattle.listing_lines.specs.LineReading.{impl_read, closure_read}
 use Rattle.listing_lines.proofs.Complete.{closures_read_, impls_read_}
 use Rattle.listing_parts.specs.Numbers.{adt_no, trait_no}
-use Rattle.listing_sections.specs.SectionReading.{ItemsSeen, one_adt, one_trait, one_impl, one_closure}
-use Rattle.listing_traits.specs.TraitReading.{trait_read}
-use Rattle.listing_traits.specs.TraitsFound.{found_method, MethodsStand}
-use Rattle.listing_traits.proofs.Complete.{traits_read}
+use Rattle.listing_reader.specs.SectionReading.{ItemsSeen, one_adt, one_trait, one_impl, one_closure}
+use Rattle.listing_lines.specs.TraitReading.{trait_read}
+use Rattle.listing_lines.specs.TraitsFound.{found_method, MethodsStand}
+use Rattle.listing_lines.proofs.TraitsComplete.{traits_read}
 use Rattle.listing_types.proofs.Splits.{split, same_found}
 
 -- how many items there are

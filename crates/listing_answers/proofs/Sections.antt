@@ -9,8 +9,8 @@ use Rattle.mir_text.specs.Lines.{Line, line_text}
 use Rattle.mir_text.specs.Lists.{line}
 use Rattle.mir_text.specs.Reading.Words.{Found}
 use Rattle.mir_text.proofs.Reading.Basics.{Every}
-use Rattle.listing_sections.specs.SectionReading.{onward, on_within}
-use Rattle.listing_sections.proofs.Onward.{one_more, no_more}
+use Rattle.listing_reader.specs.SectionReading.{onward, on_within}
+use Rattle.listing_reader.proofs.Onward.{one_more, no_more}
 use Rattle.listing_answers.specs.Beginning.{texts}
 
 -- the first line is such

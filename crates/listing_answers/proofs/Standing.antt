@@ -14,8 +14,8 @@ use Rattle.mir_text.specs.Lines.{Tree, tree_text, trees_text, trees_of, form_tre
 use Rattle.mir_text.specs.Types.{tuple_text, form_text, found_text, type_within, type_text, deepest, trait_name, name_of_trait}
 use Rattle.mir_text.proofs.Reading.Basics.{Every}
 use Rattle.listing_answers.proofs.Named.{Extends, no_fewer_adts, no_fewer_traits, adt_same, trait_same}
-use Rattle.listing_code.specs.CodeStands.{IsAdtName, IsTraitName, AreNames}
-use Rattle.listing_code.proofs.Sound.{is_there}
+use Rattle.listing_lines.specs.CodeStands.{IsAdtName, IsTraitName, AreNames}
+use Rattle.listing_lines.proofs.CodeSound.{is_there}
 use Rattle.listing_parts.specs.Numbers.{adt_no}
 use Rattle.listing_types.specs.Table.{AreRead, HasHead, under, text_under}
 use Rattle.listing_types.specs.TypesFound.{Stands, AllStand, EachStands, HasOne}

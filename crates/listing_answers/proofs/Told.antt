@@ -27,22 +27,22 @@ use Rattle.listing_answers.proofs.Heads.{after_adts, after_traits, after_impls, 
 use Rattle.listing_answers.proofs.InFront.{EachFrom, IsOne, StandInFront, in_front}
 use Rattle.listing_answers.proofs.Named.{Extends, adt_names, trait_names, length_map}
 use Rattle.listing_answers.proofs.Valid.{IsNamed, EnumNamed, gives_adt, MethodNamed, TraitNamed, gives_trait, closure_fits, ImplValid, gives_impl}
-use Rattle.listing_code.specs.CodeStands.{AreNames}
-use Rattle.listing_items.specs.ItemReading.{adt_read}
-use Rattle.listing_items.specs.ItemsFound.{written_variant, own_fields, written_shape, written_adt}
-use Rattle.listing_items.proofs.Sound.{adts_sound}
+use Rattle.listing_lines.specs.CodeStands.{AreNames}
+use Rattle.listing_lines.specs.ItemReading.{adt_read}
+use Rattle.listing_lines.specs.ItemsFound.{written_variant, own_fields, written_shape, written_adt}
+use Rattle.listing_lines.proofs.ItemsSound.{adts_sound}
 use Rattle.listing_lines.specs.LineReading.{impl_read, closure_read}
 use Rattle.listing_lines.proofs.Sound.{closures_sound, impls_sound}
 use Rattle.listing_reader.specs.GraphReading.{none_seen, items_under, fewer, fewer_of, again, heads_after, AreSettled}
 use Rattle.listing_reader.specs.HeadReading.{adt_of, trait_of, one_adt_head, one_trait_head, heads_within}
 use Rattle.listing_reader.proofs.Settling.{adt_more, trait_more}
-use Rattle.listing_sections.specs.SectionReading.{ItemsSeen, on_within, one_adt, one_trait, one_impl, one_closure}
-use Rattle.listing_sections.specs.SectionsRead.{items_seen}
-use Rattle.listing_sections.proofs.Kept.{adts_keep_traits, adts_keep, traits_keep, impls_keep}
-use Rattle.listing_sections.proofs.Onward.{no_more, keeps}
-use Rattle.listing_traits.specs.TraitReading.{trait_read}
-use Rattle.listing_traits.specs.TraitsFound.{written_method}
-use Rattle.listing_traits.proofs.Sound.{traits_sound}
+use Rattle.listing_reader.specs.SectionReading.{ItemsSeen, on_within, one_adt, one_trait, one_impl, one_closure}
+use Rattle.listing_reader.specs.SectionsRead.{items_seen}
+use Rattle.listing_reader.proofs.Kept.{adts_keep_traits, adts_keep, traits_keep, impls_keep}
+use Rattle.listing_reader.proofs.Onward.{no_more, keeps}
+use Rattle.listing_lines.specs.TraitReading.{trait_read}
+use Rattle.listing_lines.specs.TraitsFound.{written_method}
+use Rattle.listing_lines.proofs.TraitsSound.{traits_sound}
 use Rattle.listing_types.specs.Table.{under, text_under}
 use Rattle.listing_types.proofs.Complete.{name_all}
 use Rattle.listing_types.proofs.Depth.{is_a_name}

@@ -7,7 +7,7 @@ use Rattle.mir_text.specs.Lists.{line}
 use Rattle.mir_text.specs.Reading.Rows.{after, many_within}
 use Rattle.mir_text.specs.Reading.Words.{Found}
 use Rattle.mir_text.proofs.Reading.Basics.{Every}
-use Rattle.listing_code.specs.CodeReading.{goes_on, until_within}
+use Rattle.listing_lines.specs.CodeReading.{goes_on, until_within}
 use Rattle.listing_answers.specs.Beginning.{texts}
 use Rattle.listing_answers.proofs.Sections.{Begin, texts-append, texts_long, every_append}
 

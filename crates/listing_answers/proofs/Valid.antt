@@ -13,14 +13,14 @@ use Rattle.mir_text.specs.Fields.{Fits}
 use Rattle.mir_text.specs.Reading.Lines.{ended}
 use Rattle.mir_text.specs.Reading.Rows.{many, comma}
 use Rattle.mir_text.specs.Reading.Words.{Found, bind, as_, strip, span}
-use Rattle.listing_code.proofs.Fitting.{Gives, binds, chooses, somes, ases, manies, commas}
-use Rattle.listing_items.specs.ItemReading.{blank_name, blank_behind, variant_from, variant_read, with_more, some_variants, closed_braces, variants_behind, variants_read, marked, struct_from, struct_read, enum_from, enum_read, adt_name_read, marks_read, adt_read}
+use Rattle.listing_lines.proofs.Fitting.{Gives, binds, chooses, somes, ases, manies, commas}
+use Rattle.listing_lines.specs.ItemReading.{blank_name, blank_behind, variant_from, variant_read, with_more, some_variants, closed_braces, variants_behind, variants_read, marked, struct_from, struct_read, enum_from, enum_read, adt_name_read, marks_read, adt_read}
 use Rattle.listing_lines.specs.LineReading as lines
 use Rattle.listing_lines.specs.LineReading.{due_number, name_read, params_from, local_head, kind_read, rank_from, closure_head, last_number, captures_from, blank_number, known_adt_read, known_trait_read, for_adt, impl_head}
 use Rattle.listing_lines.proofs.Sound.{name_sound}
 use Rattle.listing_parts.specs.Numbers.{adt_no, trait_no}
-use Rattle.listing_traits.specs.TraitReading as traits
-use Rattle.listing_traits.specs.TraitReading.{self_text, self_read, params_read, method_from, method_read, some_methods, methods_behind, methods_read, trait_from, own_head, own_head_from, trait_read, result_from}
+use Rattle.listing_lines.specs.TraitReading as traits
+use Rattle.listing_lines.specs.TraitReading.{self_text, self_read, params_read, method_from, method_read, some_methods, methods_behind, methods_read, trait_from, own_head, own_head_from, trait_read, result_from}
 use Rattle.listing_types.specs.TypeReading.{plain_number, type_read, types_read, more_types}
 use Rattle.listing_types.proofs.PlainNumbers.{plain_sound}
 use Rattle.listing_types.proofs.Splits.{split}

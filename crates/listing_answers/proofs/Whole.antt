@@ -33,8 +33,8 @@ use Rattle.listing_answers.proofs.Told.{items_front, are_names, settled_extends,
 use Rattle.listing_answers.proofs.Until.{missing}
 use Rattle.listing_parts.proofs.LineByLine.{strip_sound}
 use Rattle.listing_reader.specs.GraphReading.{items_under, IsRead}
-use Rattle.listing_sections.specs.BodiesRead.{bodies_told, AreSigned}
-use Rattle.listing_sections.specs.BodyReading.{bodies_read}
+use Rattle.listing_reader.specs.BodiesRead.{bodies_told, AreSigned}
+use Rattle.listing_reader.specs.BodyReading.{bodies_read}
 use Rattle.listing_types.specs.Table.{under, text_under}
 use Rattle.listing_types.proofs.Texts.{every_from_all}
 

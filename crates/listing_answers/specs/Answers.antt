@@ -11,7 +11,7 @@ use Rattle.mir_text.specs.Compared.{IsListed}
 use Rattle.mir_text.specs.Listing.{listing, IsShortGraph}
 use Rattle.listing_answers.specs.declared.error.ListingError.{ListingError}
 use Rattle.listing_answers.specs.Beginning.{IsListingOf, IsFirstWrong}
-use Rattle.listing_sections.specs.BodiesRead.{AreSigned}
+use Rattle.listing_reader.specs.BodiesRead.{AreSigned}
 use Rattle.listing_types.specs.Table.{AreRead}
 
 -- how many lines blocks have: each its own, its statements and its terminator

@@ -8,10 +8,10 @@ use Rattle.cfg_graph.specs.WellFormed.NameFaults.{is_name, is_adt_name}
 use Rattle.mir_text.specs.Fields.{Fits}
 use Rattle.mir_text.specs.Lines.{Line, HeadLine, StructLine, EnumLine, TraitLine, ImplLine, ClosureLine, BodyLine, LocalLine, BlockLine, MakeLine, UnsizeLine, StmtLine, VirtualLine, TermLine, EndLine, line_text, lines_of}
 use Rattle.mir_text.specs.Lists.{line}
-use Rattle.listing_code.specs.CodeStands.{IsAdtName, IsTraitName, StmtLineStands, TermLineStands}
+use Rattle.listing_lines.specs.CodeStands.{IsAdtName, IsTraitName, StmtLineStands, TermLineStands}
 use Rattle.listing_types.specs.TypesFound.{Stands, EachStands}
-use Rattle.listing_items.specs.ItemsFound.{VariantsStand}
-use Rattle.listing_traits.specs.TraitsFound.{MethodsStand}
+use Rattle.listing_lines.specs.ItemsFound.{VariantsStand}
+use Rattle.listing_lines.specs.TraitsFound.{MethodsStand}
 
 -- a line whose names can stand in a listing and are there, and whose numbers fit their fields
 abbrev pub LineStands : ItemTable → Line → Type 0

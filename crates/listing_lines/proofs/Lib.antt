@@ -1,3 +1,13 @@
 pub mod Complete
 pub mod Names
 pub mod Sound
+pub mod ItemsComplete
+pub mod FoundVariants
+pub mod ItemsSound
+pub mod TraitsComplete
+pub mod FoundMethods
+pub mod TraitsSound
+pub mod CodeComplete
+pub mod Fitting
+pub mod CodeSound
+pub mod Until

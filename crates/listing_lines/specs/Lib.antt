@@ -1,3 +1,13 @@
 pub mod LineReading
 pub mod LinesFound
 pub mod LinesRead
+pub mod ItemReading
+pub mod ItemsFound
+pub mod ItemsRead
+pub mod TraitReading
+pub mod TraitsFound
+pub mod TraitsRead
+pub mod CodeFound
+pub mod CodeRead
+pub mod CodeReading
+pub mod CodeStands

@@ -5,8 +5,8 @@ use Rattle.std.proofs.lemmas.Option.{same_Some, none-some}
 use Rattle.mir_ty.specs.ItemTable.{ItemTable, no_items, with_adt, with_trait}
 use Rattle.mir_text.specs.Reading.Words.{Found}
 use Rattle.listing_types.proofs.Splits.{split, same_found}
-use Rattle.listing_sections.specs.SectionReading.{onward, on_within}
-use Rattle.listing_sections.proofs.Onward.{keeps}
+use Rattle.listing_reader.specs.SectionReading.{onward, on_within}
+use Rattle.listing_reader.proofs.Onward.{keeps}
 use Rattle.listing_reader.specs.GraphReading.{items_under, fewer, fewer_of, again, heads_after}
 use Rattle.listing_reader.specs.HeadReading.{adt_head, trait_head, adt_of, trait_of, one_adt_head, one_trait_head, heads_within}
 

@@ -1,7 +1,7 @@
 -- What the reader of items answers, as definitions see it.
 use Rattle.std.specs.Prelude.{◌≡◌, ℕ, List, []}
 use Rattle.mir_ty.specs.ItemTable.{ItemTable}
-use Rattle.listing_sections.specs.SectionsRead.{items_seen, Drafted}
+use Rattle.listing_reader.specs.SectionsRead.{items_seen, Drafted}
 use Rattle.listing_reader.specs.GraphReading.{items_under}
 
 -- the items that stand in a text, under heads, and no bodies

@@ -2,10 +2,10 @@
 use Rattle.std.specs.Prelude.{◌≡◌, ℕ, zero, suc, Bool, ◌||◌, if◌then◌else◌, nat_lt, min, List, [], length, Option, Some, None}
 use Rattle.mir_ty.specs.ItemTable.{ItemTable}
 use Rattle.cfg_graph.specs.declared.graph.Graph.{Graph}
-use Rattle.listing_sections.specs.BodiesRead.{BodiesDrafted, bodies_told}
-use Rattle.listing_sections.specs.BodyReading.{bodies_read}
-use Rattle.listing_sections.specs.SectionReading.{ItemsSeen, items_read}
-use Rattle.listing_sections.specs.SectionsRead.{items_seen}
+use Rattle.listing_reader.specs.BodiesRead.{BodiesDrafted, bodies_told}
+use Rattle.listing_reader.specs.BodyReading.{bodies_read}
+use Rattle.listing_reader.specs.SectionReading.{ItemsSeen, items_read}
+use Rattle.listing_reader.specs.SectionsRead.{items_seen}
 use Rattle.listing_reader.specs.HeadReading.{heads_within}
 
 abbrev pub none_seen : ItemsSeen

@@ -4,8 +4,8 @@ use Rattle.mir_ty.specs.declared.adt.Adt.{Adt}
 use Rattle.mir_ty.specs.declared.def.TraitDef.{TraitDef}
 use Rattle.mir_ty.specs.ItemTable.{ItemTable, no_items, with_adt, with_trait}
 use Rattle.mir_text.specs.Reading.Words.{Found, bind, or_else, strip}
-use Rattle.listing_items.specs.ItemReading.{blank_name}
-use Rattle.listing_sections.specs.SectionReading.{on_within}
+use Rattle.listing_lines.specs.ItemReading.{blank_name}
+use Rattle.listing_reader.specs.SectionReading.{on_within}
 
 -- the text behind the first line feed
 abbrev pub behind_feed : List ℕ → List ℕ

@@ -4,9 +4,9 @@ ghost use Rattle.listing_reader.specs.GraphRead.{AreItemsOf};
 ghost use Rattle.listing_reader.specs.GraphReading as reading;
 
 use crate::heads::read_heads;
+use crate::{read_bodies, read_items};
 use cfg_graph::Graph;
 use listing_parts::{Heads, adt_count, trait_count};
-use listing_sections::{read_bodies, read_items};
 use mir_base::NoMemory;
 use mir_ty::Items;
 use std::alloc::Global;

@@ -3,12 +3,12 @@ ghost use Rattle.std.specs.Prelude.{◌≡◌, IfOk, OnOk, codes};
 ghost use Rattle.std.specs.Option.{option_copied};
 ghost use Rattle.mir_text.specs.Reading.Words as word;
 ghost use Rattle.mir_ty.specs.ItemTable.{with_adt, with_trait};
-ghost use Rattle.listing_items.specs.ItemsRead.{seen_name};
-ghost use Rattle.listing_sections.specs.SectionReading.{on_within};
+ghost use Rattle.listing_lines.specs.ItemsRead.{seen_name};
+ghost use Rattle.listing_reader.specs.SectionReading.{on_within};
 ghost use Rattle.listing_reader.specs.HeadReading as reading;
 ghost use Rattle.listing_reader.specs.HeadsRead.{FindsHeads};
 
-use listing_items::blank_name;
+use listing_lines::blank_name;
 use listing_parts::{Heads, strip};
 use mir_base::{List, Name, NoMemory};
 use mir_ty::{Adt, Items, TraitDef};

@@ -31,7 +31,7 @@ use Rattle.listing_answers.proofs.Alike.One.{signed_at, behind_first, adt_names_
 use Rattle.mir_text.proofs.Reading.Law.{the_end, at_bodies, at_closures, at_impls, at_traits, at_adts, in_rows, rows_alike}
 use Rattle.listing_answers.proofs.Alike.Readable.{Readable, names}
 use Rattle.mir_text.proofs.Reading.Same.{same_length}
-use Rattle.listing_sections.specs.BodiesRead.{IsResultOf}
+use Rattle.listing_reader.specs.BodiesRead.{IsResultOf}
 use Rattle.listing_types.proofs.Splits.{same_is}
 
 -- the place of a name has it

@@ -36,8 +36,8 @@ use Rattle.listing_answers.proofs.GraphLines.{named_within}
 use Rattle.listing_answers.proofs.Longest.{adt_lines, trait_lines, impl_lines, closure_lines, body_lines_of, lines_are}
 use Rattle.listing_answers.proofs.Sections.{every_append}
 use Rattle.listing_answers.proofs.Whole.{lines_between, are_between}
-use Rattle.listing_items.specs.ItemsFound.{VariantsStand}
-use Rattle.listing_traits.specs.TraitsFound.{MethodsStand}
+use Rattle.listing_lines.specs.ItemsFound.{VariantsStand}
+use Rattle.listing_lines.specs.TraitsFound.{MethodsStand}
 use Rattle.listing_types.proofs.Texts.{every_from_all}
 
 module _ (items : ItemTable) where

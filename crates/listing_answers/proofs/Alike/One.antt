@@ -35,7 +35,7 @@ use Rattle.listing_answers.proofs.Alike.Rows.{adts_written, traits_written, clos
 use Rattle.mir_text.proofs.Reading.Same.{Both, both_at, both_from, same_length}
 use Rattle.mir_text.proofs.Reading.Settled.{settled}
 use Rattle.listing_answers.proofs.Alike.Written.{written_exists}
-use Rattle.listing_sections.specs.BodiesRead.{AreSigned, IsSigOf, IsResultOf}
+use Rattle.listing_reader.specs.BodiesRead.{AreSigned, IsSigOf, IsResultOf}
 
 -- the signature that locals tell
 pub signed_at : (items : ItemTable) (sigs : List Sig) (bodies : List Body) → AreSigned items sigs bodies → (n : ℕ) (body : Body) → slice_get bodies n ≡ Some body → (sig : Sig) × (slice_get sigs n ≡ Some sig) × IsSigOf items body sig

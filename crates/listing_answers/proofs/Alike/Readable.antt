@@ -32,7 +32,7 @@ use Rattle.mir_text.proofs.Reading.Rows.{EveryFrom}
 use Rattle.mir_text.proofs.Reading.Types.{AreNamed, every_more, name_stands, adt_name_stands}
 use Rattle.listing_answers.proofs.Alike.Enough.{enough, there_exists}
 use Rattle.mir_text.proofs.Reading.Same.{every_at}
-use Rattle.listing_sections.specs.BodiesRead.{AreSigned}
+use Rattle.listing_reader.specs.BodiesRead.{AreSigned}
 use Rattle.listing_types.specs.Table.{AreRead}
 
 -- the structs, enums and traits that lines name are there

@@ -2,8 +2,8 @@
 use Rattle.std.proofs.Common.{rules, ◌≡◌, ◌-◌, ◌+◌, List, ℕ, Some, None, ap, sym, ◌∙◌, arith}
 use Rattle.mir_ty.specs.ItemTable.{ItemTable, with_adt}
 use Rattle.mir_text.specs.Reading.Words.{Found, bind}
-use Rattle.listing_sections.specs.SectionReading.{on_within}
-use Rattle.listing_sections.proofs.Onward.{one_more, no_more}
+use Rattle.listing_reader.specs.SectionReading.{on_within}
+use Rattle.listing_reader.proofs.Onward.{one_more, no_more}
 use Rattle.listing_reader.specs.HeadReading.{adt_head, adt_of, one_adt_head}
 use Rattle.listing_reader.proofs.heads.adt_heads.Goals as goal
 

@@ -1,5 +1,5 @@
 use Rattle.std.proofs.Common.{◌≡◌, ◌-◌}
-use Rattle.listing_sections.specs.SectionReading.{on_within}
+use Rattle.listing_reader.specs.SectionReading.{on_within}
 use Rattle.listing_reader.specs.HeadReading as reading
 use Rattle.listing_reader.proofs.heads.adt_heads.Given as goal
 

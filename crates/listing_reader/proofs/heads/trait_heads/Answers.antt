@@ -2,8 +2,8 @@
 use Rattle.std.proofs.Common.{rules, ◌≡◌, ◌-◌, ◌+◌, List, ℕ, Some, None, ap, sym, ◌∙◌, arith}
 use Rattle.mir_ty.specs.ItemTable.{ItemTable, with_trait}
 use Rattle.mir_text.specs.Reading.Words.{Found, bind}
-use Rattle.listing_sections.specs.SectionReading.{on_within}
-use Rattle.listing_sections.proofs.Onward.{one_more, no_more}
+use Rattle.listing_reader.specs.SectionReading.{on_within}
+use Rattle.listing_reader.proofs.Onward.{one_more, no_more}
 use Rattle.listing_reader.specs.HeadReading.{trait_head, trait_of, one_trait_head}
 use Rattle.listing_reader.proofs.heads.trait_heads.Goals as goal
 

@@ -1,4 +1,0 @@
-pub mod Complete
-pub mod Fitting
-pub mod Sound
-pub mod Until

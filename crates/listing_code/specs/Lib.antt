@@ -1,4 +1,0 @@
-pub mod CodeFound
-pub mod CodeRead
-pub mod CodeReading
-pub mod CodeStands

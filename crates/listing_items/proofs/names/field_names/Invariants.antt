@@ -1,6 +1,0 @@
-use Rattle.std.proofs.Common.{◌≡◌}
-use Rattle.listing_items.specs.ItemReading.{first_names}
-use Rattle.listing_items.proofs.names.field_names.Given as goal
-
-abbrev pub invariant-loop-n : goal.invariant-loop-n
-invariant-loop-n l = l.names ≡ first_names l.n

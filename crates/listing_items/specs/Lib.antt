@@ -1,3 +1,0 @@
-pub mod ItemReading
-pub mod ItemsFound
-pub mod ItemsRead

@@ -1,5 +1,0 @@
-pub mod BodyByBody
-pub mod Growing
-pub mod Kept
-pub mod Locals
-pub mod Onward

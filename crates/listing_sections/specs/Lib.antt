@@ -1,4 +1,0 @@
-pub mod BodiesRead
-pub mod BodyReading
-pub mod SectionReading
-pub mod SectionsRead

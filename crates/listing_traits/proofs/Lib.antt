@@ -1,3 +1,0 @@
-pub mod Complete
-pub mod FoundMethods
-pub mod Sound

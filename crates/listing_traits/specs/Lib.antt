@@ -1,3 +1,0 @@
-pub mod TraitReading
-pub mod TraitsFound
-pub mod TraitsRead
