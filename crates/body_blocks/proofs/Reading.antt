@@ -20,9 +20,9 @@ use Rattle.scope_code.specs.declared.code.Change as changing
 use Rattle.scope_code.specs.declared.code.Condition as asking
 use Rattle.scope_code.specs.declared.code.Op as words
 use Rattle.cfg_graph.specs.Places.{named}
-use Rattle.code_spans.specs.Spans.{OneBefore, TwoBefore, Stands, StandArms, StandsArm}
-use Rattle.code_spans.specs.declared.marks.Mark.{Mark}
-use Rattle.code_spans.proofs.Reading.{reads, IsOne, IsTwo, IsMatch, arm_within}
+use Rattle.code_passes.specs.Spans.{OneBefore, TwoBefore, Stands, StandArms, StandsArm}
+use Rattle.code_passes.specs.declared.marks.Mark.{Mark}
+use Rattle.code_passes.proofs.Reading.{reads, IsOne, IsTwo, IsMatch, arm_within}
 use Rattle.body_blocks.specs.Builds.{leaf_of, arms_then, ends_arm, ArmsStand, IsLast, TakenStands}
 
 module _ (f : Frame) (all : List Op) (marks : List Mark) (c : Code) (s e : ℕ) (stands : Stands f all marks c s e) where

@@ -17,11 +17,11 @@ use Rattle.scope_code.specs.View.{op_of}
 use Rattle.code_blocks.specs.Building.{built_of, rest_of, building_of, ways_of}
 use Rattle.code_blocks.specs.declared.blocks.Blocks.{Blocks}
 use Rattle.code_blocks.specs.declared.ways.LoopWay.{LoopWay}
-use Rattle.code_lines.specs.Framed.{frame_of}
-use Rattle.code_scopes.specs.Reaching.{AreReaches}
-use Rattle.code_scopes.specs.Scoped.{scopes_of}
-use Rattle.code_spans.specs.Spans as spans
-use Rattle.code_spans.specs.declared.marks.Mark.{Mark}
+use Rattle.code_passes.specs.Framed.{frame_of}
+use Rattle.code_passes.specs.Reaching.{AreReaches}
+use Rattle.code_passes.specs.Scoped.{scopes_of}
+use Rattle.code_passes.specs.Spans as spans
+use Rattle.code_passes.specs.declared.marks.Mark.{Mark}
 use Rattle.body_blocks.specs.declared.arms.ArmSpan.{ArmSpan}
 use Rattle.body_blocks.specs.declared.setting.Setting.{Setting}
 

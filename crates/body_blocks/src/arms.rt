@@ -3,11 +3,11 @@ ghost use Rattle.std.specs.Prelude.{◌≡◌, ◌≤◌, ◌<◌, ℕ, IfSome, 
 ghost use Rattle.cfg_build.specs.Build.{Frame};
 ghost use Rattle.scope_code.specs.Code as plain;
 ghost use Rattle.scope_code.specs.View.{op_of};
-ghost use Rattle.code_spans.specs.declared.marks.Mark as declared;
+ghost use Rattle.code_passes.specs.declared.marks.Mark as declared;
 ghost use Rattle.body_blocks.specs.Builds as builds;
 ghost use Rattle.body_blocks.specs.Builds.{ArmsStand, IsLast};
 
-use code_spans::{Spans, word_at};
+use code_passes::{Spans, word_at};
 use scope_code::Op;
 
 /// Where an arm begins, and the word with which it ends.

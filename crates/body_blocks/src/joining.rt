@@ -10,8 +10,7 @@ ghost use Rattle.body_blocks.specs.Builds.{StandsAt, OneAt, IsBuiltBehind, IsRea
 use crate::Setting;
 use cfg_graph::Kind;
 use code_blocks::{Blocks, leave};
-use code_scopes::after;
-use code_spans::{Two, has_end};
+use code_passes::{Two, after, has_end};
 use mir_base::NoMemory;
 use std::alloc::Global;
 

@@ -1,8 +1,6 @@
 use bumpalo::Bump;
 use code_blocks::Ways;
-use code_lines::Frame;
-use code_scopes::Scopes;
-use code_spans::Spans;
+use code_passes::{Frame, Scopes, Spans};
 
 /// What code is built in: the body, its words, how many scopes the code at each may change, where jumps go, the arena in
 /// which scopes are made, and the scopes before the code.

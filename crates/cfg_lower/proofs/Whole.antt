@@ -12,8 +12,8 @@ use Rattle.src_meaning.specs.Scopes.{Entry, Scopes}
 use Rattle.scope_code.specs.Forms.{entire_function}
 use Rattle.scope_code.specs.View.{op_of}
 use Rattle.scope_code.specs.declared.code.Op.{Op}
-use Rattle.code_spans.specs.Spans.{Stands}
-use Rattle.code_spans.specs.declared.marks.Mark.{Mark}
+use Rattle.code_passes.specs.Spans.{Stands}
+use Rattle.code_passes.specs.declared.marks.Mark.{Mark}
 use Rattle.typed_tree.specs.Tree.{BodyTree}
 use Rattle.body_locals.specs.View.{keys, tys}
 use Rattle.cfg_build.specs.Build as build

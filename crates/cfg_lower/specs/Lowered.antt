@@ -11,8 +11,8 @@ use Rattle.cfg_build.specs.Build.{Frame, Rest, Building, ending, closed, reserve
 use Rattle.cfg_build.specs.Lower.{unmade}
 use Rattle.code_blocks.specs.Building.{made_of}
 use Rattle.code_blocks.specs.declared.blocks.Made.{Made}
-use Rattle.code_spans.specs.Spans.{Stands}
-use Rattle.code_spans.specs.declared.spans.Spans.{Spans}
+use Rattle.code_passes.specs.Spans.{Stands}
+use Rattle.code_passes.specs.declared.spans.Spans.{Spans}
 
 -- a body of which nothing is built, and one whose block 0 is given out, and whose block 1 returns
 abbrev pub unbuilt : ℕ → Rest × Building

@@ -16,10 +16,9 @@ use body_nodes::all_nodes;
 use cfg_graph::{Body, Graph};
 use mir_base::{List, NoMemory};
 use mir_ty::Items;
-use place_words::{Names, rise};
 use std::alloc::Global;
 use typed_tree::{TBody, Typed};
-use use_sites::{Site, body_sites};
+use use_sites::{Names, Site, body_sites, rise};
 
 /// A program that is lowered: its raw graph, and the sites of its uses in the order of bodies, blocks and lines.
 #[derive(Drop)]

@@ -7,8 +7,8 @@ use Rattle.cfg_build.specs.Build.{Frame, Building, chain, chain_or, chain_among,
 use Rattle.cfg_graph.specs.declared.terminator.Term.{Term}
 use Rattle.cfg_graph.specs.declared.terminator.Unwind.{Unwind}
 use Rattle.src_meaning.specs.Scopes.{Entry, entry_site}
-use Rattle.code_scopes.specs.Scoped.{entries_of}
-use Rattle.code_scopes.proofs.Lists.{entries_last}
+use Rattle.code_passes.specs.Scoped.{entries_of}
+use Rattle.code_passes.proofs.Lists.{entries_last}
 use Rattle.scope_code.specs.declared.code.Entry as entries
 use Rattle.code_blocks.specs.Building.{chain_of, line_of, made_of}
 use Rattle.code_blocks.specs.declared.blocks.Chain.{Chain}

@@ -7,7 +7,7 @@ use Rattle.cfg_graph.specs.declared.graph.Kind.{Kind}
 use Rattle.cfg_graph.specs.declared.terminator.Term.{Term}
 use Rattle.cfg_graph.specs.declared.terminator.Unwind.{Unwind}
 use Rattle.src_meaning.specs.Scopes.{Scopes}
-use Rattle.code_lines.specs.Framed.{term_by}
+use Rattle.code_passes.specs.Framed.{term_by}
 
 pub done_is : (f : Frame) (node : ℕ) (by : Done) (S : Scopes) (k : Rest) (s : Building) (n : ℕ) (unwind : Unwind) (term : Term) (after : Building) → term_by by n unwind ≡ Some term → n ≡ next_number s → (unwind, after) ≡ unwind_to f (panic_drops f S) (closed Kind.Plain k s) → (ending term node, after) ≡ build.done f node by S k s
 done_is f node (ByStmt stmt) S k s n unwind term after is number made = absurd (none-some term is)

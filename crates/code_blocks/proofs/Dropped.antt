@@ -1,7 +1,7 @@
 -- One entry more is dropped.
 use Rattle.std.proofs.Common.{◌≡◌, ◌∙◌, ◌++◌, ◌∷◌, Bool, true, false, List, [], refl, sym, ap, append_assoc, if◌then◌else◌}
 use Rattle.cfg_build.specs.Build.{Frame, Rest, Building, drop_all, panic_drops}
-use Rattle.code_scopes.proofs.Lists.{needing_append}
+use Rattle.code_passes.proofs.Lists.{needing_append}
 use Rattle.mir_ty.specs.Facts.{needs_drop}
 use Rattle.mir_ty.specs.ItemTable.{ItemTable}
 use Rattle.src_meaning.specs.Scopes as scopes

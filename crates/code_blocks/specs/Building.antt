@@ -5,7 +5,7 @@ use Rattle.cfg_code.specs.Spots as spots
 use Rattle.cfg_code.specs.Spots.{loop_ways}
 use Rattle.src_meaning.specs.Scopes as scopes
 use Rattle.src_meaning.specs.Scopes.{entry_site}
-use Rattle.code_scopes.specs.Scoped.{entries_of}
+use Rattle.code_passes.specs.Scoped.{entries_of}
 use Rattle.code_blocks.specs.declared.blocks.Blocks.{Blocks}
 use Rattle.code_blocks.specs.declared.blocks.Chain.{Chain}
 use Rattle.code_blocks.specs.declared.blocks.Line.{Line}

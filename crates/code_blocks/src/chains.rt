@@ -1,14 +1,13 @@
 //! Chains of drops while a panic unwinds, each of which is made once.
 ghost use Rattle.std.specs.Prelude.{◌≡◌, IfOk};
 ghost use Rattle.cfg_build.specs.Build as build;
-ghost use Rattle.code_lines.specs.Framed.{frame_of};
-ghost use Rattle.code_scopes.specs.Scoped.{entries_of};
+ghost use Rattle.code_passes.specs.Framed.{frame_of};
+ghost use Rattle.code_passes.specs.Scoped.{entries_of};
 ghost use Rattle.code_blocks.specs.Building.{building_of, rest_of};
 
 use crate::blocks::{Blocks, Chain};
 use cfg_graph::{Kind, Term, Unwind};
-use code_lines::{Frame, whole_place};
-use code_scopes::copied_entries;
+use code_passes::{Frame, copied_entries, whole_place};
 use mir_base::{NoMemory, NodeId};
 use scope_code::Entry;
 use std::alloc::Global;

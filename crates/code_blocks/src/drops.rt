@@ -1,8 +1,8 @@
 //! Drops.
 ghost use Rattle.std.specs.Prelude.{◌≡◌, ◌∷◌, ◌++◌, [], IfOk, OnOk};
 ghost use Rattle.cfg_build.specs.Build as build;
-ghost use Rattle.code_lines.specs.Framed.{frame_of};
-ghost use Rattle.code_scopes.specs.Scoped.{entries_of, held, scopes_of};
+ghost use Rattle.code_passes.specs.Framed.{frame_of};
+ghost use Rattle.code_passes.specs.Scoped.{entries_of, held, scopes_of};
 ghost use Rattle.mir_ty.specs.Facts.{needs_drop};
 ghost use Rattle.scope_code.specs.View.{entry_of};
 ghost use Rattle.src_meaning.specs.Forms.{site_of_key};
@@ -12,8 +12,7 @@ ghost use Rattle.code_blocks.specs.Building.{built_of, rest_of, building_of, dro
 
 use crate::blocks::Blocks;
 use cfg_graph::{Kind, Term};
-use code_lines::{Frame, whole_place};
-use code_scopes::{Entries, Scopes, drops_none, panic_drops};
+use code_passes::{Entries, Frame, Scopes, drops_none, panic_drops, whole_place};
 use mir_base::{Key, List, NoMemory, NodeId};
 use scope_code::Entry;
 use std::alloc::Global;

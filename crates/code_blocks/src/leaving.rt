@@ -1,8 +1,8 @@
 //! Scopes are left.
 ghost use Rattle.std.specs.Prelude.{◌≡◌, ◌-◌, OnOk, length};
 ghost use Rattle.cfg_build.specs.Build as build;
-ghost use Rattle.code_lines.specs.Framed.{frame_of};
-ghost use Rattle.code_scopes.specs.Scoped.{scopes_of};
+ghost use Rattle.code_passes.specs.Framed.{frame_of};
+ghost use Rattle.code_passes.specs.Scoped.{scopes_of};
 ghost use Rattle.cfg_code.specs.Spots as spots;
 ghost use Rattle.scope_code.specs.View.{exit_of};
 ghost use Rattle.code_blocks.specs.Building.{built_of, rest_of, building_of, ways_of};
@@ -10,8 +10,7 @@ ghost use Rattle.code_blocks.specs.Building.{built_of, rest_of, building_of, way
 use crate::blocks::Blocks;
 use crate::ways::{Way, Ways, way_for};
 use cfg_graph::Term;
-use code_lines::Frame;
-use code_scopes::{Scopes, depth};
+use code_passes::{Frame, Scopes, depth};
 use mir_base::{NoMemory, NodeId};
 use scope_code::Exit;
 use std::alloc::Global;

@@ -3,7 +3,7 @@ ghost use Rattle.std.specs.Prelude.{◌≡◌, ℕ, IfOk, OnOk, map};
 ghost use Rattle.cfg_build.specs.Build as build;
 ghost use Rattle.cfg_build.specs.Codes.{asked};
 ghost use Rattle.cfg_graph.specs.Places.{named};
-ghost use Rattle.code_lines.specs.Framed.{frame_of};
+ghost use Rattle.code_passes.specs.Framed.{frame_of};
 ghost use Rattle.pattern_lower.specs.Seen.{test_of, tests_in, alternatives_from};
 ghost use Rattle.scope_code.specs.View.{condition_of};
 ghost use Rattle.src_meaning.specs.Forms.{moved, site_of_key};
@@ -12,7 +12,7 @@ ghost use Rattle.code_blocks.specs.Building.{built_of, rest_of, building_of};
 
 use crate::blocks::Blocks;
 use cfg_graph::{Kind, Operand, Place, Stmt, Term};
-use code_lines::{Frame, place, whole_place};
+use code_passes::{Frame, place, whole_place};
 use mir_base::{Cmp, Key, List, NoMemory, NodeId};
 use pattern_lower::Test;
 use scope_code::Condition;

@@ -15,7 +15,7 @@ use Rattle.cfg_graph.specs.Moves.BadUses.{may_not_read, may_not_test, may_not_st
 use Rattle.cfg_graph.proofs.Present.{gone_is_not_present}
 use Rattle.cfg_graph.proofs.AllPresent.{whole_is_all_present}
 use Rattle.cfg_graph.proofs.WholePlaces.{wholeness_is_tested, not_gone}
-use Rattle.bad_uses.specs.Reaches.{is_bad}
+use Rattle.move_errors.specs.Reaches.{is_bad}
 use Rattle.free_walks.proofs.Watching.{Seen, whole, reference, element, seen, gone-beyond}
 
 -- what a free walk asks of a use

@@ -19,9 +19,9 @@ use Rattle.cfg_graph.specs.Moves.BadUses.{BadUse}
 use Rattle.cfg_meaning.specs.Programs.{free_walk}
 use Rattle.cfg_meaning.specs.Walk.{Next, ◌>>=◌, does_block, does_turn, by_kind, if_there, blocks, from_rank, rank_at, turns}
 use Rattle.move_flow.proofs.Along.{actions_in, actions_between}
-use Rattle.bad_uses.proofs.Pathways.{actions-snoc, entry_choices, path-snoc, way-between}
-use Rattle.bad_uses.proofs.Sorted.{here}
-use Rattle.bad_uses.specs.Reaches.{first_bad}
+use Rattle.move_errors.proofs.Pathways.{actions-snoc, entry_choices, path-snoc, way-between}
+use Rattle.move_errors.proofs.Sorted.{here}
+use Rattle.move_errors.specs.Reaches.{first_bad}
 use Rattle.free_walks.specs.Meets.{PanicsLeadElsewhere, is_refused, halt_of, ends_runs, before_bad, RunsReach, in_block, on_way}
 use Rattle.free_walks.proofs.Blocks.{eff, LeavesBlock, block-performs, result-is}
 use Rattle.free_walks.proofs.Leaving.{goes, stops, result_of, by_way}

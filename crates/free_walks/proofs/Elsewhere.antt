@@ -16,7 +16,7 @@ use Rattle.cfg_graph.specs.WellFormed.Cleanup.{cleans_up, are_cleanup, are_no_cl
 use Rattle.cfg_graph.specs.WellFormed.Faults.{at_line, of_each, item_faults, own_faults, locals_faults, stmts_faults, block_faults, faults_of_body, end_faults}
 use Rattle.cfg_graph.specs.WellFormed.LineFaults.{term_numbers_exist, blocks_exist, term_tests, term_faults}
 use Rattle.cfg_graph.proofs.NoFaults.{first_empty, second_empty, map_empty, of_each-empty, broken-holds}
-use Rattle.bad_uses.proofs.Sorted.{none-in}
+use Rattle.move_errors.proofs.Sorted.{none-in}
 use Rattle.free_walks.specs.Meets.{PanicsLeadElsewhere, WellFormedPanicsLeadElsewhere}
 
 -- the terminators of cleanup blocks lead to no block by a panic

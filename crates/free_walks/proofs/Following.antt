@@ -24,9 +24,9 @@ use Rattle.cfg_meaning.specs.Walk.{Next, ◌>>=◌, does_block, does_turn, by_ki
 use Rattle.cfg_meaning.proofs.FreeWalks.{free_walk_on}
 use Rattle.init_flow.specs.Carried.{last_of}
 use Rattle.move_flow.proofs.Along.{actions_in, actions_between, came, came-is}
-use Rattle.bad_uses.proofs.Pathways.{ends, in-flat, in-map, along, entry_choices, choices_between, between-way}
-use Rattle.bad_uses.proofs.Sorted.{none-in, first-or}
-use Rattle.bad_uses.specs.Reaches.{first_bad}
+use Rattle.move_errors.proofs.Pathways.{ends, in-flat, in-map, along, entry_choices, choices_between, between-way}
+use Rattle.move_errors.proofs.Sorted.{none-in, first-or}
+use Rattle.move_errors.specs.Reaches.{first_bad}
 use Rattle.free_walks.specs.Meets.{PanicsLeadElsewhere, halt_of, ends_runs, before_bad, RunsReach, in_block, on_way}
 use Rattle.free_walks.proofs.Blocks.{eff, LeavesBlock, block-performs, result-is}
 use Rattle.free_walks.proofs.Lines.{at_line, stmt_actions}

@@ -22,8 +22,8 @@ use Rattle.cfg_graph.specs.Moves.Paths.{Way, ways}
 use Rattle.cfg_graph.specs.Moves.BadUses.{BadUse as Bad}
 use Rattle.cfg_meaning.specs.Actions.{site_of, operand_of, operands_of, mode_of}
 use Rattle.cfg_meaning.specs.Walk.{Next, stuck_in, branch, renamed, renamed_choice, unwinding, acts, term_does}
-use Rattle.bad_uses.proofs.Sorted.{here, there, none-in, first-or}
-use Rattle.bad_uses.specs.Reaches.{rule_of, is_bad}
+use Rattle.move_errors.proofs.Sorted.{here, there, none-in, first-or}
+use Rattle.move_errors.specs.Reaches.{rule_of, is_bad}
 use Rattle.free_walks.specs.Meets.{halt_by, is_refused, ends_runs}
 use Rattle.free_walks.proofs.Allowing.{allowed, is-allowed}
 use Rattle.free_walks.proofs.Lines.{Passes, at_line, stored, all-used, lasting-passes, store-is, all_effects}

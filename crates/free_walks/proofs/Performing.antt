@@ -16,7 +16,7 @@ use Rattle.cfg_graph.specs.declared.graph.Body.{Body}
 use Rattle.cfg_graph.specs.Moves.Gone.{Action, leaves_gone, counts}
 use Rattle.cfg_graph.specs.Moves.Present.{changed_by, present_by, present_from, present_at_start, present_after}
 use Rattle.cfg_graph.specs.Moves.BadUses.{BadUse}
-use Rattle.bad_uses.specs.Reaches.{rule_of, is_bad, first_bad}
+use Rattle.move_errors.specs.Reaches.{rule_of, is_bad, first_bad}
 use Rattle.free_walks.specs.Meets.{site_of, halt_by, halt_of, is_refused, ends_runs, before_bad}
 use Rattle.free_walks.proofs.Watching.{Seen, whole, reference, element, seen}
 use Rattle.free_walks.proofs.Allowing.{allowed, is-allowed}

@@ -17,7 +17,7 @@ use Rattle.cfg_graph.specs.Moves.Actions.{actions_on}
 use Rattle.cfg_graph.specs.Moves.BadUses.{UseRule, U1, U2, BadUse}
 use Rattle.cfg_graph.specs.WellFormed.Faults.{IsWellFormed}
 use Rattle.cfg_meaning.specs.Programs.{free_walk}
-use Rattle.bad_uses.specs.Reaches.{is_bad, ReachesInBlock, ReachesOnWay}
+use Rattle.move_errors.specs.Reaches.{is_bad, ReachesInBlock, ReachesOnWay}
 
 -- no panic of a block leads where its way on leads, so that a path tells which of the two it took
 abbrev pub PanicsLeadElsewhere : Body → Type 0

@@ -42,9 +42,9 @@ use Rattle.cfg_build.specs.Lower as lower
 use Rattle.cfg_build.specs.Lower.{body_of, graph_of, node_of}
 use Rattle.cfg_build.proofs.Forms.{function_lowers}
 use Rattle.cfg_build.proofs.Sizes.{set_length}
-use Rattle.lowered_lines.specs.Lines.{LocalsHaveNoFault, LinesHaveNoFault}
-use Rattle.lowered_lines.proofs.Facts as facts
-use Rattle.lowered_lines.proofs.Whole.{lowered_lines_have_no_fault}
+use Rattle.lowered_graphs.specs.Lines.{LocalsHaveNoFault, LinesHaveNoFault}
+use Rattle.lowered_graphs.proofs.Facts as facts
+use Rattle.lowered_graphs.proofs.WholeLines.{lowered_lines_have_no_fault}
 use Rattle.lowered_graphs.specs.Lowerable.{IsLowerable}
 use Rattle.lowered_graphs.proofs.Cells as nodes
 use Rattle.lowered_graphs.proofs.Cells.{each_append}

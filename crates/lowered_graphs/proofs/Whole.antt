@@ -11,7 +11,7 @@ use Rattle.typed_tree.specs.Tree.{BodyTree, ProgramTree}
 use Rattle.well_typed.specs.Program.{WellTyped}
 use Rattle.well_typed.proofs.ClaimLemmas.{so_where_holds, holds_where_so}
 use Rattle.cfg_build.specs.Lower.{body_of, graph_of}
-use Rattle.lowered_lines.specs.Lines.{LocalsHaveNoFault, LinesHaveNoFault}
+use Rattle.lowered_graphs.specs.Lines.{LocalsHaveNoFault, LinesHaveNoFault}
 use Rattle.lowered_graphs.specs.Laws.{TestTells, ItemsHaveNoFault, HeadsHaveNoFault, NoLocalHasAFault, NoLineHasAFault, MainIsThere, GraphsAreWellFormed}
 use Rattle.lowered_graphs.specs.Lowerable.{IsLowerable, lowerable}
 use Rattle.lowered_graphs.proofs.Bodies as of_bodies

@@ -6,7 +6,7 @@ use Rattle.cfg_graph.specs.WellFormed.Faults.{item_faults, own_faults, end_fault
 use Rattle.typed_tree.specs.Tree.{BodyTree, ProgramTree}
 use Rattle.well_typed.specs.Program.{WellTyped}
 use Rattle.cfg_build.specs.Lower.{body_of, graph_of}
-use Rattle.lowered_lines.specs.Lines.{LocalsHaveNoFault, LinesHaveNoFault}
+use Rattle.lowered_graphs.specs.Lines.{LocalsHaveNoFault, LinesHaveNoFault}
 use Rattle.lowered_graphs.specs.Lowerable.{are_parts_first, IsLowerable, is_lowerable}
 
 -- the test tells exactly which programs are lowerable

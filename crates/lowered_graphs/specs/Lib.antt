@@ -1,2 +1,3 @@
 pub mod Lowerable
 pub mod Laws
+pub mod Lines

@@ -1,6 +1,8 @@
-//! The law that the graphs of lowered programs are well formed.
+//! The laws that the lines of lowered bodies are well typed, and the graphs of lowered programs well formed.
 #![tactic(auto)]
 
 mod laws;
+mod line_laws;
 
 pub use laws::law_of_lowered_graphs;
+pub use line_laws::law_of_lowered_lines;

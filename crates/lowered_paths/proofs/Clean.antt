@@ -9,9 +9,9 @@ use Rattle.cfg_graph.specs.Moves.BadUses.{UseRule, U1, U2, BadUse, may_not_read,
 use Rattle.cfg_graph.specs.Moves.Gone.{Action}
 use Rattle.cfg_graph.specs.Moves.Paths.{IsPath}
 use Rattle.cfg_graph.specs.Uses.{Use, Copies, Moves, Borrows, Touches, Tests, Stores, Drops, Frees}
-use Rattle.bad_uses.specs.Reaches.{rule_of, is_bad, first_bad, MeetsNone}
+use Rattle.move_errors.specs.Reaches.{rule_of, is_bad, first_bad, MeetsNone}
 use Rattle.move_flow.proofs.Along.{actions_between}
-use Rattle.bad_uses.proofs.Pathways.{actions-snoc, entry_choices, path-snoc, way-between}
+use Rattle.move_errors.proofs.Pathways.{actions-snoc, entry_choices, path-snoc, way-between}
 use Rattle.free_walks.specs.Meets.{RunsReach, in_block, on_way}
 
 module _ (items : ItemTable) (body : Body) where

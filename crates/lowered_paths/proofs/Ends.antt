@@ -27,9 +27,9 @@ use Rattle.cfg_graph.specs.Moves.BadUses.{BadUse}
 use Rattle.cfg_graph.specs.Moves.Gone.{Action, is_param}
 use Rattle.cfg_graph.specs.Moves.Paths.{Way, ways, IsPath}
 use Rattle.move_flow.proofs.Along.{actions_in, actions_between}
-use Rattle.bad_uses.proofs.Pathways.{in-flat, in-map, map-in, along, entry_choices, choices_between, between-way, way-between, path-snoc, actions-snoc}
-use Rattle.bad_uses.proofs.Sorted.{here, none-in, first-or}
-use Rattle.bad_uses.specs.Reaches.{first_bad, Reaches, MeetsNone}
+use Rattle.move_errors.proofs.Pathways.{in-flat, in-map, map-in, along, entry_choices, choices_between, between-way, way-between, path-snoc, actions-snoc}
+use Rattle.move_errors.proofs.Sorted.{here, none-in, first-or}
+use Rattle.move_errors.specs.Reaches.{first_bad, Reaches, MeetsNone}
 use Rattle.free_walks.specs.Meets.{PanicsLeadElsewhere, before_bad, RunsReach, in_block, on_way}
 use Rattle.free_walks.proofs.Lines.{at_line, stmt_actions}
 use Rattle.free_walks.proofs.Performing.{some-rest}

@@ -9,7 +9,7 @@ use Rattle.cfg_graph.specs.declared.graph.Body.{Body}
 use Rattle.cfg_graph.specs.Moves.BadUses as bad_uses
 use Rattle.cfg_graph.specs.Moves.BadUses.{UseRule, U1, U2}
 use Rattle.cfg_meaning.specs.Programs.{free_walk}
-use Rattle.bad_uses.specs.Reaches.{MeetsNone}
+use Rattle.move_errors.specs.Reaches.{MeetsNone}
 use Rattle.free_walks.specs.Meets.{site_of, halt_by, halt_of, is_refused, RunsReach, MeetsSame}
 use Rattle.free_walks.proofs.Elsewhere.{kept-elsewhere}
 use Rattle.free_walks.proofs.Law.{free-walks-meet}

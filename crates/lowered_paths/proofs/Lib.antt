@@ -4,3 +4,6 @@ pub mod Exact
 pub mod Law
 mod Numbers
 mod Stopping
+mod Done
+pub mod UseLaw
+mod Listed

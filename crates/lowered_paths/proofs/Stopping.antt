@@ -26,7 +26,7 @@ use Rattle.cfg_graph.specs.Uses.{Use, Copies, Moves, Borrows, Touches, Tests, St
 use Rattle.cfg_graph.specs.WellFormed.Typing.{stmt_is_typed, stmt_has_types, term_is_typed, term_has_types, operand_is, are_elements, operands_are}
 use Rattle.cfg_graph.specs.Moves.BadUses.{BadUse, may_not_store}
 use Rattle.cfg_graph.specs.Moves.Gone.{Action, counts, is_at_or_above, are_first, is_param, last_left, is_gone_after, is_whole_after, leaves_gone}
-use Rattle.bad_uses.specs.Reaches.{rule_of, is_bad, first_bad}
+use Rattle.move_errors.specs.Reaches.{rule_of, is_bad, first_bad}
 use Rattle.free_walks.specs.Meets.{ends_runs, before_bad}
 use Rattle.free_walks.proofs.Lines.{at_line, stmt_actions}
 use Rattle.free_walks.proofs.Performing.{before-append, some-rest}

@@ -5,7 +5,7 @@ use Rattle.store_model.specs.Effects.{Site}
 use Rattle.cfg_graph.specs.declared.graph.Body.{Body}
 use Rattle.cfg_graph.specs.Moves.BadUses.{BadUse}
 use Rattle.cfg_graph.specs.WellFormed.Faults.{IsWellFormed}
-use Rattle.bad_uses.specs.Reaches.{Reaches, MeetsNone}
+use Rattle.move_errors.specs.Reaches.{Reaches, MeetsNone}
 use Rattle.free_walks.specs.Meets.{site_of, RunsReach}
 use Rattle.typed_tree.specs.Nodes.{numbers_of}
 use Rattle.typed_tree.specs.Tree.{BodyTree, ProgramTree}

@@ -1,7 +1,10 @@
 //! The law that ties paths of lowered bodies to the free runs of their sources: with the same choices they meet the
-//! same refused use.
+//! same refused use; and that each bad use of a lowered program has a site, a place in the text, a use and a name, by
+//! which it is told.
 #![tactic(auto)]
 
 mod laws;
+mod use_laws;
 
 pub use laws::law_of_lowered_paths;
+pub use use_laws::law_of_lowered_uses;

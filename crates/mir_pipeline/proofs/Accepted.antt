@@ -2,7 +2,7 @@
 use Rattle.std.proofs.Common.{◌≡◌, ◌∙◌, ℕ, List, Some, ap, sym, subst}
 use Rattle.std.specs.Prelude.{option_map, slice_get}
 use Rattle.std.proofs.lemmas.Option.{slice_get-map}
-use Rattle.bad_uses.specs.Reaches.{MeetsNone}
+use Rattle.move_errors.specs.Reaches.{MeetsNone}
 use Rattle.cfg_build.specs.Lower.{body_of, graph_of}
 use Rattle.cfg_build.specs.Laws.{AllNameTheirLoops}
 use Rattle.cfg_graph.specs.declared.graph.Graph.{Graph}

@@ -16,9 +16,9 @@ use Rattle.cfg_lower.specs.Claims.{EachBody, RunsAsItsSource, WalksAsItRunsFreel
 use Rattle.cfg_lower.specs.declared.programs.Lowered.{Lowered}
 use Rattle.lowered_paths.specs.Refused.{MeetsExactly}
 use Rattle.lowered_paths.proofs.Exact.{lowered-paths-meet-exactly}
-use Rattle.lowered_uses.specs.Told as told
-use Rattle.lowered_uses.specs.Told.{Line, has_site}
-use Rattle.lowered_uses.proofs.Law.{lowered_uses_have_sites}
+use Rattle.lowered_paths.specs.Told as told
+use Rattle.lowered_paths.specs.Told.{Line, has_site}
+use Rattle.lowered_paths.proofs.UseLaw.{lowered_uses_have_sites}
 use Rattle.move_errors.specs.Refusal.{named_use}
 use Rattle.move_errors.specs.declared.errors.BadUse.{BadUse}
 use Rattle.move_paths.specs.Uses.{use_of}

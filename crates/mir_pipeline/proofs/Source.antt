@@ -3,7 +3,7 @@ use Rattle.std.proofs.Common.{◌≡◌, ◌∙◌, List, Bool, true, Option, So
 use Rattle.std.specs.Prelude.{option_map, slice_get, is_some}
 use Rattle.std.proofs.lemmas.Bool.{false≢true}
 use Rattle.std.proofs.lemmas.Option.{none-some, same_Some, slice_get-map}
-use Rattle.bad_uses.specs.Reaches.{Reaches, MeetsNone, IsLeast}
+use Rattle.move_errors.specs.Reaches.{Reaches, MeetsNone, IsLeast}
 use Rattle.cfg_build.specs.Lower.{body_of}
 use Rattle.cfg_graph.specs.declared.graph.Body.{Body}
 use Rattle.cfg_graph.specs.declared.graph.Graph.{Graph}

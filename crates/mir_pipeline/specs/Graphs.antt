@@ -1,7 +1,7 @@
 -- The raw graph of a text, the uses that it refuses, and why a text has none that is accepted.
 use Rattle.std.specs.Prelude.{◌≡◌, ◌<◌, ◌==◌, ℕ, Bool, true, false, ◌&&◌, List, map, Option, Some, None, slice_get, ⊤, find, is_some, option_and_then}
-use Rattle.bad_uses.specs.Reaches.{MeetsNone, IsLeast}
-use Rattle.bad_uses.specs.Runs.{number_of}
+use Rattle.move_errors.specs.Reaches.{MeetsNone, IsLeast}
+use Rattle.move_errors.specs.Runs.{number_of}
 use Rattle.cfg_build.specs.Lower.{graph_of, node_of}
 use Rattle.cfg_graph.specs.declared.graph.Block.{Block}
 use Rattle.cfg_graph.specs.declared.graph.Body.{Body}

@@ -3,3 +3,13 @@ pub mod Turning
 pub mod Owning
 pub mod Running
 pub mod Showing
+pub mod Acting
+pub mod OnRows
+pub mod Concerned
+pub mod Leaving
+pub mod Sorted
+pub mod Using
+pub mod Pathways
+pub mod Rowing
+pub mod Meeting
+pub mod WellUsed

@@ -14,14 +14,14 @@ use Rattle.cfg_graph.specs.Edges.{is_turn}
 use Rattle.cfg_graph.specs.Moves.Gone.{Action, left_by, is_gone_after}
 use Rattle.init_flow.specs.Carried.{Row}
 use Rattle.init_flow.specs.Ways.{target}
-use Rattle.bad_uses.specs.Rows.{some_on, place_at, concerns, left, is_bad_by, after, first_by}
-use Rattle.bad_uses.specs.Runs.{Leads, problem, index_of, number_of, acts_at, point, entered, silently, arrived, leaving, left_block, is_silent, onward_from}
-use Rattle.bad_uses.specs.Searching.{bit, Own}
-use Rattle.bad_uses.specs.declared.point.Point.{Point}
-use Rattle.bad_uses.specs.declared.point.Stage.{Stage}
-use Rattle.bad_uses.specs.declared.point.Onward.{Onward}
-use Rattle.bad_uses.proofs.OnRows.{some-at}
-use Rattle.bad_uses.proofs.Leaving.{length-left}
+use Rattle.move_errors.specs.Rows.{some_on, place_at, concerns, left, is_bad_by, after, first_by}
+use Rattle.move_errors.specs.Runs.{Leads, problem, index_of, number_of, acts_at, point, entered, silently, arrived, leaving, left_block, is_silent, onward_from}
+use Rattle.move_errors.specs.Searching.{bit, Own}
+use Rattle.move_errors.specs.declared.point.Point.{Point}
+use Rattle.move_errors.specs.declared.point.Stage.{Stage}
+use Rattle.move_errors.specs.declared.point.Onward.{Onward}
+use Rattle.move_errors.proofs.OnRows.{some-at}
+use Rattle.move_errors.proofs.Leaving.{length-left}
 use Rattle.move_errors.proofs.Turning.{stage-small}
 
 some-in : (test : Place → Bool) (paths : List Place) (row : Row) → some_on test paths row ≡ true

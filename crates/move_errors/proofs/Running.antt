@@ -16,20 +16,20 @@ use Rattle.init_flow.specs.Carried.{Row, last_of}
 use Rattle.init_flow.specs.Ways.{target}
 use Rattle.move_flow.proofs.Along.{actions_in, actions_between}
 use Rattle.move_paths.specs.Forest.{PathForest}
-use Rattle.bad_uses.specs.Reaches.{first_bad, Reaches, MeetsNone}
-use Rattle.bad_uses.specs.Rows.{first_by, IsWatched}
-use Rattle.bad_uses.specs.Runs.{Problem, Trip, Run, begins, goes, Leads, step, beginning, problem, optional, number_of, point, acts_at, at_line, stmt_actions, entered, arrived, onward_from}
-use Rattle.bad_uses.specs.Searching.{number, number_from}
+use Rattle.move_errors.specs.Reaches.{first_bad, Reaches, MeetsNone}
+use Rattle.move_errors.specs.Rows.{first_by, IsWatched}
+use Rattle.move_errors.specs.Runs.{Problem, Trip, Run, begins, goes, Leads, step, beginning, problem, optional, number_of, point, acts_at, at_line, stmt_actions, entered, arrived, onward_from}
+use Rattle.move_errors.specs.Searching.{number, number_from}
 use Rattle.move_errors.specs.Stands.{MeetsNoBad}
-use Rattle.bad_uses.specs.declared.point.Point.{Point}
-use Rattle.bad_uses.specs.declared.point.Stage.{Stage}
-use Rattle.bad_uses.specs.declared.point.Onward.{Onward}
-use Rattle.bad_uses.proofs.Sorted.{there, none-in, first-or, number-append}
+use Rattle.move_errors.specs.declared.point.Point.{Point}
+use Rattle.move_errors.specs.declared.point.Stage.{Stage}
+use Rattle.move_errors.specs.declared.point.Onward.{Onward}
+use Rattle.move_errors.proofs.Sorted.{there, none-in, first-or, number-append}
 use Rattle.cfg_graph.specs.Uses.{term_uses}
-use Rattle.bad_uses.proofs.Using.{acts-used, inside-are}
-use Rattle.bad_uses.proofs.Rowing.{Both, none, some, both, meets-none}
-use Rattle.bad_uses.proofs.Pathways.{actions-snoc, ends, entry_choices, choices_between, along, leaves-by, between-way, in-flat, in-map}
-use Rattle.bad_uses.proofs.Meeting.{Comes, told, past, stored-is}
+use Rattle.move_errors.proofs.Using.{acts-used, inside-are}
+use Rattle.move_errors.proofs.Rowing.{Both, none, some, both, meets-none}
+use Rattle.move_errors.proofs.Pathways.{actions-snoc, ends, entry_choices, choices_between, along, leaves-by, between-way, in-flat, in-map}
+use Rattle.move_errors.proofs.Meeting.{Comes, told, past, stored-is}
 
 grows : (n : ℕ) (xs : List Bool) → n ≤ number_from n xs
 grows n [] = omega arith

@@ -17,18 +17,18 @@ use Rattle.init_flow.specs.Ways.{target}
 use Rattle.move_paths.specs.Forest.{PathForest}
 use Rattle.move_flow.specs.Moved.{Says}
 use Rattle.move_flow.proofs.OnPaths.{solved-says}
-use Rattle.bad_uses.specs.Rows.{IsWatched, place_at, first_by}
-use Rattle.bad_uses.specs.Runs.{Problem, Trip, Run, begins, goes, Leads, problem, point, acts_at, stored_between, number_of, onward_from}
-use Rattle.bad_uses.specs.Searching.{bit}
+use Rattle.move_errors.specs.Rows.{IsWatched, place_at, first_by}
+use Rattle.move_errors.specs.Runs.{Problem, Trip, Run, begins, goes, Leads, problem, point, acts_at, stored_between, number_of, onward_from}
+use Rattle.move_errors.specs.Searching.{bit}
 use Rattle.move_errors.specs.Shown.{ShowsNone}
 use Rattle.move_errors.specs.Stands.{MeetsNoBad}
-use Rattle.bad_uses.specs.declared.point.Point.{Point}
-use Rattle.bad_uses.specs.declared.point.Stage.{Stage}
-use Rattle.bad_uses.proofs.Meeting.{Comes, told, enter, arrive}
+use Rattle.move_errors.specs.declared.point.Point.{Point}
+use Rattle.move_errors.specs.declared.point.Stage.{Stage}
+use Rattle.move_errors.proofs.Meeting.{Comes, told, enter, arrive}
 use Rattle.move_errors.proofs.Owning.{owns}
-use Rattle.bad_uses.proofs.Pathways.{ends, goes-by}
+use Rattle.move_errors.proofs.Pathways.{ends, goes-by}
 use Rattle.move_errors.proofs.Running.{none-inside}
-use Rattle.bad_uses.proofs.Sorted.{none-in}
+use Rattle.move_errors.proofs.Sorted.{none-in}
 use Rattle.move_errors.proofs.Visiting.{run-width}
 
 bit-in : (row : Row) (i : ℕ) → bit row i ≡ true → i < length row

@@ -12,16 +12,16 @@ use Rattle.bit_rows.specs.Words.{union}
 use Rattle.init_flow.specs.Carried.{Row}
 use Rattle.init_flow.specs.WorkList.{off, is_off}
 use Rattle.init_flow.proofs.Rows.{union-bit, union-length, fewer, fewer-than}
-use Rattle.bad_uses.specs.Runs.{Problem, Trip, Leads, beginning, step, met, optional, index_of, stage_number}
-use Rattle.bad_uses.specs.Searching.{bit, Own, pushed, chosen, Settled, Visited}
+use Rattle.move_errors.specs.Runs.{Problem, Trip, Leads, beginning, step, met, optional, index_of, stage_number}
+use Rattle.move_errors.specs.Searching.{bit, Own, pushed, chosen, Settled, Visited}
 use Rattle.move_errors.specs.Stands.{Stands, Seen, Logged, IsFrom, source, trip_of, waiting_of, item_from, chosen_items, pushed_items}
-use Rattle.bad_uses.specs.declared.point.Onward.{Onward}
-use Rattle.bad_uses.specs.declared.point.Point.{Point}
-use Rattle.bad_uses.specs.declared.point.Stage.{Stage}
+use Rattle.move_errors.specs.declared.point.Onward.{Onward}
+use Rattle.move_errors.specs.declared.point.Point.{Point}
+use Rattle.move_errors.specs.declared.point.Stage.{Stage}
 use Rattle.move_errors.specs.declared.search.Visit.{Visit}
 use Rattle.move_errors.specs.declared.search.Waiting.{Waiting}
 use Rattle.move_errors.specs.declared.search.Search.{Search}
-use Rattle.bad_uses.proofs.Sorted.{here, there, none-in, first-or}
+use Rattle.move_errors.proofs.Sorted.{here, there, none-in, first-or}
 use Rattle.move_errors.proofs.Visiting.{passed-over, goes-further, begun}
 
 -- Points by their numbers.

@@ -4,10 +4,10 @@ use Rattle.std.proofs.lemmas.Bool.{false≢true, cases_lt}
 use Rattle.std.proofs.Math.ListN.{get_or-eq_default}
 use Rattle.std.proofs.lemmas.List.Elements.{Contains-append_left, Contains-append_right, Contains-append_cases}
 use Rattle.init_flow.specs.Carried.{Row}
-use Rattle.bad_uses.specs.Runs.{Problem, Trip, Run, begins, goes, Leads, beginning, step}
-use Rattle.bad_uses.specs.Searching.{number, bit, pushed, Own, Reached, Brought, Settled, Visited}
-use Rattle.bad_uses.specs.declared.point.Point.{Point}
-use Rattle.bad_uses.proofs.Sorted.{here, there, none-in, first-or, all-in, in-all, step-mono, step-more, in-pushed, stays-pushed, leads-pushed, ordered-pushed}
+use Rattle.move_errors.specs.Runs.{Problem, Trip, Run, begins, goes, Leads, beginning, step}
+use Rattle.move_errors.specs.Searching.{number, bit, pushed, Own, Reached, Brought, Settled, Visited}
+use Rattle.move_errors.specs.declared.point.Point.{Point}
+use Rattle.move_errors.proofs.Sorted.{here, there, none-in, first-or, all-in, in-all, step-mono, step-more, in-pushed, stays-pushed, leads-pushed, ordered-pushed}
 
 module _ (f : Problem) (law : Own f) where
   pub run-width : (t : Trip) → Run f t → length t.row ≡ f.width

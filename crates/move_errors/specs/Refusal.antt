@@ -5,8 +5,8 @@ use Rattle.cfg_graph.specs.declared.graph.Body.{Body}
 use Rattle.cfg_graph.specs.Places.{named}
 use Rattle.cfg_graph.specs.Moves.BadUses.{UseRule, U1, U2, BadUse}
 use Rattle.move_paths.specs.Uses.{use_of}
-use Rattle.bad_uses.specs.Reaches.{Reaches, IsLeast}
-use Rattle.bad_uses.specs.Runs.{number_of}
+use Rattle.move_errors.specs.Reaches.{Reaches, IsLeast}
+use Rattle.move_errors.specs.Runs.{number_of}
 use Rattle.move_errors.specs.declared.errors.BadUse.{BadUse as Refused}
 use Rattle.move_errors.specs.declared.errors.UseError.{UseError}
 

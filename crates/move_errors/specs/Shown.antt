@@ -6,8 +6,8 @@ use Rattle.cfg_graph.specs.declared.graph.Body.{Body}
 use Rattle.init_flow.specs.Carried.{Row, AreCarried}
 use Rattle.init_flow.specs.Ways.{target}
 use Rattle.move_flow.specs.Moved.{Says}
-use Rattle.bad_uses.specs.Runs.{Problem, point}
-use Rattle.bad_uses.specs.declared.point.Stage.{Stage}
+use Rattle.move_errors.specs.Runs.{Problem, point}
+use Rattle.move_errors.specs.declared.point.Stage.{Stage}
 
 -- no use within a block is bad by a row at its start, and no store of its result
 pub record ShowsNone (f : Problem) (block : ℕ) (row : Row) : Type 0 where

@@ -5,11 +5,11 @@ use Rattle.store_model.specs.Places.Place.{Place}
 use Rattle.cfg_graph.specs.declared.graph.Body.{Body}
 use Rattle.init_flow.specs.Carried.{Row}
 use Rattle.init_flow.specs.WorkList.{off, is_off}
-use Rattle.bad_uses.specs.Rows.{first_by}
-use Rattle.bad_uses.specs.Runs.{Problem, Trip, Run, problem, beginning, met, optional, index_of, acts_at, action_of}
-use Rattle.bad_uses.specs.Searching.{number, bit, Visited}
-use Rattle.bad_uses.specs.declared.point.Onward.{Onward}
-use Rattle.bad_uses.specs.declared.point.Point.{Point}
+use Rattle.move_errors.specs.Rows.{first_by}
+use Rattle.move_errors.specs.Runs.{Problem, Trip, Run, problem, beginning, met, optional, index_of, acts_at, action_of}
+use Rattle.move_errors.specs.Searching.{number, bit, Visited}
+use Rattle.move_errors.specs.declared.point.Onward.{Onward}
+use Rattle.move_errors.specs.declared.point.Point.{Point}
 use Rattle.move_errors.specs.declared.search.Visit.{Visit}
 use Rattle.move_errors.specs.declared.search.Waiting.{Waiting}
 use Rattle.move_errors.specs.declared.search.Search.{Search}

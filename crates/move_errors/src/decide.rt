@@ -1,10 +1,10 @@
 //! Whether the rows of a solution show a bad use.
 ghost use Rattle.std.specs.Prelude.{◌≡◌, ◌<◌, ℕ, [], false, IfOk, length, slice_index_or};
-ghost use Rattle.bad_uses.specs.Rows.{IsWatched};
-ghost use Rattle.bad_uses.specs.Runs.{problem};
+ghost use Rattle.move_errors.specs.Rows.{IsWatched};
+ghost use Rattle.move_errors.specs.Runs.{problem};
 ghost use Rattle.move_errors.specs.Shown.{ShowsNone};
 
-use bad_uses::{Acts, Point, Stage, Watch, first_bad};
+use crate::{Acts, Point, Stage, Watch, first_bad};
 use bit_rows::BitRow;
 use init_flow::Solution;
 use mir_base::NoMemory;

@@ -3,18 +3,18 @@ ghost use Rattle.std.specs.Prelude.{◌≡◌, ◌<◌, [], IfOk, IfErr, IfSome,
 ghost use Rattle.cfg_graph.specs.declared.graph.Body.{Body as GraphBody};
 ghost use Rattle.cfg_graph.specs.WellFormed.Faults.{IsWellFormed};
 ghost use Rattle.move_paths.specs.Uses.{use_of};
-ghost use Rattle.bad_uses.specs.Locals.{has_locals};
-ghost use Rattle.bad_uses.specs.Reaches.{MeetsNone, rule_of};
+ghost use Rattle.move_errors.specs.Locals.{has_locals};
+ghost use Rattle.move_errors.specs.Reaches.{MeetsNone, rule_of};
 ghost use Rattle.move_errors.specs.Refusal.{IsRefusal, refused_by};
-ghost use Rattle.bad_uses.specs.Rows.{IsWatched, state};
-ghost use Rattle.bad_uses.specs.Runs.{problem};
+ghost use Rattle.move_errors.specs.Rows.{IsWatched, state};
+ghost use Rattle.move_errors.specs.Runs.{problem};
 ghost use Rattle.move_errors.specs.Shown.{AreSolved};
 ghost use Rattle.move_errors.specs.Stands.{IsFound, MeetsNoBad};
 
+use crate::Watch;
 use crate::decide::rows_show;
 use crate::search::{Trace, least_bad};
 use crate::trail::trail;
-use bad_uses::Watch;
 use bit_rows::BitRow;
 use cfg_graph::{Graph, Place};
 use init_flow::{Solution, solve};
@@ -210,7 +210,7 @@ fn refused(alloc: Global, solved: Solved<'_>, body: u32) -> Result<Option<UseErr
 }
 
 /// The same as [`check_uses`], of a body of which only this is known: it has a block, and the locals that its uses name
-/// (`bad_uses::has_locals`).
+/// (`crate::has_locals`).
 pub fn check_body(alloc: Global, graph: &Graph, body: u32) -> Result<(), UseError>
     requires locals { (found : GraphBody) → slice_get graph.now.bodies body ≡ Some found → has_locals found ≡ true }
     requires body { body < length graph.now.bodies }

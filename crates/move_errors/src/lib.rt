@@ -1,10 +1,20 @@
-//! The bad uses of a body: whether a path of it meets one, and a shortest way to one where there is (The Rust
-//! Reference, "Moved and copied types"; rustc's error E0382).
+//! The bad uses of a body: which of the acts at a point is bad by a row of what is gone, whether a path meets one, and
+//! a shortest way to one where there is (The Rust Reference, "Moved and copied types"; rustc's error E0382).
 #![tactic(auto)]
 
+mod act;
+mod bad;
 mod decide;
 mod errors;
+mod laws;
+mod locals;
+mod point;
 mod search;
 mod trail;
 
+pub use act::{Act, Acts};
+pub use bad::{Watch, first_bad};
 pub use errors::{BadUse, UseError, check_body, check_uses};
+pub use laws::law_of_locals;
+pub use locals::has_locals;
+pub use point::{Onward, Point, Stage, goes_on};

@@ -5,11 +5,11 @@
 //! could meet is met along a lesser list.
 ghost use Rattle.std.specs.Prelude.{◌≡◌, ◌≢◌, ◌⊎◌, ◌↔◌, ◌<◌, ◌≤◌, ◌+◌, ◌*◌, ◌∷◌, ◌++◌, [], IsTrue, IsFalse, IfOk, OnOk, IfSome, None, Some, length, replicate, slice_index_or, slice_set, true, false};
 ghost use Rattle.bit_rows.specs.Words.{union};
-ghost use Rattle.bad_uses.specs.Rows.{IsWatched, state};
-ghost use Rattle.bad_uses.specs.Runs.{problem};
+ghost use Rattle.move_errors.specs.Rows.{IsWatched, state};
+ghost use Rattle.move_errors.specs.Runs.{problem};
 ghost use Rattle.move_errors.specs.Stands.{Stands, IsFound, MeetsNoBad, remaining, pushed_items, chosen_items};
 
-use bad_uses::{Act, Acts, Onward, Point, Stage, Watch, first_bad, goes_on};
+use crate::{Act, Acts, Onward, Point, Stage, Watch, first_bad, goes_on};
 use bit_rows::BitRow;
 use mir_base::{List, NoMemory};
 use std::alloc::Global;

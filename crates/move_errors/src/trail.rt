@@ -1,10 +1,10 @@
 //! The way by which a visit was reached.
 ghost use Rattle.std.specs.Prelude.{◌≡◌, ◌<◌, ◌++◌, IfOk, OnOk, Some, length, map, slice_index_or};
-ghost use Rattle.bad_uses.specs.Runs.{Problem, Trip, met, number_of, optional, beginning};
+ghost use Rattle.move_errors.specs.Runs.{Problem, Trip, met, number_of, optional, beginning};
 ghost use Rattle.move_errors.specs.Stands.{Logged, ComeEarlier};
 
 use crate::search::Visit;
-use bad_uses::{Point, Stage};
+use crate::{Point, Stage};
 use mir_base::{List, NoMemory};
 use std::alloc::Global;
 

@@ -1,2 +1,4 @@
 pub mod Numbered
 mod Told
+mod Finding
+mod Rising

@@ -15,8 +15,8 @@ use Rattle.typed_tree.specs.Tree.{Node, BodyTree}
 use Rattle.body_locals.specs.View.{entry_of}
 use Rattle.body_nodes.specs.Listed.{trees}
 use Rattle.cfg_build.specs.Sites.{UseSite, position_of, use_of, use_by_stmt, use_by_term, used_by_term}
-use Rattle.place_words.specs.Words.{place_words}
-use Rattle.place_words.specs.declared.names.Names.{Names}
+use Rattle.use_sites.specs.Words.{place_words}
+use Rattle.use_sites.specs.declared.names.Names.{Names}
 
 -- the place that is used: that of a store where the node stores, and else the first
 abbrev pub used_place : Option Use → List Place → List Place → Option Place

@@ -3,16 +3,15 @@ ghost use Rattle.std.specs.Prelude.{◌≡◌, ◌++◌, [], OnOk, Some, map, sl
 ghost use Rattle.std.specs.Option.{unwrap_or};
 ghost use Rattle.cfg_build.specs.Lower as low;
 ghost use Rattle.typed_tree.specs.Tree.{BodyTree};
-ghost use Rattle.place_words.specs.Told.{AreTold};
+ghost use Rattle.use_sites.specs.Told.{AreTold};
 ghost use Rattle.use_sites.specs.Lines.{AreOf};
 ghost use Rattle.use_sites.specs.Listed as listed;
 ghost use Rattle.use_sites.specs.Listed.{ids_of, nodes_of_body};
 
-use crate::Site;
 use crate::lines::{LineAt, add_stmt, add_term};
+use crate::{Names, Site};
 use cfg_graph::Block;
 use mir_base::{List, NoMemory, NodeId};
-use place_words::Names;
 use std::alloc::Global;
 
 /// The number of the node of a line, and 0 where there is none.

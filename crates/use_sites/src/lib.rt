@@ -4,8 +4,12 @@
 
 mod blocks;
 mod lines;
+mod names;
 mod places;
 mod site;
+mod steps;
+mod types;
 
 pub use blocks::body_sites;
+pub use names::{Names, node_with, place_name, rise};
 pub use site::Site;

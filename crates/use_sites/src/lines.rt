@@ -5,15 +5,14 @@ ghost use Rattle.body_locals.specs.View.{entry_of};
 ghost use Rattle.body_nodes.specs.Listed.{trees};
 ghost use Rattle.cfg_build.specs.Sites as plain;
 ghost use Rattle.cfg_graph.specs.declared.terminator.Term as term;
-ghost use Rattle.place_words.specs.Told.{AreTold};
+ghost use Rattle.use_sites.specs.Told.{AreTold};
 ghost use Rattle.use_sites.specs.Lines as lines;
 ghost use Rattle.use_sites.specs.Listed.{placed};
 
-use crate::Site;
 use crate::places::{stmt_places, term_places, used_place};
+use crate::{Names, Site, node_with, place_name};
 use cfg_graph::{Place, Stmt, Term};
 use mir_base::{List, Name, NoMemory};
-use place_words::{Names, node_with, place_name};
 use std::alloc::Global;
 use typed_tree::{Node, Use};
 

@@ -1,6 +1,6 @@
 use Rattle.std.proofs.Common.{rules, ◌≡◌, ◌∙◌, ◌≤◌, suc, true, false, List, Option, Some, None, map, slice_get, sym, subst, arith}
 use Rattle.std.proofs.lemmas.Option.{none-some}
-use Rattle.code_spans.proofs.Reading.{arms_within}
+use Rattle.code_passes.proofs.Reading.{arms_within}
 use Rattle.scope_code.specs.View.{op_of}
 use Rattle.scope_code.specs.declared.code.Op as words
 use Rattle.body_blocks.specs.Builds.{IsLast, ends_arm}

@@ -9,10 +9,10 @@ use Rattle.cfg_graph.specs.declared.graph.Kind.{Kind}
 use Rattle.cfg_graph.specs.declared.terminator.Term.{Term}
 use Rattle.code_blocks.specs.Building.{built_of, rest_of, building_of, ways_of}
 use Rattle.code_blocks.specs.declared.ways.LoopWay.{LoopWay}
-use Rattle.code_scopes.specs.Scoped.{scopes_of}
-use Rattle.code_scopes.proofs.Behind.{before_is, found_first, found_second}
-use Rattle.code_spans.specs.Spans.{Stands}
-use Rattle.code_spans.specs.declared.marks.Mark.{Mark}
+use Rattle.code_passes.specs.Scoped.{scopes_of}
+use Rattle.code_passes.proofs.Behind.{before_is, found_first, found_second}
+use Rattle.code_passes.specs.Spans.{Stands}
+use Rattle.code_passes.specs.declared.marks.Mark.{Mark}
 use Rattle.pattern_lower.specs.Seen.{tests_in}
 use Rattle.scope_code.specs.Code as plain
 use Rattle.scope_code.specs.Ops.{Op}

@@ -4,10 +4,10 @@ use Rattle.cfg_build.specs.Build as build
 use Rattle.cfg_build.specs.Build.{Frame, Lowers}
 use Rattle.cfg_build.specs.Codes.{lowers}
 use Rattle.code_blocks.specs.Building.{rest_of, building_of, ways_of}
-use Rattle.code_scopes.specs.Scoped.{scopes_of}
-use Rattle.code_scopes.proofs.Behind.{before_is}
-use Rattle.code_spans.specs.Spans.{Stands}
-use Rattle.code_spans.specs.declared.marks.Mark.{Mark}
+use Rattle.code_passes.specs.Scoped.{scopes_of}
+use Rattle.code_passes.proofs.Behind.{before_is}
+use Rattle.code_passes.specs.Spans.{Stands}
+use Rattle.code_passes.specs.declared.marks.Mark.{Mark}
 use Rattle.scope_code.specs.Ops.{Op}
 use Rattle.scope_code.specs.View.{op_of}
 use Rattle.src_meaning.specs.Scopes.{Scopes}

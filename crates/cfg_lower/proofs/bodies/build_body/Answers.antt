@@ -1,7 +1,7 @@
 use Rattle.std.proofs.Common.{rules, ◌≡◌, List, Option, ℕ, map, subst}
 use Rattle.std.proofs.lemmas.Result.{on_ok_weaker}
-use Rattle.code_lines.specs.Framed.{frame_of}
-use Rattle.code_scopes.specs.Reaching.{AreReaches}
+use Rattle.code_passes.specs.Framed.{frame_of}
+use Rattle.code_passes.specs.Reaching.{AreReaches}
 use Rattle.scope_code.specs.Forms.{entire_function}
 use Rattle.scope_code.specs.View.{op_of}
 use Rattle.typed_tree.specs.View.{body_of}

@@ -2,9 +2,9 @@ use Rattle.std.proofs.Common.{rules, ◌≡◌, ◌∙◌, ◌-◌, ℕ, length,
 use Rattle.std.proofs.lemmas.Result.{on_ok_weaker}
 use Rattle.cfg_build.specs.Build.{Frame, Rest, Building}
 use Rattle.code_blocks.specs.Building.{built_of}
-use Rattle.code_lines.specs.Framed.{frame_of}
-use Rattle.code_scopes.specs.Scoped.{scopes_of}
-use Rattle.code_spans.specs.Spans.{Stands}
+use Rattle.code_passes.specs.Framed.{frame_of}
+use Rattle.code_passes.specs.Scoped.{scopes_of}
+use Rattle.code_passes.specs.Spans.{Stands}
 use Rattle.scope_code.specs.Forms.{entire_function}
 use Rattle.scope_code.specs.View.{op_of}
 use Rattle.src_meaning.specs.Locals.OfBody.{answer_key}

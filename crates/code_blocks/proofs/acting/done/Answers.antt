@@ -3,9 +3,9 @@ use Rattle.std.proofs.lemmas.Result.{on_ok_weaker}
 use Rattle.cfg_build.specs.Build as build
 use Rattle.cfg_build.specs.Build.{Frame, Done, Building}
 use Rattle.cfg_graph.specs.declared.graph.Kind.{Kind}
-use Rattle.code_lines.specs.Framed.{frame_of, term_by}
-use Rattle.code_lines.proofs.Nodeless.{stmt_same, effect_same}
-use Rattle.code_scopes.specs.Scoped.{entries_of, scopes_of}
+use Rattle.code_passes.specs.Framed.{frame_of, term_by}
+use Rattle.code_passes.proofs.Nodeless.{stmt_same, effect_same}
+use Rattle.code_passes.specs.Scoped.{entries_of, scopes_of}
 use Rattle.scope_code.specs.View.{effect_of}
 use Rattle.scope_code.specs.declared.code.Action.{Action}
 use Rattle.code_blocks.specs.Building.{rest_of, building_of}

@@ -3,8 +3,8 @@ use Rattle.std.proofs.lemmas.Result.{on_ok_weaker}
 use Rattle.cfg_build.specs.Build as build
 use Rattle.cfg_build.specs.Build.{Frame}
 use Rattle.cfg_graph.specs.declared.terminator.Term.{Term}
-use Rattle.code_lines.specs.Framed.{frame_of}
-use Rattle.code_scopes.specs.Scoped.{scopes_of, scope_of}
+use Rattle.code_passes.specs.Framed.{frame_of}
+use Rattle.code_passes.specs.Scoped.{scopes_of, scope_of}
 use Rattle.src_meaning.specs.Scopes.{Scopes}
 use Rattle.code_blocks.specs.Building.{built_of, building_of}
 use Rattle.code_blocks.proofs.Left.{left_more, left_none, one_fewer}

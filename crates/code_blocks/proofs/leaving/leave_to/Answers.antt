@@ -1,6 +1,6 @@
 use Rattle.std.proofs.Common.{rules, ◌≡◌, ◌∙◌, ◌-◌, ℕ, length, sym, ap}
 use Rattle.std.proofs.lemmas.Result.{on_ok_weaker}
-use Rattle.code_scopes.specs.Scoped.{scopes_of}
+use Rattle.code_passes.specs.Scoped.{scopes_of}
 use Rattle.code_blocks.proofs.leaving.leave_to.Goals as goal
 
 pub returns : goal.returns

@@ -2,7 +2,7 @@ use Rattle.std.proofs.Common.{rules, ◌≡◌, ◌∙◌, ◌<◌, map, refl, s
 use Rattle.std.proofs.lemmas.Result.{on_ok_weaker}
 use Rattle.cfg_build.specs.Build as build
 use Rattle.cfg_graph.specs.Places.{named}
-use Rattle.code_lines.specs.Framed.{frame_of}
+use Rattle.code_passes.specs.Framed.{frame_of}
 use Rattle.pattern_lower.specs.Seen.{test_of, tests_in, alternatives_from}
 use Rattle.pattern_lower.specs.declared.found.Test.{the_lemmas}
 use Rattle.src_meaning.specs.Shape.{PatternTest, IsNumber, IsTruth, AnyOf}

@@ -1,5 +1,5 @@
 use Rattle.std.proofs.Common.{◌≡◌, Bool, false, length, Result, Ok, Err, IfOk, ap, ◌∙◌}
-use Rattle.bad_uses.specs.Runs.{problem}
+use Rattle.move_errors.specs.Runs.{problem}
 use Rattle.move_errors.proofs.Owning.{owns}
 use Rattle.move_errors.proofs.decide.block_shows.Goals as goal
 

@@ -3,7 +3,7 @@ use Rattle.std.specs.Prelude.{slice_index_or}
 use Rattle.std.specs.Option.{option_copied}
 use Rattle.std.proofs.lemmas.Option.{get_or_from_slice_get}
 use Rattle.init_flow.specs.Carried.{Row}
-use Rattle.bad_uses.specs.Runs.{problem}
+use Rattle.move_errors.specs.Runs.{problem}
 use Rattle.move_errors.specs.Shown.{ShowsNone}
 use Rattle.move_errors.proofs.decide.row_shows.Goals as goal
 

@@ -1,7 +1,7 @@
 use Rattle.std.proofs.Common.{ℕ, inl, inr, [], sym, subst, arith}
 use Rattle.std.specs.Prelude.{slice_index_or}
 use Rattle.std.proofs.lemmas.Bool.{cases_eq}
-use Rattle.bad_uses.specs.Runs.{problem}
+use Rattle.move_errors.specs.Runs.{problem}
 use Rattle.move_errors.specs.Shown.{ShowsNone}
 use Rattle.move_errors.proofs.decide.rows_show.Goals as goal
 

@@ -1,5 +1,5 @@
 use Rattle.std.proofs.Common.{◌≡◌, ℕ, [], ◌<◌, length, slice_index_or}
-use Rattle.bad_uses.specs.Runs.{problem}
+use Rattle.move_errors.specs.Runs.{problem}
 use Rattle.move_errors.specs.Shown.{ShowsNone}
 use Rattle.move_errors.proofs.decide.rows_show.Given as goal
 

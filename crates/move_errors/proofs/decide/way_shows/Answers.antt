@@ -1,7 +1,7 @@
 use Rattle.std.proofs.Common.{sym, ap, subst, ◌∙◌}
 use Rattle.move_flow.specs.Concerns.{AreOfBody}
-use Rattle.bad_uses.specs.Runs.{actions_of}
-use Rattle.bad_uses.proofs.Using.{acts-used, used-anywhere}
+use Rattle.move_errors.specs.Runs.{actions_of}
+use Rattle.move_errors.proofs.Using.{acts-used, used-anywhere}
 use Rattle.move_errors.proofs.decide.way_shows.Goals as goal
 
 pub first_bad-requires-clause-used : goal.first_bad-requires-clause-used

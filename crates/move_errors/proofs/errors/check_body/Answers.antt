@@ -2,7 +2,7 @@ use Rattle.std.proofs.Common.{◌≡◌, sym, subst, ◌∙◌}
 use Rattle.std.proofs.lemmas.Option.{same_Some}
 use Rattle.mir_ty.specs.ItemTable.{ItemTable}
 use Rattle.cfg_graph.specs.declared.graph.Body.{Body}
-use Rattle.bad_uses.specs.Reaches.{MeetsNone}
+use Rattle.move_errors.specs.Reaches.{MeetsNone}
 use Rattle.move_errors.proofs.Running.{accepts}
 use Rattle.move_errors.proofs.errors.check_body.Goals as goal
 

@@ -1,4 +1,4 @@
-use Rattle.bad_uses.proofs.WellUsed.{has-its-locals}
+use Rattle.move_errors.proofs.WellUsed.{has-its-locals}
 use Rattle.move_errors.proofs.errors.check_uses.Goals as goal
 
 pub check_body-requires-clause-locals : goal.check_body-requires-clause-locals

@@ -6,17 +6,17 @@ use Rattle.cfg_graph.specs.declared.graph.Body.{Body}
 use Rattle.cfg_graph.specs.Places.{named}
 use Rattle.cfg_graph.specs.Moves.BadUses.{UseRule, U1, U2}
 use Rattle.move_paths.specs.Uses.{use_of}
-use Rattle.bad_uses.specs.Reaches.{Reaches, rule_of}
+use Rattle.move_errors.specs.Reaches.{Reaches, rule_of}
 use Rattle.move_errors.specs.Refusal.{IsRefused, IsRefusal, refused_by, named_use}
-use Rattle.bad_uses.specs.Runs.{Problem, Trip, problem, number_of, beginning, action_of}
+use Rattle.move_errors.specs.Runs.{Problem, Trip, problem, number_of, beginning, action_of}
 use Rattle.move_errors.specs.Stands.{IsFrom, Logged}
 use Rattle.move_errors.specs.declared.errors.BadUse.{BadUse as Refused}
 use Rattle.move_errors.specs.declared.errors.UseError.{UseError}
-use Rattle.bad_uses.specs.declared.point.Stage.{Stage}
+use Rattle.move_errors.specs.declared.point.Stage.{Stage}
 use Rattle.move_errors.specs.declared.search.Visit.{Visit}
-use Rattle.bad_uses.proofs.Meeting.{reaches}
+use Rattle.move_errors.proofs.Meeting.{reaches}
 use Rattle.move_errors.proofs.Running.{reached-soon}
-use Rattle.bad_uses.proofs.Sorted.{least-by-number}
+use Rattle.move_errors.proofs.Sorted.{least-by-number}
 use Rattle.move_errors.proofs.errors.refusal.Goals as goal
 
 lower : (f : Problem) (o : Option ℕ) (n m : ℕ) → IsFrom f o n → o ≡ Some m → m < n

@@ -4,8 +4,8 @@ use Rattle.std.proofs.lemmas.Option.{slice_get-get_or}
 use Rattle.cfg_graph.specs.declared.graph.Body.{Body}
 use Rattle.cfg_graph.specs.Moves.Actions.{actions_on}
 use Rattle.move_flow.specs.Switches.{passed_by}
-use Rattle.bad_uses.specs.Rows.{state}
-use Rattle.bad_uses.proofs.WellUsed.{block-there, locals-below}
+use Rattle.move_errors.specs.Rows.{state}
+use Rattle.move_errors.proofs.WellUsed.{block-there, locals-below}
 use Rattle.move_errors.proofs.errors.solution.Goals as goal
 
 pub returns-clause-watched : goal.returns-clause-watched

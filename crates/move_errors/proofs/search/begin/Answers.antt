@@ -1,8 +1,8 @@
 use Rattle.std.proofs.Common.{List, [], ◌∷◌, None, ap, ◌∙◌, refl, arith}
 use Rattle.init_flow.specs.Carried.{Row}
 use Rattle.move_paths.proofs.Naming.{on_ok}
-use Rattle.bad_uses.specs.Runs.{Problem, problem}
-use Rattle.bad_uses.specs.declared.point.Stage.{Stage}
+use Rattle.move_errors.specs.Runs.{Problem, problem}
+use Rattle.move_errors.specs.declared.point.Stage.{Stage}
 use Rattle.move_errors.specs.declared.search.Waiting.{Waiting}
 use Rattle.move_errors.proofs.Owning.{owns}
 use Rattle.move_errors.proofs.Turning.{starts}

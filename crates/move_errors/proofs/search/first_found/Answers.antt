@@ -3,7 +3,7 @@ use Rattle.std.proofs.Common.{Bool}
 use Rattle.std.specs.Option.{option_to_list}
 use Rattle.init_flow.specs.Carried.{Row}
 use Rattle.move_errors.specs.declared.search.Visit.{Visit}
-use Rattle.bad_uses.specs.Runs.{Problem, problem}
+use Rattle.move_errors.specs.Runs.{Problem, problem}
 use Rattle.move_errors.specs.Stands.{Stands, Logged, Seen}
 use Rattle.move_errors.specs.declared.search.Search.{Search}
 use Rattle.move_errors.specs.declared.search.Waiting.{Waiting}

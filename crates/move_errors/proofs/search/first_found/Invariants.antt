@@ -1,4 +1,4 @@
-use Rattle.bad_uses.specs.Runs.{problem}
+use Rattle.move_errors.specs.Runs.{problem}
 use Rattle.move_errors.specs.Stands.{Stands, remaining}
 use Rattle.move_errors.proofs.search.first_found.Given as goal
 

@@ -7,19 +7,19 @@ use Rattle.cfg_graph.specs.Moves.Gone.{Action}
 use Rattle.init_flow.specs.Carried.{Row}
 use Rattle.init_flow.specs.WorkList.{off, is_off}
 use Rattle.move_flow.specs.Concerns.{AreOfBody}
-use Rattle.bad_uses.specs.Rows.{after, first_by}
-use Rattle.bad_uses.specs.Runs.{Problem, Trip, problem, index_of, acts_at, action_of, actions_of}
-use Rattle.bad_uses.specs.Searching.{Own}
+use Rattle.move_errors.specs.Rows.{after, first_by}
+use Rattle.move_errors.specs.Runs.{Problem, Trip, problem, index_of, acts_at, action_of, actions_of}
+use Rattle.move_errors.specs.Searching.{Own}
 use Rattle.move_errors.specs.Stands.{trip_of, waiting_of, Logged, remaining, pushed_items}
-use Rattle.bad_uses.specs.declared.act.Act.{Act}
-use Rattle.bad_uses.specs.declared.point.Point.{Point}
+use Rattle.move_errors.specs.declared.act.Act.{Act}
+use Rattle.move_errors.specs.declared.point.Point.{Point}
 use Rattle.move_errors.specs.declared.search.Search.{Search}
 use Rattle.move_errors.specs.declared.search.Visit.{Visit}
 use Rattle.move_errors.specs.declared.search.Waiting.{Waiting}
 use Rattle.move_errors.proofs.Owning.{owns, leads-inside}
-use Rattle.bad_uses.proofs.Sorted.{here}
+use Rattle.move_errors.proofs.Sorted.{here}
 use Rattle.move_errors.proofs.Turning.{brings-nothing, goes-on, less-left, two-more, logged-more}
-use Rattle.bad_uses.proofs.Using.{acts-used, used-anywhere}
+use Rattle.move_errors.proofs.Using.{acts-used, used-anywhere}
 use Rattle.move_errors.proofs.Visiting.{first-least}
 use Rattle.move_errors.proofs.search.turn.Goals as goal
 

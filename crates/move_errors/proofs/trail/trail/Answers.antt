@@ -1,9 +1,9 @@
 use Rattle.std.proofs.Common.{◌≡◌, ℕ, List, ◌++◌, Bool, map, reverse, slice_get, slice_index_or, Option, Some, None, refl, sym, ap, ◌∙◌, arith}
 use Rattle.std.proofs.lemmas.Option.{slice_get-get_or}
 use Rattle.std.proofs.lemmas.List.{append_assoc, reverse-append, map-append}
-use Rattle.bad_uses.specs.declared.point.Stage.{Stage}
+use Rattle.move_errors.specs.declared.point.Stage.{Stage}
 use Rattle.move_errors.specs.declared.search.Visit.{Visit}
-use Rattle.bad_uses.specs.Runs.{Trip, met, met_at, number_of, optional, beginning}
+use Rattle.move_errors.specs.Runs.{Trip, met, met_at, number_of, optional, beginning}
 use Rattle.move_errors.specs.Stands.{source}
 use Rattle.move_errors.proofs.trail.trail.Goals as goal
 

@@ -1,5 +1,5 @@
 use Rattle.std.proofs.Common.{◌≡◌, ◌++◌, ℕ, suc, ◌<◌, List, map, length, Option, Some, None, reverse}
-use Rattle.bad_uses.specs.Runs.{Problem, Trip, number_of}
+use Rattle.move_errors.specs.Runs.{Problem, Trip, number_of}
 use Rattle.move_errors.specs.Stands.{Logged, source}
 use Rattle.move_errors.proofs.trail.trail.Given as goal
 

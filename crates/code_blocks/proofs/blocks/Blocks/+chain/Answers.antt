@@ -1,7 +1,7 @@
 use Rattle.std.proofs.Common.{rules, ◌≡◌, Some}
 use Rattle.cfg_build.specs.Build as build
-use Rattle.code_lines.specs.Framed.{frame_of}
-use Rattle.code_scopes.specs.Scoped.{entries_of}
+use Rattle.code_passes.specs.Framed.{frame_of}
+use Rattle.code_passes.specs.Scoped.{entries_of}
 use Rattle.code_blocks.specs.Building.{building_of}
 use Rattle.code_blocks.proofs.Chained.{is_found}
 use Rattle.code_blocks.proofs.blocks.Blocks.+chain.Goals as goal

@@ -2,8 +2,8 @@ use Rattle.std.proofs.Common.{◌≡◌, ◌∙◌, ◌∷◌, ◌++◌, List, s
 use Rattle.std.proofs.lemmas.Result.{on_ok_weaker}
 use Rattle.cfg_build.specs.Build as build
 use Rattle.cfg_build.specs.Build.{Frame}
-use Rattle.code_lines.specs.Framed.{frame_of}
-use Rattle.code_scopes.specs.Scoped.{entries_of, held}
+use Rattle.code_passes.specs.Framed.{frame_of}
+use Rattle.code_passes.specs.Scoped.{entries_of, held}
 use Rattle.scope_code.specs.View.{entry_of}
 use Rattle.src_meaning.specs.Scopes.{Entry, needing_drop}
 use Rattle.code_blocks.specs.Building.{built_of, rest_of, building_of}

@@ -1,6 +1,6 @@
 use Rattle.std.proofs.Common.{◌≡◌, ◌≤◌, map, reverse, length, take}
 use Rattle.cfg_build.specs.Build.{chain_among}
-use Rattle.code_scopes.specs.Scoped.{entries_of}
+use Rattle.code_passes.specs.Scoped.{entries_of}
 use Rattle.code_blocks.specs.Building.{chain_of}
 use Rattle.code_blocks.proofs.blocks.Blocks.chain_among.Given as goal
 

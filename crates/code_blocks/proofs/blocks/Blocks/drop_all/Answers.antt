@@ -1,8 +1,8 @@
 use Rattle.std.proofs.Common.{◌∙◌, List, refl, sym, ap}
 use Rattle.cfg_build.specs.Build.{Frame, drop_all}
 use Rattle.code_blocks.specs.Building.{rest_of, building_of}
-use Rattle.code_lines.specs.Framed.{frame_of}
-use Rattle.code_scopes.specs.Scoped.{held, scopes_of}
+use Rattle.code_passes.specs.Framed.{frame_of}
+use Rattle.code_passes.specs.Scoped.{held, scopes_of}
 use Rattle.src_meaning.specs.Scopes.{Entry, Scopes, needing_drop}
 use Rattle.code_blocks.proofs.blocks.Blocks.drop_all.Goals as goal
 

@@ -1,5 +1,0 @@
-pub mod Locals
-pub mod Reaches
-pub mod Rows
-pub mod Runs
-pub mod Searching

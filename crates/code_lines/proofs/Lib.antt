@@ -1,2 +1,0 @@
-pub mod Nodeless
-mod Stored

@@ -1,0 +1,32 @@
+//! What is read off the code of a body: its places, operands and effects as lines of a graph, where the rustc
+//! development guide's "MIR construction" speaks of places, operands and rvalues (keys become the numbers of locals);
+//! the span of each of its parts in the list of its words; and the scopes around it, behind it, and in a panic.
+#![tactic(auto)]
+
+mod afterwards;
+mod changing;
+mod dropping;
+mod effects;
+mod entries;
+mod frames;
+mod marking;
+mod marks;
+mod places;
+mod reaching;
+mod scope;
+mod spans;
+mod storing;
+
+pub use afterwards::after;
+pub use changing::{change, enter, leave, take};
+pub use dropping::{drops_none, panic_drops};
+pub use effects::{statement, terminator};
+pub use entries::copied_entries;
+pub use frames::{Frame, local};
+pub use marking::marks_of;
+pub use marks::Mark;
+pub use places::{operand, place, whole_place};
+pub use reaching::reaches_of;
+pub use scope::{Entries, Scope, Scopes, depth};
+pub use spans::{Spans, Two, has_end, two_before, word_at};
+pub use storing::is_last;

@@ -1,4 +1,0 @@
-pub mod Behind
-pub mod Keyed
-pub mod Lists
-pub mod Reached

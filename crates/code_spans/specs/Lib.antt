@@ -1,2 +1,0 @@
-pub mod MarkRules
-pub mod Spans

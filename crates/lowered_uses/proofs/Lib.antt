@@ -1,3 +1,0 @@
-mod Done
-pub mod Law
-mod Listed
