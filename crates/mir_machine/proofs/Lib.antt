@@ -8,3 +8,4 @@ pub mod TasksLeft
 pub mod TermsLeft
 pub mod RunsTold
 pub mod OnlyAdds
+pub mod FlowsOnward

@@ -18,13 +18,13 @@ use Rattle.cfg_meaning.specs.Laws.{bodies_of}
 use Rattle.mir_machine.specs.Left.{left}
 use Rattle.store_model.proofs.Concrete.Effects.{ticks_of}
 use Rattle.mir_edge.specs.Told.{WhereTold}
-use Rattle.trace_flow.proofs.FlowsOnward.{all_sent, flows_first, part_of}
+use Rattle.mir_machine.proofs.FlowsOnward.{all_sent, flows_first, part_of}
 use Rattle.mir_machine.proofs.OnlyAdds.{told_first}
-use Rattle.trace_flow.specs.declared.flowing.Flow.{Flow}
-use Rattle.trace_flow.specs.declared.error.RunError.{RunError}
-use Rattle.trace_flow.specs.Flows.{Flows, FlowsOn, StopsIn}
+use Rattle.mir_machine.specs.declared.flowing.Flow.{Flow}
+use Rattle.mir_machine.specs.declared.error.RunError.{RunError}
+use Rattle.mir_machine.specs.Flows.{Flows, FlowsOn, StopsIn}
 use Rattle.mir_machine.specs.Runs.{ForRun, IsHandedOn, ended_by, events_of, lines_in, run_by, run_text}
-use Rattle.trace_flow.specs.Errors.{TookPart}
+use Rattle.mir_machine.specs.Errors.{TookPart}
 use Rattle.mir_base.specs.Lines.{end_line}
 use Rattle.mir_ty.specs.Named.{line_of}
 use Rattle.mir_machine.specs.Tasks.{AreRanked, AtEntry, DoingLeft, Keeps, Next, RunsGraph}

@@ -3,3 +3,5 @@ pub mod Left
 pub mod Runs
 pub mod Tasks
 pub mod Ways
+pub mod Errors
+pub mod Flows

@@ -7,14 +7,15 @@ ghost use Rattle.mir_base.specs.Lines.{end_line};
 ghost use Rattle.mir_edge.specs.Faults.{HasRisen};
 ghost use Rattle.mir_edge.specs.Told.{WhereTold};
 ghost use Rattle.cfg_meaning.specs.Programs.{graph_run, raw_graph_run};
-ghost use Rattle.trace_flow.specs.Flows.{FlowsOn, StopsIn};
+ghost use Rattle.mir_machine.specs.Flows.{FlowsOn, StopsIn};
 ghost use Rattle.mir_machine.specs.Runs.{ForRun, IsHandedOn, ended_by, events_of, lines_in, run_by, run_text};
-ghost use Rattle.trace_flow.specs.Errors.{IsWriteFault, TookPart};
+ghost use Rattle.mir_machine.specs.Errors.{IsWriteFault, TookPart};
 ghost use Rattle.store_model.specs.Concrete.Bodies.{main_of};
 
 use crate::entering::enter;
 use crate::tasks::Doing;
 use crate::turns::turn;
+use crate::{Flow, RunError};
 use cfg_graph::Graph;
 use mir_base::{End, Event, List, Name, NoMemory};
 use mir_edge::Sink;
@@ -22,7 +23,6 @@ use mir_steps::World;
 use mir_store::Store;
 use mir_ty::Items;
 use std::alloc::Global;
-use trace_flow::{Flow, RunError};
 
 fn is_main(name: &Name) -> bool
     ensures { result ≡ pointwise nat_eq name.now (codes "main") }

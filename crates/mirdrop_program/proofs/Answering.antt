@@ -9,8 +9,8 @@ use Rattle.mir_base.specs.declared.memory.NoMemory.{NoMemory}
 use Rattle.mir_machine.specs.Runs.{run_text}
 use Rattle.mir_pipeline.specs.Graphs.{IsAcceptedOf, IsNotAccepted}
 use Rattle.mir_pipeline.specs.declared.refusal.Refusal.{Refusal}
-use Rattle.program_words.specs.declared.request.Command.{Command}
-use Rattle.program_words.specs.declared.request.Request.{Request}
+use Rattle.program_text.specs.declared.request.Command.{Command}
+use Rattle.program_text.specs.declared.request.Request.{Request}
 use Rattle.mirdrop_program.specs.Owed.{Owed, owed_by, OwedByRun, OwedByExec, ran, not_run, executed, no_listing, end_status}
 use Rattle.mirdrop_program.specs.Refusals.{IsTold, IsToldError, error_line, refusal_lines}
 use Rattle.mirdrop_program.specs.TopCall.{Responded, owing, cut_short, wanting, writes_a_trace}

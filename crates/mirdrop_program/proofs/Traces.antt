@@ -2,8 +2,8 @@
 use Rattle.std.proofs.Common.{◌≡◌, ◌∙◌, ℕ, List, ◌++◌, take, Option, Some, None, ap, refl, sym, subst}
 use Rattle.std.proofs.lemmas.Option.{none-some, same_Some}
 use Rattle.mirdrop_program.specs.TopCall.{taken_whole, taken_part}
-use Rattle.trace_flow.specs.Errors.{IsWriteFault, TookPart}
-use Rattle.trace_flow.specs.declared.error.RunError.{RunError}
+use Rattle.mir_machine.specs.Errors.{IsWriteFault, TookPart}
+use Rattle.mir_machine.specs.declared.error.RunError.{RunError}
 use Rattle.mirdrop_program.specs.Written.{Ran, ran, cut, error_status}
 
 pub run_whole : (status result : ℕ) (text : List ℕ) (taken taken_after : Option (List ℕ)) (sink_failed : Type 0) → result ≡ status →

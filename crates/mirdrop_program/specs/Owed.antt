@@ -13,8 +13,8 @@ use Rattle.mir_pipeline.specs.Programs.{HasNoProgram}
 use Rattle.mir_pipeline.specs.declared.refusal.Refusal.{Refusal}
 use Rattle.mir_pipeline.specs.declared.refusal.Refusal.TheVariants.{U1, U2}
 use Rattle.mir_text.specs.Listing.{listing}
-use Rattle.program_words.specs.declared.request.Command.{Command}
-use Rattle.program_words.specs.declared.request.Request.{Request}
+use Rattle.program_text.specs.declared.request.Command.{Command}
+use Rattle.program_text.specs.declared.request.Request.{Request}
 use Rattle.mirdrop_program.specs.Refusals.{IsTold, IsToldError, error_line, refusal_lines}
 
 -- the status of a run, by its end

@@ -1,7 +1,7 @@
 -- What was done with an answer; no public contract speaks of these words.
 use Rattle.std.specs.Prelude.{◌≡◌, ℕ, List, ◌++◌, take, Option, Some, Result, Ok, Err}
 use Rattle.mir_base.specs.declared.memory.NoMemory.{NoMemory}
-use Rattle.trace_flow.specs.declared.error.RunError.{RunError}
+use Rattle.mir_machine.specs.declared.error.RunError.{RunError}
 use Rattle.mirdrop_program.specs.TopCall.{Delivered}
 use Rattle.mirdrop_program.specs.declared.answers.Answer.{Answer}
 

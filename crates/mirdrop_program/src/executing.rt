@@ -7,7 +7,7 @@ ghost use Rattle.mir_machine.specs.Runs.{run_text};
 ghost use Rattle.mirdrop_program.specs.Owed.{end_status};
 ghost use Rattle.mirdrop_program.specs.TopCall.{Responded};
 ghost use Rattle.mirdrop_program.specs.Written.{Ran};
-ghost use Rattle.program_words.specs.declared.request.Command.{Command as a_command};
+ghost use Rattle.program_text.specs.declared.request.Command.{Command as a_command};
 
 use crate::deliver::hand_on;
 use crate::refused::refused_listing;
@@ -16,7 +16,7 @@ use cfg_graph::Graph;
 use listing_answers::read_listing;
 use mir_edge::Sink;
 use mir_machine::run;
-use program_words::Request;
+use program_text::Request;
 use std::alloc::Global;
 
 /// Runs a graph by strict steps, and writes its trace as it comes.

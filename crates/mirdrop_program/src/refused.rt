@@ -1,6 +1,6 @@
 //! The answers to texts that are refused.
 ghost use Rattle.std.specs.Prelude.{◌≡◌, ◌++◌, IfOk, OnOk, string_bytes};
-ghost use Rattle.program_lines.specs.Lines.{store_line, use_line, way_lines};
+ghost use Rattle.program_text.specs.Lines.{store_line, use_line, way_lines};
 ghost use Rattle.mirdrop_program.specs.Refusals as refusals;
 ghost use Rattle.mirdrop_program.specs.Refusals.{IsTold, IsToldError};
 
@@ -9,7 +9,7 @@ use listing_answers::ListingError;
 use mir_base::NoMemory;
 use mir_pipeline::Refusal;
 use move_errors::BadUse;
-use program_lines::{
+use program_text::{
     put_graph_line, put_lex_line, put_listing_line, put_refused_at, put_rule_line, put_store_line,
     put_use_line, put_way_lines,
 };

@@ -2,7 +2,7 @@
 ghost use Rattle.std.specs.Prelude.{◌≡◌, ◌≤◌, length};
 ghost use Rattle.mir_edge.specs.Faults.{HasRisen};
 ghost use Rattle.mirdrop_program.specs.TopCall.{Responded};
-ghost use Rattle.program_words.specs.declared.request.Command.{Command as a_command};
+ghost use Rattle.program_text.specs.declared.request.Command.{Command as a_command};
 
 use crate::checking::check_answer;
 use crate::deliver::hand_on;
@@ -10,7 +10,7 @@ use crate::executing::run_listing;
 use crate::listed::raw_answer;
 use crate::running::run_program;
 use mir_edge::Sink;
-use program_words::{Command, Request};
+use program_text::{Command, Request};
 use std::alloc::Global;
 
 fn respond_to_check<K: Sink>(alloc: Global, request: &Request, text: &[u8], sink: &mut K) -> u8

@@ -7,18 +7,17 @@ ghost use Rattle.mir_machine.specs.Runs.{run_text};
 ghost use Rattle.mirdrop_program.specs.Owed.{end_status};
 ghost use Rattle.mirdrop_program.specs.TopCall.{Responded};
 ghost use Rattle.mirdrop_program.specs.Written.{Ran, error_status};
-ghost use Rattle.program_words.specs.declared.request.Command.{Command as a_command};
+ghost use Rattle.program_text.specs.declared.request.Command.{Command as a_command};
 
 use crate::deliver::hand_on;
 use crate::refused::refused;
 use cfg_graph::Graph;
 use mir_base::End;
 use mir_edge::Sink;
-use mir_machine::run_raw;
+use mir_machine::{RunError, run_raw};
 use mir_pipeline::checked;
-use program_words::Request;
+use program_text::Request;
 use std::alloc::Global;
-use trace_flow::RunError;
 
 /// The status of a run, by its end.
 pub fn status_by(end: End) -> u8

@@ -1,5 +1,5 @@
 use Rattle.std.proofs.Common.{List, ap}
-use Rattle.trace_flow.proofs.FlowsOnward.{flows_as, stops_as}
+use Rattle.mir_machine.proofs.FlowsOnward.{flows_as, stops_as}
 use Rattle.mir_machine.specs.Runs.{events_of, lines_in}
 use Rattle.mir_steps.specs.declared.told.Told.{Told}
 use Rattle.mir_machine.proofs.running.hand_on.Goals as goal

@@ -1,5 +1,5 @@
 use Rattle.mirdrop_program.specs.Owed.{OwedByExec}
-use Rattle.program_words.specs.declared.request.Command.{Command}
+use Rattle.program_text.specs.declared.request.Command.{Command}
 use Rattle.mirdrop_program.proofs.Answering.{exec_refused, handed_on, listing_ran, owes_by}
 use Rattle.mirdrop_program.proofs.Owing.{all_ok}
 use Rattle.mirdrop_program.proofs.executing.run_listing.Goals as goal

@@ -1,5 +1,5 @@
 use Rattle.mirdrop_program.specs.Owed.{OwedByCheck}
-use Rattle.program_words.specs.declared.request.Command.{Command}
+use Rattle.program_text.specs.declared.request.Command.{Command}
 use Rattle.mirdrop_program.proofs.Answering.{handed_on, owes_by}
 use Rattle.mirdrop_program.proofs.respond.respond_to_check.Goals as goal
 

@@ -1,5 +1,5 @@
 use Rattle.mirdrop_program.specs.Owed.{OwedByRun}
-use Rattle.program_words.specs.declared.request.Command.{Command}
+use Rattle.program_text.specs.declared.request.Command.{Command}
 use Rattle.mirdrop_program.proofs.Answering.{handed_on, owes_by, program_ran, run_refused}
 use Rattle.mirdrop_program.proofs.Owing.{all_ok}
 use Rattle.mirdrop_program.proofs.running.run_program.Goals as goal

@@ -1,0 +1,4 @@
+pub mod CommandLine
+pub mod Limits
+pub mod Rows
+pub mod Behind
