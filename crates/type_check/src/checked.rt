@@ -14,7 +14,6 @@ use mir_base::{NoMemory, RuleError};
 use mir_ty::Items;
 use src_tree::{Piece, Tree};
 use std::alloc::Global;
-use type_env::Walk;
 use type_rows::Checker;
 use typed_tree::Typed;
 
@@ -23,8 +22,7 @@ fn typed_of(checker: Checker) -> Typed
     ensures { program_of result ≡ program_at (state checker) }
 {
     let Checker { walk, .. } = checker;
-    let Walk { items, bodies, .. } = walk;
-    Typed { items, bodies }
+    walk.into_program()
 }
 
 /// The program that a checker gives that stands outside all items.

@@ -8,7 +8,7 @@ ghost use Rattle.typing_rules.specs.Check as steps;
 use mir_base::{List, NoMemory, NodeId, RuleError};
 use mir_ty::{Items, Ty, TyId};
 use std::alloc::Global;
-use typed_tree::{Node, TBody};
+use typed_tree::{Node, TBody, Typed, discard_nodes};
 
 /// A `break` out of a loop, with the type of its value.
 #[derive(Clone, Copy, Drop)]
@@ -19,7 +19,6 @@ pub struct BreakOut {
 
 /// How far a walk has come: the items so far; the next number of a node in the body, and of a body; the breaks of the
 /// body; the bodies that are whole. Typed nodes that the node around them has not taken yet stand in `made`.
-#[derive(Drop)]
 pub struct Walk {
     pub items: Items,
     pub next_node: u32,
@@ -29,7 +28,32 @@ pub struct Walk {
     pub made: List<Node>,
 }
 
+/// As a derived one; but written here, it is proved here, and not again in each crate in which a walk ends.
+impl Drop for Walk {
+    fn drop(self) {
+        self.into_program().discard();
+    }
+}
+
 impl Walk {
+    /// The items of a walk that is at its end, and the bodies that are whole.
+    pub fn into_program(self) -> Typed
+        ensures items { result.items ≡ self.items }
+        ensures bodies { result.bodies ≡ self.bodies }
+    {
+        let Walk {
+            items,
+            next_node: _,
+            next_body: _,
+            breaks,
+            bodies,
+            made,
+        } = self;
+        drop(breaks);
+        discard_nodes(made);
+        Typed { items, bodies }
+    }
+
     /// The next number of a node.
     pub fn number(&mut self) -> Result<NodeId, RuleError>
         ensures number { Gives node_no (steps.number (state_of self.old)) result self.new }
